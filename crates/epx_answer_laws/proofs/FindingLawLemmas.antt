@@ -1,8 +1,7 @@
 -- An audit finds something exactly if the logs are not covered, a check exactly if the list is not
 -- lawful.
 use Rattle.std.proofs.Common.{◌≡◌, ◌≢◌, ◌↔◌, ℕ, Bool, true, List, subst, inl, inr}
-use Rattle.epx_types.specs.Instances.{Instance}
-use Rattle.epx_types.specs.Conflicts.{IsCovered}
+use Rattle.epx_types.proofs.Common.{Instance, IsCovered}
 use Rattle.epx_audit.proofs.UniquePairLemmas.{uncovered_not_covered}
 use Rattle.epx_merge.proofs.UniquenessLemmas.{accepted_unique}
 use Rattle.epx_report.specs.ViewLines.{covered_line, lawful_line}

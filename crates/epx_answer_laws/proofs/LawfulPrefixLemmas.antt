@@ -1,13 +1,9 @@
 -- A list that is reported as a lawful prefix is one. If the logs are reported as covered, it
 -- replies as the report says.
-use Rattle.std.proofs.Common.{ℕ, List, Ok, Err}
-use Rattle.std.proofs.Common.{refl, inl, inr}
+use Rattle.std.proofs.Common.{ℕ, List, Ok, Err, refl, inl, inr}
 use Rattle.std.specs.FinMap as contents
-use Rattle.epx_types.specs.declared.id.Id.{Id}
-use Rattle.epx_types.specs.Instances.{Instance}
-use Rattle.epx_types.specs.ExecutionOrder.{ranked_ids}
-use Rattle.epx_types.specs.LawfulPrefixes.{IsLawfulPrefix}
-use Rattle.epx_types.proofs.orders.ExecutionOrderLemmas.{IsExecutionOrder-IsLawful}
+use Rattle.epx_types.proofs.Common.{Id, Instance, ranked_ids, IsLawfulPrefix}
+use Rattle.epx_types.proofs.Common.{IsExecutionOrder-IsLawful}
 use Rattle.epx_merge.specs.Acceptance.{IsAccepted}
 use Rattle.epx_report.specs.Lists.{IsList}
 use Rattle.epx_report.specs.ViewLines.{lawful_line}

@@ -1,18 +1,9 @@
 -- A base and a committed map have exactly one text, where the base is not bad.
 use Rattle.std.proofs.Common.{◌≡◌, ◌⊎◌, ℕ, List, refl, sym, ap₂, ◌∙◌, subst, inl, inr}
-use Rattle.epx_types.specs.declared.id.Id.{Id}
-use Rattle.epx_types.specs.Contents.{Contents}
-use Rattle.epx_types.specs.Ids.{IsRising}
-use Rattle.epx_types.specs.Instances.{Instance}
-use Rattle.epx_types.specs.CommittedMap.{ids_of, commands_in}
-use Rattle.epx_types.specs.Done.{remaining}
-use Rattle.epx_types.specs.Execution.{execute}
-use Rattle.epx_types.specs.ExecutionOrder.{ranked_ids}
-use Rattle.epx_types.proofs.remaining.RemainingLemmas.{IsRising-remaining}
-use Rattle.epx_types.proofs.orders.ExecutionOrderLemmas.{IsExecutionOrder-unique}
-use Rattle.epx_types.proofs.graph.WaitingListLemmas.{IsWaitingList-unique}
-use Rattle.epx_types.proofs.orders.OrderExistenceLemmas.{execution_order_exists}
-use Rattle.epx_types.proofs.orders.OrderExistenceLemmas.{waiting_list_exists}
+use Rattle.epx_types.proofs.Common.{Id, Contents, IsRising, Instance, ids_of, commands_in}
+use Rattle.epx_types.proofs.Common.{remaining, execute, ranked_ids, IsRising-remaining}
+use Rattle.epx_types.proofs.Common.{IsExecutionOrder-unique, IsWaitingList-unique}
+use Rattle.epx_types.proofs.Common.{execution_order_exists, waiting_list_exists}
 use Rattle.epx_report.specs.Bases.{IsBadBase}
 use Rattle.epx_report.proofs.BaseLemmas.{base_or_bad_base, base_is_no_bad_base}
 use Rattle.epx_report.proofs.BaseLemmas.{base_says_one_thing}

@@ -2,28 +2,15 @@
 use Rattle.std.proofs.Common.{◌≡◌, ◌∙◌, ◌<◌, ◌≤◌, ◌^◌, ◌++◌, ℕ, ℤ, w64, List, [], ◌∷◌, flat_map}
 use Rattle.std.proofs.Common.{map, fold, Bool, true, false, Option, Some, None, codes, unwrap_or}
 use Rattle.std.proofs.Common.{refl, sym, ap, option_map, append_assoc, subst, arith, inl, inr}
-use Rattle.std.proofs.Common.{Contains}
-use Rattle.std.proofs.lemmas.Bool.{cases_Bool}
+use Rattle.std.proofs.Common.{Contains, FitsSigned}
+use Rattle.epx_types.proofs.Common.{cases_Bool, AllByRecursion, Id, Op, command_on, touched_keys}
+use Rattle.epx_types.proofs.Common.{commands_in, Contents, remaining, execute, IsExecutionOrder}
+use Rattle.epx_types.proofs.Common.{ranked_ids, Instance, IsReady, Contains-from_map}
+use Rattle.epx_types.proofs.Common.{IsExecutionOrder-IsLawful, remaining-nil}
 use Rattle.std.specs.FinMap as contents
-use Rattle.std.specs.Prelude.{FitsSigned}
-use Rattle.std.specs.List.{AllByRecursion}
 use Rattle.json.proofs.Printed.Utf8.{IsUtf8-are_ascii}
 use Rattle.serde_json.specs.Data.{Data, depth}
 use Rattle.serde_json.specs.Written.{compact_text}
-use Rattle.epx_types.specs.declared.id.Id.{Id}
-use Rattle.epx_types.specs.declared.op.Op.{Op}
-use Rattle.epx_types.specs.Commands.{command_on}
-use Rattle.epx_types.specs.CommandKeys.{touched_keys}
-use Rattle.epx_types.specs.CommittedMap.{commands_in}
-use Rattle.epx_types.specs.Contents.{Contents}
-use Rattle.epx_types.specs.Done.{remaining}
-use Rattle.epx_types.specs.Execution.{execute}
-use Rattle.epx_types.specs.ExecutionOrder.{IsExecutionOrder, ranked_ids}
-use Rattle.epx_types.specs.Instances.{Instance}
-use Rattle.epx_types.specs.Readiness.{IsReady}
-use Rattle.epx_types.proofs.lists.MembershipLemmas.{Contains-from_map}
-use Rattle.epx_types.proofs.orders.ExecutionOrderLemmas.{IsExecutionOrder-IsLawful}
-use Rattle.epx_types.proofs.remaining.RemainingLemmas.{remaining-nil}
 use Rattle.epx_lines.specs.Lines.{lines_of}
 use Rattle.epx_lines.specs.OperationList.{value_or_null}
 use Rattle.epx_lines.specs.Text.{data_of_value}

@@ -1,17 +1,10 @@
 -- Logs have at most one answer.
-use Rattle.std.proofs.Common.{◌≡◌, ◌≢◌, ℕ, List, Result, Ok, Err, inl, inr, sym, ap, ap₂, ◌∙◌}
-use Rattle.std.proofs.Common.{[], subst}
+use Rattle.std.proofs.Common.{◌≡◌, ◌≢◌, ℕ, List, Result, Ok, Err, inl, inr, sym, ap, ap₂, ◌∙◌, []}
+use Rattle.std.proofs.Common.{subst}
 use Rattle.std.specs.FinMap as contents
-use Rattle.epx_types.specs.declared.fault.Fault.{Fault}
+use Rattle.epx_types.proofs.Common.{Fault, Instance, execute, IsExecutionOrder-unique, AreLevels}
+use Rattle.epx_types.proofs.Common.{ranked_ids, commands_in, AreLevels-unique, IsWaitingList-unique}
 use Rattle.epx_types.specs.declared.fault.Fault.TheVariants.{Memory}
-use Rattle.epx_types.specs.Instances.{Instance}
-use Rattle.epx_types.specs.Execution.{execute}
-use Rattle.epx_types.proofs.orders.ExecutionOrderLemmas.{IsExecutionOrder-unique}
-use Rattle.epx_types.specs.Levels.{AreLevels}
-use Rattle.epx_types.specs.ExecutionOrder.{ranked_ids}
-use Rattle.epx_types.specs.CommittedMap.{commands_in}
-use Rattle.epx_types.proofs.levels.LevelLemmas.{AreLevels-unique}
-use Rattle.epx_types.proofs.graph.WaitingListLemmas.{IsWaitingList-unique}
 use Rattle.epx_merge.proofs.UniquenessLemmas.{accepted_unique, accepted_not_refused}
 use Rattle.epx_merge.proofs.UniquenessLemmas.{refusal_unique}
 use Rattle.epx_tool.specs.Report.{IsReport, report_text}

@@ -2,13 +2,10 @@
 use Rattle.std.proofs.Common.{◌≡◌, ◌⊎◌, inl, inr, ℕ, suc, max, ◌<◌, ◌≤◌, Bool, true, List, [], ◌∷◌}
 use Rattle.std.proofs.Common.{◌++◌, length, fold, if◌then◌else◌, Contains, refl, sym, ap, subst}
 use Rattle.std.proofs.Common.{◌∙◌, true≢false, arith}
-use Rattle.std.proofs.lemmas.Bool.{cases_lt, cases_eq, cases_Bool}
-use Rattle.std.proofs.lemmas.List.{length-set, get_or-set_same, get_or-set_other}
-use Rattle.std.proofs.lemmas.List.Elements.{Contains-append_left, Contains-push}
-use Rattle.std.proofs.lemmas.List.Elements.{Contains-push_cases}
-use Rattle.epx_types.specs.declared.op.Op.{Op}
-use Rattle.epx_types.proofs.lists.MembershipLemmas.{Contains-nil, Contains-head, Contains-cons}
-use Rattle.epx_types.proofs.lists.MembershipLemmas.{Contains-cons_cases}
+use Rattle.epx_types.proofs.Common.{cases_lt, cases_eq, cases_Bool, length-set, get_or-set_same}
+use Rattle.epx_types.proofs.Common.{get_or-set_other, Contains-append_left, Contains-push}
+use Rattle.epx_types.proofs.Common.{Contains-push_cases, Op, Contains-nil, Contains-head}
+use Rattle.epx_types.proofs.Common.{Contains-cons, Contains-cons_cases}
 use Rattle.epx_apply.specs.declared.key_table.KeyLevels.{KeyLevels}
 use Rattle.epx_apply.specs.declared.key_table.TableAccess.{TableAccess}
 use Rattle.epx_apply.specs.inner.KeyTables.{no_levels, key_levels_at, IsLevelAbove, level_for}

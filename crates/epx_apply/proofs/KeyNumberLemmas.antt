@@ -2,15 +2,10 @@
 use Rattle.std.proofs.Common.{◌≡◌, inl, inr, ℕ, ◌<◌, Bool, true, false, not, ◌||◌, List, [], ◌∷◌}
 use Rattle.std.proofs.Common.{◌++◌, length, map, get_or, Contains, Some, if◌then◌else◌, slice_get}
 use Rattle.std.proofs.Common.{refl, sym, ap, subst, ◌∙◌, true≢false, Bor}
-use Rattle.std.specs.Str.{bytes_eq}
-use Rattle.std.specs.List.{list_any}
-use Rattle.std.proofs.lemmas.Bool.{cases_Bool}
-use Rattle.std.proofs.lemmas.List.{map-append}
-use Rattle.std.proofs.lemmas.Option.{slice_get_within, get_or_from_slice_get}
-use Rattle.std.proofs.lemmas.Slice.Eq.{bytes_eq-Decides}
-use Rattle.epx_types.proofs.lists.MembershipLemmas.{Contains-nil, Contains-cons_cases}
+use Rattle.epx_types.proofs.Common.{bytes_eq, list_any, cases_Bool, map-append, slice_get_within}
+use Rattle.epx_types.proofs.Common.{get_or_from_slice_get, bytes_eq-Decides, Contains-nil}
+use Rattle.epx_types.proofs.Common.{Contains-cons_cases, Op}
 use Rattle.epx_types.proofs.lists.ListPositionLemmas.{slice_get-map}
-use Rattle.epx_types.specs.declared.op.Op.{Op}
 use Rattle.epx_apply.specs.declared.key_table.TableAccess.{TableAccess}
 use Rattle.epx_apply.specs.declared.key_table.KeyLevels.{KeyLevels}
 use Rattle.epx_apply.specs.inner.KeyTables.{key_at, no_levels, IsKeyTableOf}

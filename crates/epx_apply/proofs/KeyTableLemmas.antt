@@ -3,17 +3,12 @@ use Rattle.std.proofs.Common.{◌≡◌, ◌⊎◌, inl, inr, ℕ, suc, max, ◌
 use Rattle.std.proofs.Common.{◌∷◌, ◌++◌, length, flat_map, get_or, take, fold, if◌then◌else◌}
 use Rattle.std.proofs.Common.{Contains, All, refl, sym, ap, ap₂, subst, ◌∙◌, arith, append-nil}
 use Rattle.std.proofs.Common.{append_assoc}
-use Rattle.std.proofs.lemmas.Bool.{cases_lt, cases_Bool}
-use Rattle.std.proofs.lemmas.List.{map-append, length_push, get_or_append_left, get_or_push}
-use Rattle.std.proofs.lemmas.List.{take_all, take_more, flat_map_more}
-use Rattle.std.proofs.lemmas.List.Elements.{Contains-get_or, Contains-append_left}
-use Rattle.std.proofs.lemmas.List.Elements.{Contains-push_cases}
-use Rattle.epx_types.specs.declared.op.Op.{Op}
-use Rattle.epx_types.specs.Conflicts.{Conflict}
-use Rattle.epx_types.proofs.lists.MembershipLemmas.{Contains-nil, Contains-map, Contains-from_map}
-use Rattle.epx_types.proofs.lists.MembershipLemmas.{map-agree}
-use Rattle.epx_types.proofs.keys.KeyListLemmas.{Contains-rising_keys, Contains-from_rising_keys}
-use Rattle.epx_types.specs.CommandKeys.{accesses_of, touched_by, written_by}
+use Rattle.epx_types.proofs.Common.{cases_lt, cases_Bool, map-append, length_push}
+use Rattle.epx_types.proofs.Common.{get_or_append_left, get_or_push, take_all, take_more}
+use Rattle.epx_types.proofs.Common.{flat_map_more, Contains-get_or, Contains-append_left}
+use Rattle.epx_types.proofs.Common.{Contains-push_cases, Op, Conflict, Contains-nil, Contains-map}
+use Rattle.epx_types.proofs.Common.{Contains-from_map, map-agree, Contains-rising_keys}
+use Rattle.epx_types.proofs.Common.{Contains-from_rising_keys, accesses_of, touched_by, written_by}
 use Rattle.epx_apply.specs.declared.key_table.KeyLevels.{KeyLevels}
 use Rattle.epx_apply.specs.declared.key_table.TableAccess.{TableAccess}
 use Rattle.epx_apply.specs.inner.KeyTables.{Table, no_levels, key_levels_at, key_at}

@@ -1,16 +1,11 @@
 -- The effects of the commands of one level, each over the contents before the level.
 use Rattle.std.proofs.Common.{◌≡◌, ◌∙◌, ℕ, List, [], slice_index_or, map, subst, sym, ap}
-use Rattle.std.proofs.lemmas.Simd.{map-map}
+use Rattle.epx_types.proofs.Common.{map-map, Op, NoneConflict, Contents, execute, commands_at}
+use Rattle.epx_types.proofs.Common.{apply_writes, HasDistinctKeys, writes_over}
+use Rattle.epx_types.proofs.Common.{replies-none_conflict, final-none_conflict}
+use Rattle.epx_types.proofs.Common.{distinct_keys-none_conflict}
 use Rattle.std.proofs.lemmas.List.Folds.{flat_map-map}
-use Rattle.epx_types.specs.declared.op.Op.{Op}
-use Rattle.epx_types.specs.Conflicts.{NoneConflict}
-use Rattle.epx_types.specs.Contents.{Contents}
-use Rattle.epx_types.specs.Execution.{execute}
-use Rattle.epx_types.specs.Rearrangements.{commands_at}
-use Rattle.epx_types.specs.Writes.{Write, apply_writes, HasDistinctKeys}
-use Rattle.epx_types.proofs.commands.ConflictListLemmas.{writes_over, replies-none_conflict}
-use Rattle.epx_types.proofs.commands.ConflictListLemmas.{final-none_conflict}
-use Rattle.epx_types.proofs.commands.ConflictListLemmas.{distinct_keys-none_conflict}
+use Rattle.epx_types.specs.Writes.{Write}
 use Rattle.epx_store.specs.declared.effect.Effect.{Effect}
 use Rattle.epx_store.proofs.MergeLemmas.{writes_in}
 use Rattle.epx_apply.specs.inner.Effects.{effect_over, effects_over, replies_in}

@@ -1,23 +1,14 @@
 -- Commands executed level by level, up to a level.
 use Rattle.std.proofs.Common.{◌≡◌, ◌<◌, ◌∙◌, ℕ, suc, List, [], ◌++◌, length, slice_index_or, map}
-use Rattle.std.proofs.Common.{Contains, All, refl, sym, ap, ap₂, subst, arith}
-use Rattle.std.proofs.lemmas.List.{map-append, length-map, ext_get_or}
-use Rattle.std.proofs.lemmas.List.Elements.{All-weaker, All-contains_itself}
-use Rattle.epx_types.specs.declared.op.Op.{Op}
-use Rattle.epx_types.specs.declared.reply.Reply.{Reply}
-use Rattle.epx_types.specs.declared.reply.Reply.TheVariants.{Abort}
-use Rattle.epx_types.specs.Contents.{Contents}
-use Rattle.epx_types.specs.Execution.{Execution, execute}
-use Rattle.epx_types.specs.Levels.{AreLevels, level_count, level_positions}
-use Rattle.epx_types.specs.Rearrangements.{commands_at, IsRearrangement}
-use Rattle.epx_types.proofs.commands.ExecutionLemmas.{length-replies, execute-append}
-use Rattle.epx_types.proofs.levels.LevelOrderLemmas.{by_level, Contains-from_level_positions}
-use Rattle.epx_types.proofs.levels.LevelOrderLemmas.{Contains-from_by_level}
-use Rattle.epx_types.proofs.levels.LevelOrderLemmas.{level_positions-rising, by_level-rearranges}
-use Rattle.epx_types.proofs.commands.RearrangedListLemmas.{Once}
-use Rattle.epx_types.proofs.commands.RearrangementLemmas.{Once-from_AllPairs, final-rearranged}
-use Rattle.epx_types.proofs.commands.RearrangementLemmas.{replies-rearranged}
-use Rattle.epx_types.proofs.lists.MembershipLemmas.{agree-from_map}
+use Rattle.std.proofs.Common.{Contains, All, refl, sym, ap, ap₂, subst, arith, ext_get_or}
+use Rattle.epx_types.proofs.Common.{map-append, length-map, All-weaker, All-contains_itself, Op}
+use Rattle.epx_types.proofs.Common.{Reply, Abort, Contents, Execution, execute, AreLevels}
+use Rattle.epx_types.proofs.Common.{level_count, level_positions, commands_at, IsRearrangement}
+use Rattle.epx_types.proofs.Common.{length-replies, execute-append, by_level}
+use Rattle.epx_types.proofs.Common.{Contains-from_level_positions, Contains-from_by_level}
+use Rattle.epx_types.proofs.Common.{level_positions-rising, by_level-rearranges, Once}
+use Rattle.epx_types.proofs.Common.{Once-from_AllPairs, final-rearranged, replies-rearranged}
+use Rattle.epx_types.proofs.Common.{agree-from_map}
 use Rattle.epx_apply.specs.inner.Effects.{put_replies}
 use Rattle.epx_apply.proofs.ReplyLemmas.{length-put_replies, map-put_replies}
 use Rattle.epx_apply.proofs.ReplyLemmas.{map-put_replies_other}
@@ -37,11 +28,6 @@ pub record IsRunUpTo (commands : List (List Op)) (levels : List ℕ) (opening : 
       ≡ (run_below commands levels opening level).replies
 
 module _ (commands : List (List Op)) (levels : List ℕ) (opening : Contents) where
-  -- no level is done
-  pub at_start : (at : List Reply) → length at ≡ length commands
-      → IsRunUpTo commands levels opening 0 opening at
-  at_start at whole = record { whole = whole; stored = refl; replied = λ d. refl }
-
   -- one more level is done
   module _ (level : ℕ) (members : List ℕ) (are : AreLevels commands levels)
       (named : members ≡ level_positions levels level) (work : Contents) (at : List Reply)

@@ -1,8 +1,8 @@
 -- What the words of a batch say about a node.
 use Rattle.std.proofs.Common.{◌≡◌, inl, inr, ℕ, ◌<◌, List, Bool, length, get_or, IsTrue, sym, ◌∙◌}
 use Rattle.std.proofs.Common.{arith}
-use Rattle.std.proofs.lemmas.Bool.{cases_Bool, false≢true}
-use Rattle.epx_graph.specs.Graphs.{DependencyGraph, edges_of}
+use Rattle.epx_types.proofs.Common.{cases_Bool, false≢true}
+use Rattle.epx_graph.proofs.Common.{DependencyGraph, edges_of}
 use Rattle.epx_components.specs.Partitions.{ComponentParts, IsPartitionOf, number_for}
 use Rattle.epx_audit.specs.declared.batch.SourceBatch.{SourceBatch}
 use Rattle.epx_audit.specs.declared.doubtful_touches.DoubtfulTouch.{DoubtfulTouch}

@@ -2,11 +2,11 @@
 use Rattle.std.proofs.Common.{◌≡◌, ◌↔◌, ◌⊎◌, inl, inr, ℕ, ◌^◌, ◌<◌, List, Bool, false, length}
 use Rattle.std.proofs.Common.{get_or, set, map, bit_or, bit_and, w64, IsTrue, sym, subst, ap, ◌∙◌}
 use Rattle.std.proofs.Common.{arith, tests}
-use Rattle.std.proofs.lemmas.Bool.{cases_Bool, cases_eq, cases_lt, false≢true}
-use Rattle.std.proofs.lemmas.List.{get_or-map, get_or_past, get_or-set_same, get_or-set_other}
-use Rattle.std.proofs.lemmas.List.{length-map}
+use Rattle.epx_types.proofs.Common.{cases_Bool, cases_eq, cases_lt, false≢true, get_or_past}
+use Rattle.epx_types.proofs.Common.{get_or-set_same, get_or-set_other, length-map, bit_at}
+use Rattle.std.proofs.lemmas.List.{get_or-map}
 use Rattle.std.proofs.lemmas.Nat.Bits.{bit_at-lt, bit_at-zero, bit_at_or, bit_at_and, bit_at_not}
-use Rattle.std.specs.Int.{bit_at, bit_not}
+use Rattle.std.specs.Int.{bit_not}
 use Rattle.epx_audit.specs.inner.SourceBits.{has_bit}
 
 pub bit_one : (b w : ℕ) → IsTrue (has_bit b w) ↔ (bit_at w b ≡ 1)

@@ -2,18 +2,11 @@
 use Rattle.std.proofs.Common.{◌≡◌, ◌≢◌, ◌⊎◌, inl, inr, ℕ, ◌<◌, List, Bool, true, length, get_or}
 use Rattle.std.proofs.Common.{slice_get, Some, Contains, IsTrue, refl, sym, subst, subst₂, ◌∙◌}
 use Rattle.std.proofs.Common.{arith}
-use Rattle.std.specs.declared.hash.DefaultHasher.{DefaultHasher}
-use Rattle.std.proofs.lemmas.List.{get_or_default}
-use Rattle.std.proofs.lemmas.Option.{slice_get_within}
-use Rattle.epx_types.specs.Ids.{IsRising}
-use Rattle.epx_types.specs.Instances.{Instance}
-use Rattle.epx_types.specs.ExecutionOrder.{Ranked, IsExecutionOrder}
-use Rattle.epx_types.specs.Reaching.{Reaches}
-use Rattle.epx_types.proofs.lists.ListPositionLemmas.{Contains-slice_get}
-use Rattle.epx_types.proofs.committed.PositionLemmas.{position_of-found}
-use Rattle.epx_graph.specs.Graphs.{DependencyGraph, edges_of}
-use Rattle.epx_graph.specs.GraphOf.{IsGraphOf}
-use Rattle.epx_graph.proofs.MapPathLemmas.{committed_count, node_reaches}
+use Rattle.epx_types.proofs.Common.{DefaultHasher, get_or_default, slice_get_within, IsRising}
+use Rattle.epx_types.proofs.Common.{Instance, Ranked, IsExecutionOrder, Reaches, Contains-slice_get}
+use Rattle.epx_types.proofs.Common.{position_of-found}
+use Rattle.epx_graph.proofs.Common.{DependencyGraph, edges_of, IsGraphOf, committed_count}
+use Rattle.epx_graph.proofs.Common.{node_reaches}
 use Rattle.epx_audit.specs.declared.doubtful_touches.DoubtfulTouch.{DoubtfulTouch}
 use Rattle.epx_audit.specs.declared.touches.KeyUse.{KeyUse}
 use Rattle.epx_audit.specs.inner.RelatedTouches.{AreAllRelated}

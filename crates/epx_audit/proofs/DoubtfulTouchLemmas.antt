@@ -1,10 +1,8 @@
 -- Touches that are selected by their hashes, one by one.
-use Rattle.std.proofs.Common.{◌≡◌, inl, inr, ℕ, ◌+◌, ◌<◌, List, [], ◌∷◌, ◌++◌, true, length}
-use Rattle.std.proofs.Common.{get_or, Contains, sym, subst, ap, ◌∙◌, arith}
-use Rattle.std.proofs.lemmas.Bool.{cases_lt}
-use Rattle.std.proofs.lemmas.List.{get_or_default}
-use Rattle.std.proofs.lemmas.List.Elements.{Contains-get_or, Contains-push, Contains-push_cases}
-use Rattle.std.proofs.lemmas.List.Elements.{Contains-append_left}
+use Rattle.std.proofs.Common.{◌≡◌, inl, inr, ℕ, ◌+◌, ◌<◌, List, [], ◌∷◌, ◌++◌, true, length, get_or}
+use Rattle.std.proofs.Common.{Contains, sym, subst, ap, ◌∙◌, arith}
+use Rattle.epx_types.proofs.Common.{cases_lt, get_or_default, Contains-get_or, Contains-push}
+use Rattle.epx_types.proofs.Common.{Contains-push_cases, Contains-append_left}
 use Rattle.epx_audit.specs.declared.doubtful_touches.DoubtfulTouch.{DoubtfulTouch}
 use Rattle.epx_audit.specs.declared.touches.KeyUse.{KeyUse}
 use Rattle.epx_audit.specs.inner.DoubtfulKeys.{doubtful_touch, AreInRange}

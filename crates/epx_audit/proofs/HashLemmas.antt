@@ -1,14 +1,11 @@
 -- Strictly increasing lists of numbers.
-use Rattle.std.proofs.Common.{◌≡◌, ◌⊎◌, inl, inr, ℕ, ◌<◌, ◌≤◌, List, [], ◌∷◌}
-use Rattle.std.proofs.Common.{Option, Some, None, true, length, get_or, Contains, MatchOption}
-use Rattle.std.proofs.Common.{is_some, subst, ap, ◌∙◌, arith}
+use Rattle.std.proofs.Common.{◌≡◌, ◌⊎◌, inl, inr, ℕ, ◌<◌, ◌≤◌, List, [], ◌∷◌, Option, Some, None}
+use Rattle.std.proofs.Common.{true, length, get_or, Contains, MatchOption, is_some, subst, ap, ◌∙◌}
+use Rattle.std.proofs.Common.{arith}
 use Rattle.std.specs.List.Sorted.{IsStrictlyIncreasing}
-use Rattle.std.proofs.lemmas.Bool.{cases_eq, cases_lt, false≢true}
-use Rattle.std.proofs.lemmas.List.{get_or_default}
-use Rattle.std.proofs.lemmas.List.Elements.{Contains-get_or}
+use Rattle.epx_types.proofs.Common.{cases_eq, cases_lt, false≢true, get_or_default, Contains-get_or}
+use Rattle.epx_types.proofs.Common.{Contains-nil, Contains-head, Contains-cons_cases, Contains-cons}
 use Rattle.std.proofs.lemmas.List.Kept.{AllPairs-from_increasing}
-use Rattle.epx_types.proofs.lists.MembershipLemmas.{Contains-nil, Contains-head}
-use Rattle.epx_types.proofs.lists.MembershipLemmas.{Contains-cons_cases, Contains-cons}
 
 pub contains_or_not : (xs : List ℕ) (x : ℕ) → Contains xs x ⊎ (¬ Contains xs x)
 contains_or_not [] x = inr (λ h. Contains-nil x h)

@@ -1,6 +1,6 @@
 -- Commands conflict exactly if one of two tests finds a key in common.
 use Rattle.std.proofs.Common.{◌≡◌, ◌↔◌, inl, inr, ℕ, List, Bool, false, Contains, IsTrue, sym, ◌∙◌}
-use Rattle.std.proofs.lemmas.Bool.{false≢true}
+use Rattle.epx_types.proofs.Common.{false≢true}
 use Rattle.epx_audit.specs.inner.NodeConflicts.{KeyLists, KeysConflict}
 
 abbrev pub ShareKey : List (List ℕ) → List (List ℕ) → Type 0

@@ -1,20 +1,10 @@
 -- A committed map is covered, or it has a least uncovered pair.
 use Rattle.std.proofs.Common.{◌≡◌, ◌⊎◌, List, Contains, refl, sym, subst, inl, inr}
-use Rattle.epx_types.specs.declared.id.Id.{Id}
-use Rattle.epx_types.specs.Ids.{Below, UpTo}
-use Rattle.epx_types.specs.Instances.{Instance}
-use Rattle.epx_types.specs.CommittedMap.{ids_of}
-use Rattle.epx_types.specs.Conflicts.{Conflict, IsCovered}
-use Rattle.epx_types.specs.Readiness.{IsReady}
-use Rattle.epx_types.proofs.commands.ConflictLemmas.{Conflict-symm}
-use Rattle.epx_types.proofs.lists.ComparisonLemmas.{id_cmp_total, id_cmp-IsAntisymmetric}
-use Rattle.epx_types.proofs.lists.SearchLemmas.{some_or_none, least_or_none}
-use Rattle.epx_types.proofs.levels.LevelExistenceLemmas.{Conflict-cases}
-use Rattle.epx_types.proofs.orders.RankExistenceLemmas.{ready_or_waits}
-use Rattle.epx_types.proofs.graph.ReachingLemmas.{IsReady-not_waiting}
-use Rattle.epx_types.proofs.graph.ReachingDecisionLemmas.{both_cases, not_cases, Reaches-cases}
-use Rattle.epx_types.proofs.lists.TotalOrderLemmas.{below_asymm, below_cases}
-use Rattle.epx_types.proofs.graph.WaitingLemmas.{Contains-Id_cases, Id-cases}
+use Rattle.epx_types.proofs.Common.{Id, Below, UpTo, Instance, ids_of, Conflict, IsCovered, IsReady}
+use Rattle.epx_types.proofs.Common.{Conflict-symm, id_cmp_total, id_cmp-IsAntisymmetric}
+use Rattle.epx_types.proofs.Common.{some_or_none, least_or_none, Conflict-cases, ready_or_waits}
+use Rattle.epx_types.proofs.Common.{IsReady-not_waiting, both_cases, not_cases, Reaches-cases}
+use Rattle.epx_types.proofs.Common.{below_asymm, below_cases, Contains-Id_cases, Id-cases}
 use Rattle.epx_audit.specs.Uncovered.{IsUncovered, IsLeastUncovered}
 
 Below-cases : (x y : Id) → Below x y ⊎ (¬ Below x y)

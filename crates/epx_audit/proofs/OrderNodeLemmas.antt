@@ -1,17 +1,12 @@
 -- The nodes at the positions of an execution order.
 use Rattle.std.proofs.Common.{◌≡◌, ℕ, ◌<◌, inl, inr, List, length, get_or, slice_get, Some, All}
 use Rattle.std.proofs.Common.{sym, subst, ap, ◌∙◌, arith}
-use Rattle.std.proofs.lemmas.List.{get_or_default}
-use Rattle.std.proofs.lemmas.Option.{slice_get_within, slice_get_cases}
-use Rattle.epx_types.specs.declared.id.Id.{Id}
-use Rattle.epx_types.specs.Instances.{Instance}
-use Rattle.epx_types.specs.ExecutionOrder.{Ranked, IsExecutionOrder}
-use Rattle.epx_types.specs.Reaching.{Reaches}
-use Rattle.epx_types.proofs.lists.ListPositionLemmas.{slice_get-from_map, Contains-slice_get}
-use Rattle.epx_types.proofs.graph.ReachingLemmas.{Reaches-trans}
-use Rattle.epx_graph.specs.Graphs.{DependencyGraph, edges_of}
-use Rattle.epx_graph.specs.GraphOf.{IsGraphOf}
-use Rattle.epx_graph.proofs.MapPathLemmas.{committed_count, node_reaches}
+use Rattle.epx_types.proofs.Common.{get_or_default, slice_get_within, Id, Instance, Ranked}
+use Rattle.epx_types.proofs.Common.{IsExecutionOrder, Reaches, slice_get-from_map}
+use Rattle.epx_types.proofs.Common.{Contains-slice_get, Reaches-trans}
+use Rattle.std.proofs.lemmas.Option.{slice_get_cases}
+use Rattle.epx_graph.proofs.Common.{DependencyGraph, edges_of, IsGraphOf, committed_count}
+use Rattle.epx_graph.proofs.Common.{node_reaches}
 use Rattle.epx_audit.specs.inner.ReachIndexes.{AreOrderNodes, LeadersJoin}
 use Rattle.epx_components.proofs.ReadyRankLemmas.{node_of_place}
 

@@ -1,10 +1,8 @@
 -- Which nodes are settled with a node, from the keys of their commands and from a batch.
 use Rattle.std.proofs.Common.{◌≡◌, inl, inr, ℕ, ◌+◌, ◌<◌, ◌≤◌, List, Bool, length, map, slice_get}
 use Rattle.std.proofs.Common.{Some, IsTrue, sym, subst, subst₂, ap, ◌∙◌, arith}
-use Rattle.std.proofs.lemmas.Bool.{cases_lt}
-use Rattle.std.proofs.lemmas.Option.{slice_get_within}
-use Rattle.epx_types.specs.Instances.{Instance}
-use Rattle.epx_types.proofs.lists.ListPositionLemmas.{slice_get-from_map, slice_get-map}
+use Rattle.epx_types.proofs.Common.{cases_lt, slice_get_within, Instance, slice_get-from_map}
+use Rattle.epx_types.proofs.lists.ListPositionLemmas.{slice_get-map}
 use Rattle.epx_audit.specs.declared.doubtful_touches.DoubtfulTouch.{DoubtfulTouch}
 use Rattle.epx_audit.specs.inner.Batches.{IsReadyApart}
 use Rattle.epx_audit.specs.inner.DoubtfulKeys.{HoldAllConflicts, IsRelatedOrFree}

@@ -2,23 +2,12 @@
 use Rattle.std.proofs.Common.{◌≡◌, ◌≢◌, ◌⊎◌, inl, inr, ℕ, ◌<◌, List, Bool, true, length, get_or}
 use Rattle.std.proofs.Common.{slice_get, Some, Contains, IsTrue, refl, sym, subst, subst₂, ap, ◌∙◌}
 use Rattle.std.proofs.Common.{arith}
-use Rattle.std.specs.declared.hash.DefaultHasher.{DefaultHasher}
-use Rattle.std.proofs.lemmas.Bool.{cases_lt}
-use Rattle.std.proofs.lemmas.List.{get_or_default}
-use Rattle.std.proofs.lemmas.Option.{slice_get_within}
-use Rattle.epx_types.specs.Ids.{IsRising}
-use Rattle.epx_types.specs.Instances.{Instance}
-use Rattle.epx_types.specs.Conflicts.{IsCovered}
-use Rattle.epx_types.specs.ExecutionOrder.{Ranked, IsExecutionOrder, ranked_ids}
-use Rattle.epx_types.specs.Reaching.{Reaches}
-use Rattle.epx_types.specs.Readiness.{IsReady}
-use Rattle.epx_types.proofs.committed.AgreementLemmas.{IsRising-same}
-use Rattle.epx_types.proofs.lists.ListPositionLemmas.{slice_get-from_Contains, slice_get-from_map}
-use Rattle.epx_types.proofs.lists.ListPositionLemmas.{Contains-slice_get}
-use Rattle.epx_graph.specs.Graphs.{DependencyGraph, edges_of}
-use Rattle.epx_graph.specs.GraphOf.{IsGraphOf}
-use Rattle.epx_graph.specs.NodePaths.{NodeReaches}
-use Rattle.epx_graph.proofs.MapPathLemmas.{committed_count, node_reaches}
+use Rattle.epx_types.proofs.Common.{DefaultHasher, cases_lt, get_or_default, slice_get_within}
+use Rattle.epx_types.proofs.Common.{IsRising, Instance, IsCovered, Ranked, IsExecutionOrder}
+use Rattle.epx_types.proofs.Common.{ranked_ids, Reaches, IsReady, IsRising-same}
+use Rattle.epx_types.proofs.Common.{slice_get-from_Contains, slice_get-from_map, Contains-slice_get}
+use Rattle.epx_graph.proofs.Common.{DependencyGraph, edges_of, IsGraphOf, NodeReaches}
+use Rattle.epx_graph.proofs.Common.{committed_count, node_reaches}
 use Rattle.epx_audit.specs.declared.touches.KeyUse.{KeyUse}
 use Rattle.epx_audit.specs.inner.RelatedTouches.{touch_at, AreAllRelated}
 use Rattle.epx_audit.specs.inner.Touches.{touch, HoldTouches}

@@ -1,11 +1,9 @@
 -- The chains of an order, position by position.
-use Rattle.std.proofs.Common.{◌≡◌, inl, inr, ℕ, ◌+◌, ◌-◌, ◌<◌, ◌≤◌, ◌++◌, ◌∷◌, [], List}
-use Rattle.std.proofs.Common.{length, length-set, get_or, set, All, sym, subst, ap, ◌∙◌, arith}
-use Rattle.std.proofs.lemmas.Bool.{cases_eq, cases_lt}
-use Rattle.std.proofs.lemmas.List.{get_or-set_same, get_or-set_other, get_or_append_left}
-use Rattle.std.proofs.lemmas.List.{get_or_push, length_push}
-use Rattle.epx_graph.specs.Graphs.{DependencyGraph, edges_of}
-use Rattle.epx_graph.specs.NodePaths.{NodeReaches}
+use Rattle.std.proofs.Common.{◌≡◌, inl, inr, ℕ, ◌+◌, ◌-◌, ◌<◌, ◌≤◌, ◌++◌, ◌∷◌, [], List, length}
+use Rattle.std.proofs.Common.{length-set, get_or, set, All, sym, subst, ap, ◌∙◌, arith}
+use Rattle.epx_types.proofs.Common.{cases_eq, cases_lt, get_or-set_same, get_or-set_other}
+use Rattle.epx_types.proofs.Common.{get_or_append_left, get_or_push, length_push}
+use Rattle.epx_graph.proofs.Common.{DependencyGraph, edges_of, NodeReaches}
 use Rattle.epx_audit.specs.declared.reach_index.Chain.{Chain}
 use Rattle.epx_audit.specs.declared.reach_index.ReachIndex.{ReachIndex}
 use Rattle.epx_audit.specs.inner.ReachIndexes.{IsChain, IsReachIndex}

@@ -1,16 +1,14 @@
 -- Marks of components for several sources, one bit for each source.
-use Rattle.std.proofs.Common.{◌≡◌, ◌↔◌, ◌⊎◌, inl, inr, ℕ, ◌+◌, ◌<◌, List, false, All}
-use Rattle.std.proofs.Common.{length, get_or, map, IsTrue, refl, sym}
-use Rattle.std.proofs.Common.{◌∙◌, arith}
-use Rattle.std.proofs.lemmas.Bool.{cases_Bool, false≢true}
-use Rattle.std.proofs.lemmas.List.{get_or-map, length-map}
-use Rattle.epx_graph.specs.NodePaths.{NodeReaches}
+use Rattle.std.proofs.Common.{◌≡◌, ◌↔◌, ◌⊎◌, inl, inr, ℕ, ◌+◌, ◌<◌, List, false, All, length}
+use Rattle.std.proofs.Common.{get_or, map, IsTrue, refl, sym, ◌∙◌, arith}
+use Rattle.epx_types.proofs.Common.{cases_Bool, false≢true, length-map, All-get_or}
+use Rattle.std.proofs.lemmas.List.{get_or-map}
+use Rattle.epx_graph.proofs.Common.{NodeReaches}
 use Rattle.epx_components.specs.Collections.{AreCollected}
 use Rattle.epx_components.specs.Partitions.{ComponentParts, IsPartition, component_of, node_at}
 use Rattle.epx_components.specs.Partitions.{number_for}
 use Rattle.epx_components.proofs.CollectionLemmas.{collects_same}
 use Rattle.epx_components.proofs.NodePathLemmas.{reach_below, reaches_on}
-use Rattle.std.proofs.lemmas.List.Elements.{All-get_or}
 use Rattle.epx_audit.specs.inner.SourceBits.{has_bit, AreSourceMarks}
 use Rattle.epx_audit.proofs.BitLemmas.{bits_of, bits_at}
 use Rattle.epx_audit.proofs.ReachedMarkLemmas.{AreReached, reached_from, reached_same}

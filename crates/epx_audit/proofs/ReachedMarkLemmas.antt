@@ -1,10 +1,8 @@
 -- The marks of the components that a node reaches, from the last finished component down.
-use Rattle.std.proofs.Common.{◌≡◌, ℕ, ◌+◌, ◌<◌, ◌≤◌, ◌↔◌, ◌⊎◌, inl, inr, Bool, false, List, []}
-use Rattle.std.proofs.Common.{◌∷◌, length, get_or, refl, subst, ◌∙◌, ap, arith, Contains, IsTrue}
-use Rattle.std.proofs.lemmas.Bool.{cases_lt}
-use Rattle.std.proofs.lemmas.List.{get_or_default}
-use Rattle.std.proofs.lemmas.List.Elements.{Contains-get_or}
-use Rattle.epx_graph.specs.NodePaths.{IsNodePath, NodeReaches}
+use Rattle.std.proofs.Common.{◌≡◌, ℕ, ◌+◌, ◌<◌, ◌≤◌, ◌↔◌, ◌⊎◌, inl, inr, Bool, false, List, [], ◌∷◌}
+use Rattle.std.proofs.Common.{length, get_or, refl, subst, ◌∙◌, ap, arith, Contains, IsTrue}
+use Rattle.epx_types.proofs.Common.{cases_lt, get_or_default, Contains-get_or}
+use Rattle.epx_graph.proofs.Common.{IsNodePath, NodeReaches}
 use Rattle.epx_components.specs.Partitions.{ComponentParts, IsPartition, component_of, node_at}
 use Rattle.epx_components.specs.Partitions.{mark_for}
 use Rattle.epx_components.proofs.NodePathLemmas.{reaches_edge, reaches_on}

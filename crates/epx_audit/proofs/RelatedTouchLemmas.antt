@@ -1,7 +1,7 @@
 -- The invariant of the loop over the sorted touches.
 use Rattle.std.proofs.Common.{◌≡◌, ◌⊎◌, inl, inr, ℕ, ◌+◌, ◌<◌, ◌≤◌, List, Bool, IsTrue, refl, sym}
 use Rattle.std.proofs.Common.{subst, ap, ◌∙◌, arith}
-use Rattle.std.proofs.lemmas.Bool.{cases_Bool, cases_lt, false≢true}
+use Rattle.epx_types.proofs.Common.{cases_Bool, cases_lt, false≢true}
 use Rattle.epx_audit.specs.declared.touches.KeyUse.{KeyUse}
 use Rattle.epx_audit.specs.inner.RelatedTouches.{touch_at, TouchReaches, AreAllRelated}
 use Rattle.epx_audit.specs.inner.RelatedTouches.{IsRelatedBack, IsNextWriter}

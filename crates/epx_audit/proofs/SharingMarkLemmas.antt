@@ -2,9 +2,8 @@
 use Rattle.std.proofs.Common.{◌≡◌, ◌⊎◌, inl, inr, ℕ, ◌+◌, ◌<◌, List, Bool, true, false, cond}
 use Rattle.std.proofs.Common.{length, get_or, set, bit_or, Contains, IsTrue, IsFalse, refl, sym}
 use Rattle.std.proofs.Common.{subst, ◌∙◌, arith}
-use Rattle.std.proofs.lemmas.Bool.{cases_Bool, cases_lt, false≢true}
-use Rattle.std.proofs.lemmas.List.{get_or_default}
-use Rattle.std.proofs.lemmas.List.Elements.{Contains-get_or}
+use Rattle.epx_types.proofs.Common.{cases_Bool, cases_lt, false≢true, get_or_default}
+use Rattle.epx_types.proofs.Common.{Contains-get_or}
 use Rattle.epx_audit.specs.declared.doubtful_touches.DoubtfulTouch.{DoubtfulTouch}
 use Rattle.epx_audit.specs.inner.Batches.{AreSharing}
 use Rattle.epx_audit.specs.inner.DoubtfulKeys.{AreInRange}

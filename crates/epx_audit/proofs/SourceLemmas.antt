@@ -2,10 +2,8 @@
 use Rattle.std.proofs.Common.{◌≡◌, inl, inr, ℕ, ◌+◌, ◌-◌, ◌<◌, ◌≤◌, List, Bool, All, length}
 use Rattle.std.proofs.Common.{length-take, length-drop, take, drop, get_or, IsTrue, sym, subst, ap}
 use Rattle.std.proofs.Common.{◌∙◌, arith}
-use Rattle.std.proofs.lemmas.Bool.{cases_lt}
-use Rattle.std.proofs.lemmas.List.{get_or_default, get_or-take, get_or-drop}
-use Rattle.std.proofs.lemmas.List.Elements.{All-from_get_or}
-use Rattle.epx_types.specs.Instances.{Instance}
+use Rattle.epx_types.proofs.Common.{cases_lt, get_or_default, get_or-take, get_or-drop}
+use Rattle.epx_types.proofs.Common.{All-from_get_or, Instance}
 use Rattle.epx_audit.specs.declared.doubtful_touches.DoubtfulTouch.{DoubtfulTouch}
 use Rattle.epx_audit.specs.inner.DoubtfulKeys.{AreInRange, HoldAllConflicts}
 use Rattle.epx_audit.specs.inner.NodeConflicts.{IsSettled}

@@ -1,10 +1,9 @@
 -- The sources, node by node.
 use Rattle.std.proofs.Common.{◌≡◌, inl, inr, ℕ, ◌+◌, ◌<◌, List, [], ◌∷◌, ◌++◌, Bool, true, false}
 use Rattle.std.proofs.Common.{length, get_or, set, Contains, IsTrue, sym, subst, ap, ◌∙◌, arith}
-use Rattle.std.proofs.lemmas.Bool.{cases_eq, cases_lt}
-use Rattle.std.proofs.lemmas.List.{get_or_append_left, get_or_push, get_or-set_same}
-use Rattle.std.proofs.lemmas.List.{get_or-set_other, length_push}
-use Rattle.std.proofs.lemmas.List.Elements.{Contains-push, Contains-append_left}
+use Rattle.epx_types.proofs.Common.{cases_eq, cases_lt, get_or_append_left, get_or_push}
+use Rattle.epx_types.proofs.Common.{get_or-set_same, get_or-set_other, length_push, Contains-push}
+use Rattle.epx_types.proofs.Common.{Contains-append_left}
 use Rattle.epx_audit.specs.declared.doubtful_touches.DoubtfulTouch.{DoubtfulTouch}
 use Rattle.epx_components.specs.ReadyMarks.{is_marked}
 use Rattle.epx_audit.specs.inner.Sources.{AreSources}

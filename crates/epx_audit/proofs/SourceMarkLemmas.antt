@@ -1,9 +1,8 @@
 -- Words to which the sources are added one by one.
 use Rattle.std.proofs.Common.{◌≡◌, ◌↔◌, inl, inr, ℕ, ◌+◌, ◌^◌, ◌<◌, List, length, get_or, set}
 use Rattle.std.proofs.Common.{bit_or, IsTrue, sym, ap, ◌∙◌, arith}
-use Rattle.std.proofs.lemmas.Bool.{cases_eq, cases_lt}
+use Rattle.epx_types.proofs.Common.{cases_eq, cases_lt, bit_at}
 use Rattle.std.proofs.lemmas.Nat.Bits.{bit_at-pow_same, bit_at-pow_other}
-use Rattle.std.specs.Int.{bit_at}
 use Rattle.epx_audit.specs.inner.SourceBits.{has_bit}
 use Rattle.epx_audit.proofs.BitLemmas.{bit_one, or_at}
 

@@ -1,14 +1,9 @@
 -- The touches of commands are those of their keys.
 use Rattle.std.proofs.Common.{◌≡◌, ℕ, Bool, true, List, filter, refl, subst, Contains}
-use Rattle.std.specs.declared.hash.DefaultHasher.{DefaultHasher}
-use Rattle.epx_types.specs.declared.op.Op.{Op}
-use Rattle.epx_types.specs.CommandKeys.{accesses_of, touched_by, written_by, touched_keys}
-use Rattle.epx_types.specs.CommandKeys.{written_keys}
-use Rattle.epx_types.proofs.keys.KeyListLemmas.{Contains-from_rising_keys}
-use Rattle.epx_types.proofs.lists.MembershipLemmas.{Contains-map, Contains-from_map}
-use Rattle.epx_types.proofs.lists.MembershipLemmas.{Contains-from_filter}
-use Rattle.epx_types.proofs.lists.MembershipLemmas.{passes-from_filter, Contains-flat_map}
-use Rattle.epx_types.proofs.lists.MembershipLemmas.{Contains-from_flat_map}
+use Rattle.epx_types.proofs.Common.{DefaultHasher, Op, accesses_of, touched_by, written_by}
+use Rattle.epx_types.proofs.Common.{touched_keys, written_keys, Contains-from_rising_keys}
+use Rattle.epx_types.proofs.Common.{Contains-map, Contains-from_map, Contains-from_filter}
+use Rattle.epx_types.proofs.Common.{passes-from_filter, Contains-flat_map, Contains-from_flat_map}
 use Rattle.epx_audit.specs.declared.touches.KeyUse.{KeyUse}
 use Rattle.epx_audit.specs.inner.Touches.{touch, touches_by, hashed_touches}
 

@@ -1,21 +1,11 @@
 -- Nodes that are not settled are those of an uncovered pair.
 use Rattle.std.proofs.Common.{◌≡◌, ◌⊎◌, inl, inr, ℕ, ◌<◌, List, Bool, length, slice_get, Some}
 use Rattle.std.proofs.Common.{Contains, refl, sym, subst, ap, ◌∙◌, arith}
-use Rattle.std.proofs.lemmas.Bool.{cases_lt}
-use Rattle.std.proofs.lemmas.Option.{slice_get_within}
-use Rattle.epx_types.specs.declared.id.Id.{Id}
-use Rattle.epx_types.specs.Ids.{IsRising}
-use Rattle.epx_types.specs.Instances.{Instance}
-use Rattle.epx_types.specs.Conflicts.{Conflict, IsCovered}
-use Rattle.epx_types.specs.Reaching.{Reaches}
-use Rattle.epx_types.specs.Readiness.{IsReady}
-use Rattle.epx_types.proofs.committed.AgreementLemmas.{IsRising-same}
-use Rattle.epx_types.proofs.commands.ConflictLemmas.{Conflict-symm}
-use Rattle.epx_types.proofs.lists.ListPositionLemmas.{Contains-slice_get}
-use Rattle.epx_graph.specs.Graphs.{DependencyGraph, edges_of}
-use Rattle.epx_graph.specs.GraphOf.{IsGraphOf}
-use Rattle.epx_graph.proofs.MapPathLemmas.{committed_count, node_instance, node_of_committed}
-use Rattle.epx_graph.proofs.MapPathLemmas.{node_order, node_reaches}
+use Rattle.epx_types.proofs.Common.{cases_lt, slice_get_within, Id, IsRising, Instance, Conflict}
+use Rattle.epx_types.proofs.Common.{IsCovered, Reaches, IsReady, IsRising-same, Conflict-symm}
+use Rattle.epx_types.proofs.Common.{Contains-slice_get}
+use Rattle.epx_graph.proofs.Common.{DependencyGraph, edges_of, IsGraphOf, committed_count}
+use Rattle.epx_graph.proofs.Common.{node_instance, node_of_committed, node_order, node_reaches}
 use Rattle.epx_audit.specs.inner.NodeConflicts.{IsSettled, IsUnsettled, IsPartner}
 use Rattle.epx_components.specs.ReadyMarks.{AreReadyMarks}
 use Rattle.epx_audit.specs.Uncovered.{IsUncovered, IsLeastUncovered}

@@ -1,12 +1,10 @@
 -- Two writes under different keys.
 use Rattle.std.proofs.Common.{◌≡◌, ◌≢◌, ℕ, ℤ, false, List, [], ◌∷◌, ◌++◌, Option, sym, subst, inl}
 use Rattle.std.proofs.Common.{inr, All, AllPairs, arith}
-use Rattle.std.specs.Ordering.{eq_by_cmp}
+use Rattle.epx_types.proofs.Common.{eq_by_cmp, All-nil, All-cons, key_cmp, HasDistinctKeys}
+use Rattle.epx_types.proofs.Common.{key_cases}
 use Rattle.std.proofs.lemmas.List.Kept.{AllPairs-cons}
-use Rattle.std.proofs.lemmas.List.Elements.{All-nil, All-cons}
-use Rattle.epx_types.specs.Keys.{key_cmp}
-use Rattle.epx_types.specs.Writes.{Write, HasDistinctKeys}
-use Rattle.epx_types.proofs.keys.KeyListLemmas.{key_cases}
+use Rattle.epx_types.specs.Writes.{Write}
 
 differs : (j k : List ℕ) → eq_by_cmp key_cmp j k ≡ false → j ≢ k
 differs j k e = elim (key_cases j k) [ inl tied ↦ absurd (cc (e, tied.0)) | inr other ↦ other.1 ]

@@ -2,8 +2,7 @@
 use Rattle.std.proofs.Common.{◌≡◌, ℕ, ◌+◌, Bool, ◌||◌, true, false, List, [], ◌∷◌, ◌++◌, map, sym}
 use Rattle.std.proofs.Common.{refl, ap, ◌∙◌, subst, arith}
 use mathlib.Core.List.{map-append}
-use Rattle.std.specs.List.{All}
-use Rattle.std.proofs.lemmas.List.Elements.{All-nil, All-push, All-append}
+use Rattle.epx_types.proofs.Common.{All, All-nil, All-push, All-append}
 use Rattle.epx_claims.specs.declared.work.PieceValue.{PieceValue}
 use Rattle.epx_claims.specs.Seated.{ClaimsView, SeatView}
 use Rattle.epx_claims.specs.inner.WorkResult.{HasAnswers, IsFresh, piece_of}

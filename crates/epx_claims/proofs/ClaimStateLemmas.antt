@@ -2,7 +2,7 @@
 -- one seat.
 use Rattle.std.proofs.Common.{◌≡◌, ℕ, ◌+◌, ◌-◌, ◌/◌, ◌<◌, ◌≤◌, eqb, Bool, true, false, cond, ◌||◌}
 use Rattle.std.proofs.Common.{List, [], ◌∷◌, get_or, sym, ap, ◌∙◌, arith}
-use Rattle.std.specs.List.{All}
+use Rattle.epx_types.proofs.Common.{All}
 use Rattle.epx_claims.specs.declared.seat_state.SeatState.{SeatState}
 use Rattle.epx_claims.specs.Count.{total, one_if, occurrences, once_below}
 use Rattle.epx_claims.specs.ClaimState.{ClaimState}

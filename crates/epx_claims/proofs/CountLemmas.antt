@@ -1,7 +1,7 @@
 -- Tests on numbers, and how often a number is in a list.
-use Rattle.std.proofs.Common.{◌≡◌, ◌≢◌, ℕ, ◌+◌, ◌<◌, ◌≤◌, eqb, min, List, [], ◌∷◌, ◌++◌}
-use Rattle.std.proofs.Common.{length, get_or, zero, suc, arith}
-use Rattle.std.proofs.lemmas.Bool.Decides.{nat_tests}
+use Rattle.std.proofs.Common.{◌≡◌, ◌≢◌, ℕ, ◌+◌, ◌<◌, ◌≤◌, eqb, min, List, [], ◌∷◌, ◌++◌, length}
+use Rattle.std.proofs.Common.{get_or, zero, suc, arith}
+use Rattle.epx_types.proofs.Common.{nat_tests}
 use Rattle.epx_claims.specs.Count.{total, one_if, occurrences, once_below}
 
 -- if the test that a number is 0 counts as 0, it is positive

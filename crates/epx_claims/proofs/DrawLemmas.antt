@@ -1,7 +1,7 @@
 -- A draw or a stop keeps the state consistent.
 use Rattle.std.proofs.Common.{◌≡◌, ℕ, ◌+◌, ◌%◌, ◌^◌, ◌<◌, ◌≤◌, min, false, List, [], ◌∷◌, ◌++◌}
 use Rattle.std.proofs.Common.{length-append, get_or, sym, refl, ap, subst, ⊎_elim, arith}
-use Rattle.std.proofs.lemmas.Bool.{cases_lt}
+use Rattle.epx_types.proofs.Common.{cases_lt}
 use mathlib.Core.Option.{none}
 use Rattle.atomic_table.specs.Table.{step, keeps, Allows}
 use Rattle.epx_claims.specs.declared.seat_state.SeatState.{SeatState}

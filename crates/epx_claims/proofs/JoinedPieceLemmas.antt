@@ -2,10 +2,8 @@
 use Rattle.std.proofs.Common.{◌≡◌, ◌<◌, ◌≤◌, ◌+◌, ◌∙◌, ℕ, suc, List, [], ◌∷◌, ◌++◌, length}
 use Rattle.std.proofs.Common.{flat_map, drop, slice_get, Some, sym, ap, ap₂, inl, inr, arith}
 use Rattle.std.proofs.Math.ListN.{drop_of_length-le}
-use Rattle.std.proofs.lemmas.Bool.{cases_lt}
-use Rattle.std.proofs.lemmas.List.Folds.{drop_split}
-use Rattle.epx_types.specs.Pieces.{piece_count, piece_start, piece_end}
-use Rattle.epx_types.proofs.lists.PieceLemmas.{piece_count-above, piece_end-after_start}
+use Rattle.epx_types.proofs.Common.{cases_lt, drop_split, piece_count, piece_start, piece_end}
+use Rattle.epx_types.proofs.Common.{piece_count-above, piece_end-after_start}
 use Rattle.epx_claims.specs.inner.PieceItems.{items_of_piece}
 
 -- what is made of a list is made of its parts, one after another

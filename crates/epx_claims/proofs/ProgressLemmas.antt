@@ -1,7 +1,6 @@
 -- How far a seat is: one more than the greatest piece that it has drawn.
 use Rattle.std.proofs.Common.{◌≡◌, ℕ, ◌+◌, ◌<◌, ◌≤◌, ◌-◌, max, List, [], ◌∷◌, ◌++◌, arith}
-use Rattle.std.specs.List.{All}
-use Rattle.std.proofs.lemmas.List.Elements.{All-head, All-tail}
+use Rattle.epx_types.proofs.Common.{All, All-head, All-tail}
 
 abbrev pub next_above : List ℕ → ℕ
 next_above [] = 0

@@ -1,7 +1,7 @@
 -- What a step means for a seat, by the fields of its view.
 use Rattle.std.proofs.Common.{◌≡◌, ℕ, ◌+◌, ◌<◌, ◌≤◌, Bool, List, [], ◌∷◌, ◌++◌, sym, refl, ap, ◌∙◌}
 use Rattle.std.proofs.Common.{subst}
-use Rattle.std.specs.List.{All}
+use Rattle.epx_types.proofs.Common.{All}
 use Rattle.epx_claims.specs.declared.claims.Claims.TheInside.{Inside as Claims}
 use Rattle.epx_claims.specs.declared.seat.ClaimSeat.TheInside.{Inside as Seat}
 use Rattle.epx_claims.specs.declared.seat_state.SeatState.{SeatState}

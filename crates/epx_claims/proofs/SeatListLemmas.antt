@@ -1,6 +1,6 @@
 -- Lists of fresh seats, from which the last one is taken, or to which one is added.
 use Rattle.std.proofs.Common.{◌≡◌, ◌+◌, List, [], ◌∷◌, ◌++◌, subst, sym, ap, arith}
-use Rattle.std.proofs.lemmas.List.Elements.{All-cons, All-head, All-tail, All-push}
+use Rattle.epx_types.proofs.Common.{All-cons, All-head, All-tail, All-push}
 use Rattle.epx_claims.specs.Seated.{ClaimsView, SeatView}
 use Rattle.epx_claims.specs.inner.WorkResult.{AreFresh, IsFresh, shares}
 use Rattle.epx_claims.proofs.CountLemmas.{total-append}

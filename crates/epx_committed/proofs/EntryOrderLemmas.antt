@@ -1,8 +1,6 @@
 -- The lines of entries in memory are sorted by place.
 use Rattle.std.proofs.Common.{◌≡◌, inl, inr, ℕ, suc, ◌≤◌, List, [], ◌∷◌, Contains, sym, ap, arith}
-use Rattle.epx_types.specs.Instances.{Instance}
-use Rattle.epx_types.specs.PlacedLines.{Placed}
-use Rattle.epx_types.proofs.lists.MembershipLemmas.{Contains-nil, Contains-cons_cases}
+use Rattle.epx_types.proofs.Common.{Instance, Placed, Contains-nil, Contains-cons_cases}
 use Rattle.epx_committed.specs.EntryLines.{entry_lines, entry_lines_from}
 use Rattle.epx_committed.specs.LineOrder.{IsSortedByPlace}
 use Rattle.epx_committed.proofs.LineOrderLemmas.{earlier_line}

@@ -1,9 +1,7 @@
 -- The equality of two instances is decidable.
 use Rattle.std.proofs.Common.{◌≡◌, ◌≢◌, ◌⊎◌, inl, inr, Bool, List, [], ◌∷◌, ap, refl}
-use Rattle.std.specs.Bool.{Decides}
-use Rattle.std.proofs.lemmas.Bool.{cases_eq}
-use Rattle.epx_types.specs.Instances.{Instance}
-use Rattle.epx_types.proofs.commands.EqualityLemmas.{decided, ids_decide, ops_decide}
+use Rattle.epx_types.proofs.Common.{Decides, cases_eq, Instance, ids_decide, ops_decide}
+use Rattle.epx_types.proofs.commands.EqualityLemmas.{decided}
 
 by_test : {X : Type 0} (r : Bool) (x y : X) → Decides r (x ≡ y) → (x ≡ y) ⊎ (x ≢ y)
 by_test r x y d = elim (decided r d) [ inl holds ↦ inl holds.1 | inr fails ↦ inr fails.1 ]

@@ -2,14 +2,9 @@
 use Rattle.std.proofs.Common.{◌≡◌, ◌≢◌, ℕ, ◌+◌, List, [], ◌∷◌, ◌++◌, map, All, AllPairs, Contains}
 use Rattle.std.proofs.Common.{Some, IfSome, Vec, get_or, length, slice_get, unwrap_or, append-nil}
 use Rattle.std.proofs.Common.{sym, ap, subst, subst₂, ◌∙◌, arith}
-use Rattle.std.specs.declared.alloc.Global.{Global}
-use Rattle.std.proofs.lemmas.List.{length-map, length-append, map-append, nil_from_length}
-use Rattle.std.proofs.lemmas.List.Elements.{All-contains, All-push}
-use Rattle.std.proofs.lemmas.Option.{get_or_from_slice_get}
-use Rattle.epx_types.specs.declared.id.Id.{Id}
-use Rattle.epx_types.specs.PlacedLines.{Placed}
-use Rattle.epx_types.proofs.lists.ListPositionLemmas.{slice_get-from_map, Contains-slice_get}
-use Rattle.epx_types.proofs.lists.MembershipLemmas.{Contains-map}
+use Rattle.epx_types.proofs.Common.{Global, length-map, length-append, map-append, nil_from_length}
+use Rattle.epx_types.proofs.Common.{All-contains, All-push, get_or_from_slice_get, Id, Placed}
+use Rattle.epx_types.proofs.Common.{slice_get-from_map, Contains-slice_get, Contains-map}
 use Rattle.epx_committed.specs.declared.ledger.Disagreement.{Disagreement}
 use Rattle.epx_committed.specs.declared.ledger.FirstLines.{FirstLines}
 use Rattle.epx_committed.specs.declared.rows.Row.{Row}

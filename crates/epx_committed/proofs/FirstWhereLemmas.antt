@@ -1,11 +1,8 @@
 -- The first of the lines for which a fact holds.
-use Rattle.std.proofs.Common.{◌≡◌, ◌⊎◌, inl, inr, List, [], ◌∷◌, ◌++◌, Contains, refl, sym}
-use Rattle.std.proofs.Common.{subst, ◌∙◌}
-use Rattle.epx_types.specs.PlacedLines.{Placed, Earlier}
-use Rattle.epx_types.proofs.lists.ComparisonLemmas.{place_cmp_total}
-use Rattle.epx_types.proofs.lists.MembershipLemmas.{Contains-nil, Contains-head, Contains-cons}
-use Rattle.epx_types.proofs.lists.MembershipLemmas.{Contains-cons_cases}
-use Rattle.epx_types.proofs.lists.TotalOrderLemmas.{below_irrefl, below_asymm}
+use Rattle.std.proofs.Common.{◌≡◌, ◌⊎◌, inl, inr, List, [], ◌∷◌, ◌++◌, Contains, refl, sym, subst}
+use Rattle.std.proofs.Common.{◌∙◌}
+use Rattle.epx_types.proofs.Common.{Placed, Earlier, place_cmp_total, Contains-nil, Contains-head}
+use Rattle.epx_types.proofs.Common.{Contains-cons, Contains-cons_cases, below_irrefl, below_asymm}
 use Rattle.epx_committed.specs.Ledgers.{IsFirstWhere}
 use Rattle.epx_committed.specs.LineOrder.{IsSortedByPlace}
 

@@ -1,16 +1,10 @@
 -- Lines have one list of distinct Ids.
 use Rattle.std.proofs.Common.{◌≡◌, ◌⊎◌, inl, inr, List, map, length, Contains, ap, ◌∙◌, subst}
 use Rattle.std.proofs.Common.{arith}
-use Rattle.std.proofs.lemmas.Bool.{cases_lt}
-use Rattle.epx_types.specs.declared.id.Id.{Id}
-use Rattle.epx_types.specs.CommittedMap.{ids_of, IsCommittedBy}
-use Rattle.epx_types.specs.Instances.{Instance}
-use Rattle.epx_types.specs.PlacedLines.{Placed}
-use Rattle.epx_types.proofs.lists.ComparisonLemmas.{id_cmp_total, id_cmp-IsAntisymmetric}
-use Rattle.epx_types.proofs.lists.MembershipLemmas.{Contains-map, Contains-from_map}
-use Rattle.epx_types.proofs.lists.RisingIdLemmas.{IsRising-from_AllPairs, same_ids}
-use Rattle.epx_types.proofs.lists.RisingListLemmas.{rising_list}
-use Rattle.epx_types.specs.Limits.{max_instances}
+use Rattle.epx_types.proofs.Common.{cases_lt, Id, ids_of, IsCommittedBy, Instance, Placed}
+use Rattle.epx_types.proofs.Common.{id_cmp_total, id_cmp-IsAntisymmetric, Contains-map}
+use Rattle.epx_types.proofs.Common.{Contains-from_map, IsRising-from_AllPairs, same_ids}
+use Rattle.epx_types.proofs.Common.{rising_list, max_instances}
 use Rattle.epx_committed.specs.InstanceCounts.{AreNamedBy, FewInstances}
 use Rattle.epx_committed.specs.InstanceCounts.{ManyInstances}
 

@@ -1,18 +1,11 @@
 -- What a ledger with sorted keys says of its lines.
 use Rattle.std.proofs.Common.{◌≡◌, inl, inr, List, [], ◌∷◌, map, Contains, Some, None, slice_get}
 use Rattle.std.proofs.Common.{IsPermutation, refl, sym, subst, ◌∙◌}
-use Rattle.std.specs.List.{IsDistinct}
-use Rattle.std.specs.List.Sorted.{IsSorted}
-use Rattle.std.proofs.lemmas.List.Sorted.{IsPermutation-sym, Contains-permutation}
-use Rattle.epx_types.specs.declared.id.Id.{Id}
-use Rattle.epx_types.specs.Ids.{id_cmp, UpTo, IsRising}
-use Rattle.epx_types.specs.Instances.{Instance}
-use Rattle.epx_types.specs.PlacedLines.{Placed}
-use Rattle.epx_types.specs.Agreement.{Agree, Differ}
-use Rattle.epx_types.specs.CommittedMap.{ids_of, IsCommittedBy}
-use Rattle.epx_types.proofs.lists.MembershipLemmas.{Contains-nil, Contains-head, Contains-cons}
-use Rattle.epx_types.proofs.lists.MembershipLemmas.{Contains-map, Contains-from_map}
-use Rattle.epx_types.proofs.graph.WaitingLemmas.{Contains-Id_cases}
+use Rattle.epx_types.proofs.Common.{IsDistinct, IsSorted, IsPermutation-sym, Contains-permutation}
+use Rattle.epx_types.proofs.Common.{Id, id_cmp, UpTo, IsRising, Instance, Placed, Agree, Differ}
+use Rattle.epx_types.proofs.Common.{ids_of, IsCommittedBy, Contains-nil, Contains-head}
+use Rattle.epx_types.proofs.Common.{Contains-cons, Contains-map, Contains-from_map}
+use Rattle.epx_types.proofs.Common.{Contains-Id_cases}
 use Rattle.epx_committed.specs.declared.ledger.Disagreement.{Disagreement}
 use Rattle.epx_committed.specs.InstanceCounts.{AreNamedBy}
 use Rattle.epx_committed.specs.MergedLines.{IsDisagreementAt}

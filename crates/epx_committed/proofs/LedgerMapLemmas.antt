@@ -1,14 +1,10 @@
 -- A ledger as the hash maps hold it: what a look-up finds.
-use Rattle.std.proofs.Common.{◌≡◌, ◌≢◌, inl, inr, Bool, true, false, List, [], ◌∷◌, ◌++◌}
-use Rattle.std.proofs.Common.{Contains, Option, None, Some, is_some, refl, sym, ap, subst, ◌∙◌}
-use Rattle.std.specs.Map.{lookup}
-use Rattle.std.proofs.lemmas.Bool.{cases_Bool}
+use Rattle.std.proofs.Common.{◌≡◌, ◌≢◌, inl, inr, Bool, true, false, List, [], ◌∷◌, ◌++◌, Contains}
+use Rattle.std.proofs.Common.{Option, None, Some, is_some, refl, sym, ap, subst, ◌∙◌}
+use Rattle.epx_types.proofs.Common.{lookup, cases_Bool, Id, Placed, Contains-nil}
+use Rattle.epx_types.proofs.Common.{Contains-cons_cases, ids_decide}
 use Rattle.std.proofs.lemmas.Map.Views.{Contains-from_lookup}
-use Rattle.epx_types.specs.declared.id.Id.{Id}
 use Rattle.epx_types.specs.contracts.id.IdPartialEq.TheImpl as id_eq
-use Rattle.epx_types.specs.PlacedLines.{Placed}
-use Rattle.epx_types.proofs.lists.MembershipLemmas.{Contains-nil, Contains-cons_cases}
-use Rattle.epx_types.proofs.commands.EqualityLemmas.{ids_decide}
 use Rattle.epx_committed.specs.declared.ledger.Disagreement.{Disagreement}
 use Rattle.epx_committed.specs.Ledgers.{LedgerView, NotesLines}
 use Rattle.epx_committed.proofs.LedgerLemmas.{keys, key_of_entry, NotesLines-known}

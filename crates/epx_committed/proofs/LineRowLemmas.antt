@@ -1,28 +1,19 @@
 -- Rows name lines in lists: the same lines in another order, and one more list.
-use Rattle.std.proofs.Common.{◌≡◌, ℕ, ◌<◌, ◌≤◌, List, [], ◌∷◌, ◌++◌, map, All, Vec}
-use Rattle.std.proofs.Common.{length, Contains, Some, slice_get, option_map}
-use Rattle.std.proofs.Common.{option_and_then, unwrap_or, IsPermutation, refl, sym, ap, subst, ◌∙◌}
-use Rattle.std.proofs.Common.{arith}
-use Rattle.std.specs.List.{IsDistinct}
-use Rattle.std.specs.List.Sorted.{IsSorted}
-use Rattle.std.specs.declared.alloc.Global.{Global}
-use Rattle.std.proofs.lemmas.List.{length-map}
-use Rattle.std.proofs.lemmas.List.Elements.{All-head, All-tail, All-weaker, filter_map-append}
-use Rattle.std.proofs.lemmas.List.Sorted.{All-permutation, IsPermutation-map}
-use Rattle.std.proofs.lemmas.Map.Keys.{IsDistinct-IsPermutation}
-use Rattle.std.proofs.lemmas.Map.Made.{IsDistinct-from_AllPairs}
-use Rattle.std.proofs.lemmas.Option.{slice_get_within, option_and_then_some}
-use Rattle.epx_types.specs.declared.id.Id.{Id}
-use Rattle.epx_types.specs.Ids.{id_cmp}
-use Rattle.epx_types.specs.Instances.{Instance}
-use Rattle.epx_types.specs.PlacedLines.{Placed}
-use Rattle.epx_types.specs.CommittedMap.{ids_of, IsCommittedBy}
-use Rattle.epx_types.proofs.commands.EqualityLemmas.{ids_decide, ids_flip}
+use Rattle.std.proofs.Common.{◌≡◌, ℕ, ◌<◌, ◌≤◌, List, [], ◌∷◌, ◌++◌, map, All, Vec, length}
+use Rattle.std.proofs.Common.{Contains, Some, slice_get, option_map, option_and_then, unwrap_or}
+use Rattle.std.proofs.Common.{IsPermutation, refl, sym, ap, subst, ◌∙◌, arith}
+use Rattle.epx_types.proofs.Common.{IsDistinct, IsSorted, Global, length-map, All-head, All-tail}
+use Rattle.epx_types.proofs.Common.{All-weaker, IsPermutation-map, IsDistinct-IsPermutation}
+use Rattle.epx_types.proofs.Common.{IsDistinct-from_AllPairs, slice_get_within, Id, id_cmp}
+use Rattle.epx_types.proofs.Common.{Instance, Placed, ids_of, IsCommittedBy, ids_decide, ids_flip}
+use Rattle.epx_types.proofs.Common.{max_instances}
+use Rattle.std.proofs.lemmas.List.Elements.{filter_map-append}
+use Rattle.std.proofs.lemmas.List.Sorted.{All-permutation}
+use Rattle.std.proofs.lemmas.Option.{option_and_then_some}
 use Rattle.epx_types.proofs.lists.ListPositionLemmas.{slice_get-map}
 use Rattle.epx_committed.specs.declared.ledger.FirstLines.{FirstLines}
 use Rattle.epx_committed.specs.declared.rows.Row.{Row}
 use Rattle.epx_committed.specs.declared.rows.TheConstants.{NO_LIST}
-use Rattle.epx_types.specs.Limits.{max_instances}
 use Rattle.epx_committed.specs.InstanceCounts.{AreNamedBy, FewInstances}
 use Rattle.epx_committed.specs.InstanceCounts.{ManyInstances}
 use Rattle.epx_committed.specs.Ledgers.{IsLedgerOf}

@@ -1,18 +1,12 @@
 -- Lines that are sorted by place commit a map, or have a fault for which they commit none.
 use Rattle.std.proofs.Common.{◌≡◌, ◌≢◌, ◌⊎◌, inl, inr, List, [], ◌∷◌, Contains, refl, sym, ap}
 use Rattle.std.proofs.Common.{subst, ◌∙◌}
-use Rattle.epx_types.specs.declared.id.Id.{Id}
-use Rattle.epx_types.specs.declared.fault.Fault.{Fault}
-use Rattle.epx_types.specs.declared.fault.Fault.TheVariants.{Memory, TooManyInstances, Disagree}
-use Rattle.epx_types.specs.Ids.{IsRising, UpTo}
-use Rattle.epx_types.specs.Instances.{Instance}
-use Rattle.epx_types.specs.PlacedLines.{Placed}
-use Rattle.epx_types.specs.Agreement.{Agree, Differ, IsFirstDisagreement}
-use Rattle.epx_types.specs.CommittedMap.{ids_of, IsCommittedBy}
-use Rattle.epx_types.proofs.graph.WaitingLemmas.{Id-cases}
-use Rattle.epx_types.proofs.lists.MembershipLemmas.{Contains-nil, Contains-head, Contains-cons}
-use Rattle.epx_types.proofs.lists.MembershipLemmas.{Contains-cons_cases, Contains-from_map}
-use Rattle.epx_types.proofs.lists.SearchLemmas.{some_or_none, least_or_none}
+use Rattle.epx_types.proofs.Common.{Id, Fault, TooManyInstances, Disagree, IsRising, UpTo, Instance}
+use Rattle.epx_types.proofs.Common.{Placed, Agree, Differ, IsFirstDisagreement, ids_of}
+use Rattle.epx_types.proofs.Common.{IsCommittedBy, Id-cases, Contains-nil, Contains-head}
+use Rattle.epx_types.proofs.Common.{Contains-cons, Contains-cons_cases, Contains-from_map}
+use Rattle.epx_types.proofs.Common.{some_or_none, least_or_none}
+use Rattle.epx_types.specs.declared.fault.Fault.TheVariants.{Memory}
 use Rattle.epx_committed.specs.InstanceCounts.{AreNamedBy}
 use Rattle.epx_committed.specs.Ledgers.{IsFirstWhere, IsLineOf}
 use Rattle.epx_committed.specs.LineOrder.{IsSortedByPlace}

@@ -1,21 +1,15 @@
 -- An entry is taken out of its list, and other rows still name the lines that they named.
-use Rattle.std.proofs.Common.{◌≡◌, ◌≢◌, ◌≤◌, ◌<◌, ◌+◌, ℕ, zero, suc, List, [], ◌∷◌, ◌++◌, Vec}
-use Rattle.std.proofs.Common.{Some, slice_get, slice_set, option_and_then, unwrap_or, map, take}
-use Rattle.std.proofs.Common.{refl, sym, ap, subst, ◌∙◌, inl, inr, arith}
+use Rattle.std.proofs.Common.{◌≡◌, ◌≢◌, ◌≤◌, ◌<◌, ◌+◌, ℕ, zero, suc, List, [], ◌∷◌, ◌++◌, Vec, Some}
+use Rattle.std.proofs.Common.{slice_get, slice_set, option_and_then, unwrap_or, map, take, refl}
+use Rattle.std.proofs.Common.{sym, ap, subst, ◌∙◌, inl, inr, arith}
 use Rattle.std.proofs.Math.Seq.{take-suc}
-use Rattle.std.proofs.lemmas.List.Elements.{All-contains}
+use Rattle.epx_types.proofs.Common.{All-contains, cases_eq, get_or_from_slice_get, slice_get_within}
+use Rattle.epx_types.proofs.Common.{Global, Below, Instance, Placed, id_cmp_total}
+use Rattle.epx_types.proofs.Common.{AllPairs-slice_get, Contains-slice_get, AllPairs-from_IsRising}
+use Rattle.epx_types.proofs.Common.{below_irrefl}
 use Rattle.std.specs.Vec.{with_item}
-use Rattle.std.proofs.lemmas.Bool.{cases_eq}
-use Rattle.std.proofs.lemmas.Option.{get_or_from_slice_get, none-some, slice_get_within}
-use Rattle.std.specs.declared.alloc.Global.{Global}
-use Rattle.epx_types.specs.Ids.{Below}
-use Rattle.epx_types.specs.Instances.{Instance}
-use Rattle.epx_types.specs.PlacedLines.{Placed}
-use Rattle.epx_types.proofs.lists.ComparisonLemmas.{id_cmp_total}
-use Rattle.epx_types.proofs.lists.ListPositionLemmas.{AllPairs-slice_get, Contains-slice_get}
+use Rattle.std.proofs.lemmas.Option.{none-some}
 use Rattle.epx_types.proofs.lists.ListPositionLemmas.{slice_get-map}
-use Rattle.epx_types.proofs.lists.RisingIdLemmas.{AllPairs-from_IsRising}
-use Rattle.epx_types.proofs.lists.TotalOrderLemmas.{below_irrefl}
 use Rattle.epx_committed.specs.declared.rows.Row.{Row}
 use Rattle.epx_committed.specs.inner.LineRows.{line_at, instances_at, IsLineRow}
 use Rattle.epx_committed.specs.inner.LineRows.{AreLineRows, NamesItsLine}

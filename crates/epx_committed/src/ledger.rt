@@ -14,7 +14,7 @@ use crate::line_index::LineIndex;
 use crate::merged::Merged;
 use crate::number_ranges::NumberRanges;
 use crate::placed::PlacedEntry;
-use crate::rows::{Row, guesses_of, sort_rows};
+use crate::rows::{Row, hints_of, sort_rows};
 use crate::same_entry::same_entry;
 use epx_seed::Seed;
 use epx_types::limits::MAX_INSTANCES;
@@ -196,11 +196,11 @@ impl Ledger {
             index,
             disagreements,
         } = firsts;
-        let ranks = index.ranks(alloc, rows.len())?;
+        let row_slots = index.line_slots(alloc, rows.len())?;
         drop(index);
-        let rows = sort_rows(alloc, rows, &ranks)?;
+        let rows = sort_rows(alloc, rows, &row_slots)?;
         let ranges = NumberRanges::of_rows(alloc, &rows)?;
-        let guesses = guesses_of(alloc, &rows, ranges.len())?;
+        let hints = hints_of(alloc, &rows, ranges.len())?;
         let least = least_of(disagreements)?;
         if rows.len() > MAX_INSTANCES {
             return Err(Fault::TooManyInstances);
@@ -211,7 +211,7 @@ impl Ledger {
                 first: disagreement.first,
                 second: disagreement.second,
             }),
-            None => Ok(Merged::new(lists, rows, ranges, guesses)),
+            None => Ok(Merged::new(lists, rows, ranges, hints)),
         }
     }
 }

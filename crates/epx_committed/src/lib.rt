@@ -4,20 +4,20 @@
 
 mod commands;
 mod entries;
-mod guesses;
 mod ledger;
 mod line_index;
 mod merged;
 mod number_marks;
 mod number_ranges;
 mod placed;
+mod position_hints;
 mod rows;
 pub mod same_entry;
 
 pub use commands::commands_of;
 pub use entries::from_entries;
 pub use epx_types::limits::MAX_INSTANCES;
-pub use guesses::Guesses;
 pub use ledger::Ledger;
 pub use merged::Merged;
 pub use placed::PlacedEntry;
+pub use position_hints::PositionHints;

@@ -9,9 +9,9 @@ ghost use Rattle.epx_committed.specs.inner.LineRows.{AreLineRows, IsLineRow, Nam
 ghost use Rattle.epx_committed.specs.inner.LineRows.{instances_at, line_at};
 ghost use Rattle.epx_committed.specs.inner.NumberRanges.{AreRangesIn};
 
-use crate::guesses::Guesses;
 use crate::number_ranges::NumberRanges;
 use crate::placed::PlacedEntry;
+use crate::position_hints::PositionHints;
 use crate::rows::{Row, find_row};
 use epx_types::{Entry, Id, Memory};
 use std::alloc::Global;
@@ -25,7 +25,7 @@ pub struct Merged {
     /// Where the first line of each instance is, by rising Id.
     rows: Vec<Row>,
     ranges: NumberRanges,
-    guesses: Guesses,
+    hints: PositionHints,
 }
 
 impl Model for Merged {
@@ -58,7 +58,7 @@ impl Merged {
         lists: Vec<Vec<PlacedEntry>>,
         rows: Vec<Row>,
         ranges: NumberRanges,
-        guesses: Guesses,
+        hints: PositionHints,
     ) -> Merged
         requires rows { AreLineRows lists.items rows.items }
         requires ranges { AreRangesIn (map (λ r. r.id) rows.items) ranges.ranges.items }
@@ -68,7 +68,7 @@ impl Merged {
             lists,
             rows,
             ranges,
-            guesses,
+            hints,
         }
     }
 
@@ -89,7 +89,7 @@ impl Merged {
     }
 
     /// The position of an instance. Most are in a range, and no row has to be loaded. After a gap
-    /// the guess is usually right; otherwise a binary search finds it.
+    /// the hint is usually right; otherwise a binary search finds it.
     fn find_position(&self, id: Id) -> Option<usize>
         ensures position { result ≡ position_of self.now id }
         ensures rising { IsRising (ids_of self.now) }
@@ -97,7 +97,7 @@ impl Merged {
         if let Some(position) = self.ranges.find(id) {
             return Some(position);
         }
-        if let Some(position) = self.guesses.guess(id) {
+        if let Some(position) = self.hints.hint(id) {
             if position < self.rows.len() && self.rows[position].id == id {
                 return Some(position);
             }

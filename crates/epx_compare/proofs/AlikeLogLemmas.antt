@@ -1,18 +1,11 @@
 -- Nothing is found wrong exactly where each log alone commits what all of them commit.
-use Rattle.std.proofs.Common.{◌≡◌, ◌<◌, ◌==◌, ◌&&◌, ◌∙◌, ◌+◌, ◌++◌, ℕ, zero, suc, Bool, true}
-use Rattle.std.proofs.Common.{false, get_or, List, [], ◌∷◌, length, Contains, Some}
-use Rattle.std.proofs.Common.{slice_get, flat_map, refl, sym, ap, subst, inl, inr, arith}
-use Rattle.std.specs.Bool.{Decides}
-use Rattle.std.proofs.lemmas.Bool.{cases_Bool}
-use Rattle.std.proofs.lemmas.Bool.Decides.{nat_tests}
-use Rattle.std.proofs.lemmas.Option.{slice_get-get_or, slice_get_within}
-use Rattle.epx_types.specs.declared.id.Id.{Id}
-use Rattle.epx_types.specs.Instances.{Instance}
-use Rattle.epx_types.specs.CommittedMap.{IsCommittedBy}
-use Rattle.epx_types.specs.PlacedLines.{Placed}
-use Rattle.epx_types.proofs.committed.AgreementLemmas.{IsRising-same}
-use Rattle.epx_types.proofs.lists.ListPositionLemmas.{slice_get-from_Contains, Contains-slice_get}
-use Rattle.epx_types.proofs.lists.MembershipLemmas.{Contains-nil, Contains-head}
+use Rattle.std.proofs.Common.{◌≡◌, ◌<◌, ◌==◌, ◌&&◌, ◌∙◌, ◌+◌, ◌++◌, ℕ, zero, suc, Bool, true, false}
+use Rattle.std.proofs.Common.{get_or, List, [], ◌∷◌, length, Contains, Some, slice_get, flat_map}
+use Rattle.std.proofs.Common.{refl, sym, ap, subst, inl, inr, arith}
+use Rattle.epx_types.proofs.Common.{Decides, cases_Bool, nat_tests, slice_get-get_or}
+use Rattle.epx_types.proofs.Common.{slice_get_within, Id, Instance, IsCommittedBy, Placed}
+use Rattle.epx_types.proofs.Common.{IsRising-same, slice_get-from_Contains, Contains-slice_get}
+use Rattle.epx_types.proofs.Common.{Contains-nil, Contains-head}
 use Rattle.epx_committed.specs.InstanceCounts.{AreNamedBy}
 use Rattle.epx_merge.specs.Acceptance.{IsAccepted}
 use Rattle.epx_merge.specs.LogLines.{placed_of, bad_lines_of}

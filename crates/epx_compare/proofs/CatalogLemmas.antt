@@ -1,12 +1,8 @@
 -- The numbers by which a catalog groups versions and rows are within their bounds.
-use Rattle.std.proofs.Common.{◌≡◌, ℕ, ◌<◌, List, [], ◌∷◌, length, map, All, Some, slice_get}
-use Rattle.std.proofs.Common.{suc, refl, ap}
-use Rattle.std.specs.List.{AllByRecursion, AllZip}
-use Rattle.std.proofs.lemmas.List.Elements.{All-from_recursion}
-use Rattle.std.proofs.lemmas.Option.{slice_get_within}
-use Rattle.epx_types.specs.declared.id.Id.{Id}
-use Rattle.epx_types.specs.Instances.{Instance}
-use Rattle.epx_types.specs.PlacedLines.{Placed}
+use Rattle.std.proofs.Common.{◌≡◌, ℕ, ◌<◌, List, [], ◌∷◌, length, map, All, Some, slice_get, suc}
+use Rattle.std.proofs.Common.{refl, ap}
+use Rattle.epx_types.proofs.Common.{AllByRecursion, AllZip, All-from_recursion, slice_get_within}
+use Rattle.epx_types.proofs.Common.{Id, Instance, Placed}
 use Rattle.epx_versions.specs.declared.noted.NotedLine.{NotedLine}
 use Rattle.epx_versions.specs.NotedRows.{IsRowOf}
 

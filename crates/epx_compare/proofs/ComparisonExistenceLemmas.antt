@@ -1,15 +1,10 @@
 -- All logs have a comparison: the Ids that it prints exist.
 use Rattle.std.proofs.Common.{◌⊎◌, inl, inr, ℕ, List, Contains, length, flat_map, refl}
-use Rattle.std.specs.Cmp.{IsEquivalence, decided}
-use Rattle.std.specs.List.{list_any}
-use Rattle.std.proofs.lemmas.Bool.{cases_Bool}
-use Rattle.std.proofs.lemmas.Map.Views.{Contains-from_any, list_any-from_Contains}
-use Rattle.epx_types.specs.declared.id.Id.{Id}
-use Rattle.epx_types.specs.PlacedLines.{Placed}
-use Rattle.epx_types.proofs.lists.ComparisonLemmas.{id_cmp_total, id_cmp-IsAntisymmetric}
-use Rattle.epx_types.proofs.lists.MembershipLemmas.{Contains-flat_map, Contains-from_flat_map}
-use Rattle.epx_types.proofs.lists.RisingIdLemmas.{IsRising-from_AllPairs}
-use Rattle.epx_types.proofs.lists.RisingListLemmas.{rising_list}
+use Rattle.epx_types.proofs.Common.{IsEquivalence, list_any, cases_Bool, Contains-from_any}
+use Rattle.epx_types.proofs.Common.{list_any-from_Contains, Id, Placed, id_cmp_total}
+use Rattle.epx_types.proofs.Common.{id_cmp-IsAntisymmetric, Contains-flat_map}
+use Rattle.epx_types.proofs.Common.{Contains-from_flat_map, IsRising-from_AllPairs, rising_list}
+use Rattle.std.specs.Cmp.{decided}
 use Rattle.epx_merge.specs.LogLines.{placed_of, bad_lines_of}
 use Rattle.epx_compare.specs.Comparisons.{IsComparison, comparison_text}
 use Rattle.epx_versions.specs.SameInstances.{same_id}

@@ -1,7 +1,6 @@
 -- What a comparison of logs says, in two clauses and in one.
-use Rattle.std.proofs.Common.{◌≡◌, ◌↔◌, ℕ, List, Result, Ok, Err, true}
-use Rattle.std.specs.Prelude.{IfOk, MatchResult}
-use Rattle.epx_types.specs.declared.fault.Fault.{Fault}
+use Rattle.std.proofs.Common.{◌≡◌, ◌↔◌, ℕ, List, Result, Ok, Err, true, IfOk}
+use Rattle.epx_types.proofs.Common.{MatchResult, Fault}
 use Rattle.epx_compare.specs.declared.comparison.Comparison.{Comparison}
 use Rattle.epx_compare.specs.ComparisonAnswers.{Compares, IsComparisonResult}
 use Rattle.epx_compare.specs.Comparisons.{HasFindings}
@@ -23,8 +22,3 @@ module _ (logs : List (List ℕ)) where
       → SaysFound result
   found_of (Ok c) is = is.1
   found_of (Err fault) is = tt
-
-  pub result_of : (result : Result Comparison Fault) → HasAnswer result → SaysFound result
-      → IsComparisonResult logs result
-  result_of (Ok c) answer found = (answer, found)
-  result_of (Err fault) answer found = answer

@@ -2,25 +2,16 @@
 use Rattle.std.proofs.Common.{◌≡◌, ◌∙◌, ◌↔◌, inl, inr, ℕ, ◌<◌, Bool, true, false, not, ◌&&◌, List}
 use Rattle.std.proofs.Common.{[], ◌∷◌, length, map, filter, All, Contains, Option, Some, None}
 use Rattle.std.proofs.Common.{slice_get, refl, sym, ap, subst}
-use Rattle.std.specs.List.{list_any}
+use Rattle.epx_types.proofs.Common.{list_any, option_map_or, cases_Bool, All-contains_itself}
+use Rattle.epx_types.proofs.Common.{All-weaker, slice_get_within, Id, IsRising, Instance, Placed}
+use Rattle.epx_types.proofs.Common.{slice_get-from_Contains, Contains-slice_get, slice_get-from_map}
+use Rattle.epx_types.proofs.Common.{Contains-nil, Contains-head, Contains-cons, Contains-cons_cases}
+use Rattle.epx_types.proofs.Common.{Contains-filter, Contains-from_filter, Contains-flat_map}
+use Rattle.epx_types.proofs.Common.{Contains-from_flat_map, rising_position_is_unique}
 use Rattle.std.specs.Cmp.{first_so, second_so}
-use Rattle.std.specs.Option.{option_map_or}
-use Rattle.std.proofs.lemmas.Bool.{cases_Bool}
 use Rattle.std.proofs.lemmas.List.Folds.{list_any_at}
-use Rattle.std.proofs.lemmas.List.Elements.{All-contains_itself, All-weaker}
-use Rattle.std.proofs.lemmas.Option.{slice_get_within}
 use Rattle.epx_rows.specs.Rows.{row_of}
-use Rattle.epx_types.specs.declared.id.Id.{Id}
-use Rattle.epx_types.specs.Ids.{IsRising}
-use Rattle.epx_types.specs.Instances.{Instance}
-use Rattle.epx_types.specs.PlacedLines.{Placed}
-use Rattle.epx_types.proofs.lists.ListPositionLemmas.{slice_get-from_Contains, Contains-slice_get}
-use Rattle.epx_types.proofs.lists.ListPositionLemmas.{slice_get-map, slice_get-from_map}
-use Rattle.epx_types.proofs.lists.MembershipLemmas.{Contains-nil, Contains-head, Contains-cons}
-use Rattle.epx_types.proofs.lists.MembershipLemmas.{Contains-cons_cases, Contains-filter}
-use Rattle.epx_types.proofs.lists.MembershipLemmas.{Contains-from_filter, Contains-flat_map}
-use Rattle.epx_types.proofs.lists.MembershipLemmas.{Contains-from_flat_map}
-use Rattle.epx_types.proofs.lists.RisingIdLemmas.{rising_position_is_unique}
+use Rattle.epx_types.proofs.lists.ListPositionLemmas.{slice_get-map}
 use Rattle.epx_merge.specs.LogLines.{BadLineAt}
 use Rattle.epx_compare.specs.declared.catalog.Catalog.{Catalog}
 use Rattle.epx_versions.specs.LineVersions.{versions_of}

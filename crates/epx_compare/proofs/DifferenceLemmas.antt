@@ -1,15 +1,10 @@
 -- The versions of an instance, and the places of the lines of each.
 use Rattle.std.proofs.Common.{◌≡◌, ◌∙◌, ◌==◌, ℕ, Bool, true, false, cond, not, List, [], ◌∷◌, Some}
 use Rattle.std.proofs.Common.{map, filter, slice_get, refl, sym, ap, arith, inl, inr, AllPairs}
-use Rattle.std.specs.List.{AllZip}
-use Rattle.std.proofs.lemmas.Bool.{cases_lt, not-true}
-use Rattle.std.proofs.lemmas.Bool.Decides.{nat_tests}
-use Rattle.std.proofs.lemmas.List.Kept.{AllPairs-filter}
-use Rattle.epx_types.proofs.lists.ListPositionLemmas.{AllPairs-slice_get, AllPairs-from_parts}
-use Rattle.epx_types.proofs.lists.MembershipLemmas.{passes-from_filter}
-use Rattle.epx_types.specs.declared.id.Id.{Id}
-use Rattle.epx_types.specs.Instances.{Instance}
-use Rattle.epx_types.specs.PlacedLines.{Placed}
+use Rattle.epx_types.proofs.Common.{AllZip, cases_lt, nat_tests, AllPairs-filter}
+use Rattle.epx_types.proofs.Common.{AllPairs-slice_get, AllPairs-from_parts, passes-from_filter, Id}
+use Rattle.epx_types.proofs.Common.{Instance, Placed}
+use Rattle.std.proofs.lemmas.Bool.{not-true}
 use Rattle.epx_compare.specs.Differences.{lines_of_id, places_of}
 use Rattle.epx_versions.specs.LineVersions.{versions_of}
 use Rattle.epx_versions.specs.SameInstances.{same_id, same_instance}

@@ -1,14 +1,11 @@
 -- The line of an instance that lines commit differently.
 use Rattle.std.proofs.Common.{◌≡◌, ◌∙◌, ◌∷◌, ◌++◌, ℕ, false, List, [], map, refl, sym, ap, codes}
 use Rattle.std.proofs.Common.{append-nil}
-use Rattle.std.proofs.lemmas.Simd.{map-map}
+use Rattle.epx_types.proofs.Common.{map-map, Id, Place, Placed}
 use Rattle.serde_json.specs.Data.{Data, string}
 use Rattle.serde_json.specs.Written.{has_float, compact_text}
 use Rattle.epx_lines.proofs.FloatLemmas.{no_float-items}
 use Rattle.epx_report.specs.ReportLines.{array_of, data_of_number, line_feed}
-use Rattle.epx_types.specs.declared.id.Id.{Id}
-use Rattle.epx_types.specs.declared.place.Place.{Place}
-use Rattle.epx_types.specs.PlacedLines.{Placed}
 use Rattle.epx_compare.specs.ComparisonLines.{differs_data, group_data, place_data}
 use Rattle.epx_compare.specs.Comparisons.{difference_text, difference_in}
 use Rattle.epx_compare.specs.Differences.{lines_of_id, differing_members, groups_of}

@@ -2,18 +2,11 @@
 use Rattle.std.proofs.Common.{◌≡◌, ◌∙◌, ◌+◌, ◌<◌, ◌==◌, ◌∷◌, ℕ, true, List, [], Option, Some, map}
 use Rattle.std.proofs.Common.{filter, length, slice_get, slice_index_or, All, Contains, refl, sym}
 use Rattle.std.proofs.Common.{ap, subst, arith}
-use Rattle.std.proofs.lemmas.Bool.Decides.{nat_tests}
-use Rattle.std.proofs.lemmas.List.{length-map, get_or_default}
-use Rattle.std.proofs.lemmas.List.Elements.{Contains-get_or}
-use Rattle.std.proofs.lemmas.Simd.{map-map}
-use Rattle.std.proofs.lemmas.Option.{slice_get_within, get_or_from_slice_get}
-use Rattle.epx_types.proofs.lists.ListPositionLemmas.{slice_get-map, slice_get-from_map}
-use Rattle.epx_types.proofs.lists.MembershipLemmas.{map-agree, passes-from_filter}
-use Rattle.epx_types.proofs.lists.RisingIdLemmas.{rising_position_is_unique}
-use Rattle.epx_types.specs.declared.id.Id.{Id}
-use Rattle.epx_types.specs.Ids.{IsRising}
-use Rattle.epx_types.specs.Instances.{Instance}
-use Rattle.epx_types.specs.PlacedLines.{Placed}
+use Rattle.epx_types.proofs.Common.{nat_tests, length-map, get_or_default, Contains-get_or, map-map}
+use Rattle.epx_types.proofs.Common.{slice_get_within, get_or_from_slice_get, slice_get-from_map}
+use Rattle.epx_types.proofs.Common.{map-agree, passes-from_filter, rising_position_is_unique, Id}
+use Rattle.epx_types.proofs.Common.{IsRising, Instance, Placed}
+use Rattle.epx_types.proofs.lists.ListPositionLemmas.{slice_get-map}
 use Rattle.epx_merge.specs.LogLines.{BadLineAt}
 use Rattle.epx_rows.specs.PositionGroups.{AreGroupsOf}
 use Rattle.epx_rows.specs.Rows.{row_of}

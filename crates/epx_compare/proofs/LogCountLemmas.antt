@@ -1,11 +1,9 @@
 -- Counts of items by log, after one more item.
-use Rattle.std.proofs.Common.{◌≡◌, ◌∙◌, ◌+◌, ◌<◌, ◌≤◌, ◌≢◌, ◌==◌, ℕ, true, false, List}
-use Rattle.std.proofs.Common.{length, take, get_or, count_by, set, inl, inr, sym, ap, subst, arith}
+use Rattle.std.proofs.Common.{◌≡◌, ◌∙◌, ◌+◌, ◌<◌, ◌≤◌, ◌≢◌, ◌==◌, ℕ, true, false, List, length}
+use Rattle.std.proofs.Common.{take, get_or, count_by, set, inl, inr, sym, ap, subst, arith}
 use Rattle.std.proofs.Common.{get_or-set_same, get_or-set_other}
-use Rattle.std.proofs.lemmas.Bool.{cases_Bool}
-use Rattle.std.proofs.lemmas.Bool.Decides.{nat_tests}
-use Rattle.std.proofs.lemmas.List.{length-take-le}
-use Rattle.std.proofs.lemmas.List.Sums.{count_by-le-length, count_by_more_no, count_by_more_yes}
+use Rattle.epx_types.proofs.Common.{cases_Bool, nat_tests, length-take-le, count_by-le-length}
+use Rattle.epx_types.proofs.Common.{count_by_more_no, count_by_more_yes}
 
 same_log : (m n : ℕ) → (m == n) ≡ true → m ≡ n
 same_log m n e = grind (arith, nat_tests)

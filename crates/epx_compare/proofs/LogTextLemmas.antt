@@ -1,13 +1,9 @@
 -- Texts with a part for each log.
 use Rattle.std.proofs.Common.{◌≡◌, ◌∙◌, ◌+◌, ◌==◌, ℕ, zero, suc, List, [], ◌∷◌, ◌++◌, cond}
-use Rattle.std.proofs.Common.{count_by}
-use Rattle.std.proofs.Common.{Bool, true, false, filter, length}
-use Rattle.std.proofs.Common.{map, refl, sym, ap, append-nil, append_assoc, arith}
-use Rattle.std.specs.List.{AllZip}
+use Rattle.std.proofs.Common.{count_by, Bool, true, false, filter, length, map, refl, sym, ap}
+use Rattle.std.proofs.Common.{append-nil, append_assoc, arith}
+use Rattle.epx_types.proofs.Common.{AllZip, Place, Instance, Placed}
 use Rattle.std.proofs.lemmas.List.Sums.{length-filter}
-use Rattle.epx_types.specs.declared.place.Place.{Place}
-use Rattle.epx_types.specs.Instances.{Instance}
-use Rattle.epx_types.specs.PlacedLines.{Placed}
 use Rattle.epx_versions.specs.declared.noted.NotedBadLine.{NotedBadLine}
 use Rattle.epx_versions.specs.declared.noted.NotedLine.{NotedLine}
 use Rattle.epx_compare.specs.Comparisons.{for_logs}

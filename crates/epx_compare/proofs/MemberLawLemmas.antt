@@ -1,9 +1,6 @@
 -- A member is named exactly if it is not equal in two of the lines.
-use Rattle.std.proofs.Common.{◌≡◌, ◌≢◌, ◌∙◌, Bool, true, false, not, List, Contains, refl, sym, ap}
-use Rattle.std.specs.Bool.{Decides}
-use Rattle.std.specs.List.{list_any}
-use Rattle.epx_types.specs.Instances.{Instance}
-use Rattle.epx_types.specs.PlacedLines.{Placed}
+use Rattle.std.proofs.Common.{◌≡◌, ◌≢◌, ◌∙◌, Bool, true, false, not, List, refl, sym, ap}
+use Rattle.epx_types.proofs.Common.{Decides, list_any, Instance, Placed}
 use Rattle.epx_versions.specs.SameInstances.{same_seq, same_deps, same_ops}
 use Rattle.epx_versions.specs.inner.EqualVersions.{seqs_decide, deps_decide, commands_decide}
 use Rattle.epx_compare.specs.Differences.{some_differ}

@@ -1,14 +1,10 @@
 -- The members in which the lines of an instance differ, by its versions.
 use Rattle.std.proofs.Common.{◌≡◌, ◌∙◌, ◌||◌, ℕ, Bool, true, false, not, List, [], ◌∷◌, ◌++◌, map}
 use Rattle.std.proofs.Common.{Contains, refl, sym, ap, subst, codes, inl, inr, filter}
-use Rattle.std.specs.Bool.{Decides}
-use Rattle.std.specs.List.{list_any}
+use Rattle.epx_types.proofs.Common.{Decides, list_any, Contains-nil, Contains-head, Contains-cons}
+use Rattle.epx_types.proofs.Common.{Contains-cons_cases, Contains-filter, Contains-from_filter}
+use Rattle.epx_types.proofs.Common.{Instance, Placed}
 use Rattle.std.proofs.lemmas.List.Folds.{list_any_at}
-use Rattle.epx_types.proofs.lists.MembershipLemmas.{Contains-nil, Contains-head, Contains-cons}
-use Rattle.epx_types.proofs.lists.MembershipLemmas.{Contains-cons_cases, Contains-filter}
-use Rattle.epx_types.proofs.lists.MembershipLemmas.{Contains-from_filter}
-use Rattle.epx_types.specs.Instances.{Instance}
-use Rattle.epx_types.specs.PlacedLines.{Placed}
 use Rattle.epx_compare.specs.Differences.{some_differ, differing_members, named_if}
 use Rattle.epx_versions.specs.LineVersions.{versions_of}
 use Rattle.epx_compare.specs.declared.members.Members.{Members}

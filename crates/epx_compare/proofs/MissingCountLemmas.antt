@@ -1,20 +1,15 @@
 -- Counts of dependents, as a map stores them.
 use Rattle.std.proofs.Common.{◌≡◌, ◌∙◌, inl, inr, ℕ, ◌+◌, zero, suc, Bool, true, false, not, ◌&&◌}
-use Rattle.std.proofs.Common.{◌||◌, List, [], ◌∷◌, take, Contains, Some, slice_get, refl}
-use Rattle.std.proofs.Common.{sym, ap, subst, if◌then◌else◌, count_by, Ordering, Less}
-use Rattle.std.proofs.Common.{Equal, Greater, is_lt, is_eq}
-use Rattle.std.specs.Cmp.{IsEquivalence, decided}
-use Rattle.std.specs.List.{list_any}
-use Rattle.std.proofs.lemmas.Bool.{cases_Bool}
+use Rattle.std.proofs.Common.{◌||◌, List, [], ◌∷◌, take, Contains, Some, slice_get, refl, sym, ap}
+use Rattle.std.proofs.Common.{subst, if◌then◌else◌, count_by, Ordering, Less, Equal, Greater, is_lt}
+use Rattle.std.proofs.Common.{is_eq}
+use Rattle.epx_types.proofs.Common.{IsEquivalence, list_any, cases_Bool, count_by_more_no}
+use Rattle.epx_types.proofs.Common.{count_by_more_yes, slice_get_within, get_or_from_slice_get, Id}
+use Rattle.epx_types.proofs.Common.{Below, IsRising, id_cmp, AllPairs-head, Contains-slice_get}
+use Rattle.epx_types.proofs.Common.{AllPairs-from_IsRising, ids_decide as eq_decides}
+use Rattle.std.specs.Cmp.{decided}
 use Rattle.std.proofs.lemmas.List.Folds.{list_any_more}
-use Rattle.std.proofs.lemmas.List.Sums.{count_by_more_no, count_by_more_yes}
-use Rattle.std.proofs.lemmas.Option.{slice_get_within, get_or_from_slice_get}
 use Rattle.epx_types.specs.contracts.id.IdPartialEq.TheImpl as id_eq
-use Rattle.epx_types.specs.declared.id.Id.{Id}
-use Rattle.epx_types.specs.Ids.{Below, IsRising, id_cmp}
-use Rattle.epx_types.proofs.lists.ListPositionLemmas.{AllPairs-head, Contains-slice_get}
-use Rattle.epx_types.proofs.lists.RisingIdLemmas.{AllPairs-from_IsRising}
-use Rattle.epx_types.proofs.commands.EqualityLemmas.{ids_decide as eq_decides}
 use Rattle.epx_versions.specs.SameInstances.{same_id}
 use Rattle.epx_versions.specs.inner.EqualVersions.{ids_decide}
 use Rattle.epx_compare.specs.inner.MissingCounts.{stored, AreCounts, with_one, is_missing}

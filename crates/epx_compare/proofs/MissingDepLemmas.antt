@@ -3,27 +3,17 @@ use Rattle.std.proofs.Common.{◌≡◌, ◌∙◌, inl, inr, ℕ, ◌+◌, ◌<
 use Rattle.std.proofs.Common.{◌&&◌, ◌++◌, cond, List, [], ◌∷◌, length, flat_map, get_or, Contains}
 use Rattle.std.proofs.Common.{Some, refl, sym, ap, subst, arith, true≢false, is_lt, count_by}
 use Rattle.std.specs.Cmp.{first_so, second_so}
-use Rattle.std.specs.List.{list_any, IsDistinct}
-use Rattle.std.specs.List.Sorted.{IsSorted}
-use Rattle.std.specs.Map.{keys_of}
-use Rattle.std.proofs.lemmas.Bool.{cases_Bool, not-true}
+use Rattle.epx_types.proofs.Common.{list_any, IsDistinct, IsSorted, keys_of, cases_Bool, sorted_far}
+use Rattle.epx_types.proofs.Common.{ranks_by, sum_by-cons, AllPairs-from_IsDistinct, Id, Below}
+use Rattle.epx_types.proofs.Common.{IsRising, id_cmp, Instance, Placed, id_cmp_total}
+use Rattle.epx_types.proofs.Common.{id_cmp-IsAntisymmetric, Contains-head, Contains-cons}
+use Rattle.epx_types.proofs.Common.{Contains-map, Contains-from_map, IsRising-from_neighbours}
+use Rattle.epx_types.proofs.Common.{below_cases, ids_decide as eq_decides}
+use Rattle.std.proofs.lemmas.Bool.{not-true}
 use Rattle.std.proofs.lemmas.List.Concat.{flat_map-cons}
 use Rattle.std.proofs.lemmas.List.Folds.{flat_map-map}
-use Rattle.std.proofs.lemmas.List.Sorted.{sorted_far, ranks_by}
-use Rattle.std.proofs.lemmas.List.Sums.{sum_by-cons}
-use Rattle.std.proofs.lemmas.Map.Made.{AllPairs-from_IsDistinct}
 use Rattle.std.proofs.lemmas.Map.Views.{Contains-from_lookup, lookup-from_Contains}
 use Rattle.epx_types.specs.contracts.id.IdPartialEq.TheImpl as id_eq
-use Rattle.epx_types.specs.declared.id.Id.{Id}
-use Rattle.epx_types.specs.Ids.{Below, IsRising, id_cmp}
-use Rattle.epx_types.specs.Instances.{Instance}
-use Rattle.epx_types.specs.PlacedLines.{Placed}
-use Rattle.epx_types.proofs.lists.ComparisonLemmas.{id_cmp_total, id_cmp-IsAntisymmetric}
-use Rattle.epx_types.proofs.lists.MembershipLemmas.{Contains-head, Contains-cons, Contains-map}
-use Rattle.epx_types.proofs.lists.MembershipLemmas.{Contains-from_map}
-use Rattle.epx_types.proofs.lists.RisingIdLemmas.{IsRising-from_neighbours}
-use Rattle.epx_types.proofs.lists.TotalOrderLemmas.{below_cases}
-use Rattle.epx_types.proofs.commands.EqualityLemmas.{ids_decide as eq_decides}
 use Rattle.epx_merge.specs.LogLines.{BadLineAt}
 use Rattle.epx_report.specs.ReportLines.{line_of}
 use Rattle.epx_compare.specs.ComparisonLines.{missing_count_data}

@@ -1,22 +1,15 @@
 -- A comparison has no line that differs, and no bad one, exactly where logs are accepted.
 use Rattle.std.proofs.Common.{◌≡◌, ◌≢◌, ◌↔◌, ℕ, ◌∷◌, ◌++◌, Bool, true, false, not, List, []}
-use Rattle.std.proofs.Common.{Contains, flat_map, codes, refl, sym, ap, subst, inl, inr, arith}
-use Rattle.std.proofs.Common.{◌∙◌}
-use Rattle.std.specs.Bool.{Decides}
-use Rattle.std.specs.List.{list_any}
+use Rattle.std.proofs.Common.{Contains, flat_map, codes, refl, sym, ap, subst, inl, inr, arith, ◌∙◌}
+use Rattle.epx_types.proofs.Common.{Decides, list_any, Contains-head, Contains-cons}
+use Rattle.epx_types.proofs.Common.{Contains-cons_cases, Contains-filter, Contains-from_filter}
+use Rattle.epx_types.proofs.Common.{passes-from_filter, Agree, Instance, Placed, Fault, TooManyLogs}
+use Rattle.epx_types.proofs.Common.{LogTooLong, BadLine, TooManyInstances, Disagree, Read, BadBase}
+use Rattle.epx_types.proofs.Common.{Id}
 use Rattle.serde_json.specs.Data.{Data}
 use Rattle.serde_json.specs.Written.{compact_text}
-use Rattle.epx_types.proofs.lists.MembershipLemmas.{Contains-head, Contains-cons}
-use Rattle.epx_types.proofs.lists.MembershipLemmas.{Contains-cons_cases, Contains-filter}
-use Rattle.epx_types.proofs.lists.MembershipLemmas.{Contains-from_filter, passes-from_filter}
-use Rattle.epx_types.specs.Agreement.{Agree}
-use Rattle.epx_types.specs.Instances.{Instance}
-use Rattle.epx_types.specs.PlacedLines.{Placed}
-use Rattle.epx_types.specs.declared.fault.Fault.{Fault}
-use Rattle.epx_types.specs.declared.fault.Fault.TheVariants.{Memory, TooManyLogs, LogTooLong}
-use Rattle.epx_types.specs.declared.fault.Fault.TheVariants.{BadLine, TooManyInstances, Disagree}
-use Rattle.epx_types.specs.declared.fault.Fault.TheVariants.{Read, Write, BadBase}
-use Rattle.epx_types.specs.declared.id.Id.{Id}
+use Rattle.epx_types.specs.declared.fault.Fault.TheVariants.{Memory}
+use Rattle.epx_types.specs.declared.fault.Fault.TheVariants.{Write}
 use Rattle.epx_committed.proofs.InstanceCountLemmas.{not_few_and_many}
 use Rattle.epx_committed.specs.InstanceCounts.{AreNamedBy, FewInstances}
 use Rattle.epx_merge.proofs.ExistenceLemmas.{answered_always}

@@ -2,10 +2,8 @@
 use Rattle.std.proofs.Common.{◌≡◌, ◌∙◌, ◌+◌, ◌-◌, ◌<◌, ◌≤◌, ℕ, suc, Bool, true, false, cond, List}
 use Rattle.std.proofs.Common.{[], ◌∷◌, Option, Some, None, map, filter, slice_get, refl, sym, ap}
 use Rattle.std.proofs.Common.{arith, inl, inr, AllPairs, Contains}
-use Rattle.std.proofs.lemmas.Bool.{cases_lt}
-use Rattle.epx_types.proofs.lists.ListPositionLemmas.{AllPairs-head, AllPairs-tail}
-use Rattle.epx_types.proofs.lists.MembershipLemmas.{Contains-nil, Contains-head, Contains-cons}
-use Rattle.epx_types.proofs.lists.MembershipLemmas.{Contains-cons_cases}
+use Rattle.epx_types.proofs.Common.{cases_lt, AllPairs-head, AllPairs-tail, Contains-nil}
+use Rattle.epx_types.proofs.Common.{Contains-head, Contains-cons, Contains-cons_cases}
 
 -- rising positions, from n on, exactly those of what passes the test
 pub record ArePassing {X : Type 0} (at : ℕ → Option X) (test : X → Bool) (n : ℕ) (ps : List ℕ)

@@ -3,7 +3,7 @@ ghost use Rattle.std.specs.Prelude.{◌≡◌, ◌↔◌, ◌<◌, map, Contains
 ghost use Rattle.std.specs.Prelude.{slice_get};
 ghost use Rattle.epx_types.specs.Ids.{IsRising};
 
-use epx_committed::Guesses;
+use epx_committed::PositionHints;
 use epx_types::id_list::{find_id, sort_unique};
 use epx_types::{Id, Memory};
 use epx_versions::Versions;
@@ -14,7 +14,7 @@ use std::marker::Model;
 #[derive(Debug, Drop)]
 pub(crate) struct CommittedIds {
     ids: Vec<Id>,
-    guesses: Guesses,
+    hints: PositionHints,
 }
 
 impl Model for CommittedIds {
@@ -40,23 +40,14 @@ pub(crate) fn version_ids(alloc: Global, versions: &Versions) -> Result<Vec<Id>,
     Ok(ids)
 }
 
-/// Guesses of the positions of rising Ids.
-fn guesses_of(alloc: Global, ids: &[Id]) -> Result<Guesses, Memory> {
-    let mut guesses = Guesses::new(alloc);
-    for (index, id) in ids.iter().enumerate() {
-        guesses.note(*id, index)?;
-    }
-    Ok(guesses)
-}
-
 impl CommittedIds {
     /// The Ids of a list, each once.
     pub(crate) fn of(alloc: Global, ids: &[Id]) -> Result<CommittedIds, Memory>
         ensures { IfOk result (λ c. (x : _) → Contains c x ↔ Contains ids.now x) }
     {
         let ids = sort_unique(alloc, ids)?;
-        let guesses = guesses_of(alloc, &ids)?;
-        Ok(CommittedIds { ids, guesses })
+        let hints = PositionHints::of(alloc, ids.iter().copied())?;
+        Ok(CommittedIds { ids, hints })
     }
 
     pub(crate) fn ids(&self) -> &[Id]
@@ -66,13 +57,13 @@ impl CommittedIds {
         &self.ids
     }
 
-    /// The position of an Id, if it is committed. Its guess is usually right; otherwise a binary
+    /// The position of an Id, if it is committed. Its hint is usually right; otherwise a binary
     /// search finds it.
     pub(crate) fn position(&self, id: Id) -> Option<usize>
         ensures { MatchOption result (¬ Contains self.now id)
             (λ k. slice_get self.now k ≡ Some id) }
     {
-        if let Some(position) = self.guesses.guess(id) {
+        if let Some(position) = self.hints.hint(id) {
             if position < self.ids.len() && self.ids[position] == id {
                 return Some(position);
             }
@@ -83,7 +74,8 @@ impl CommittedIds {
     /// The position of each of some committed Ids.
     pub(crate) fn positions(&self, alloc: Global, ids: &[Id]) -> Result<Vec<usize>, Memory>
         requires { (x : _) → Contains ids.now x → Contains self.now x }
-        ensures { IfOk result (λ ranks. map (slice_get self.now) ranks.items ≡ map Some ids.now) }
+        ensures { IfOk result (λ positions.
+            map (slice_get self.now) positions.items ≡ map Some ids.now) }
     {
         let mut positions = Vec::with_capacity(alloc, ids.len())?;
         for id in ids {

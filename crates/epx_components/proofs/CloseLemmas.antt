@@ -1,8 +1,7 @@
 -- Closing the open nodes from a position on: the state of a node before and after.
 use Rattle.std.proofs.Common.{◌≡◌, ◌≢◌, ℕ, ◌+◌, ◌-◌, ◌<◌, ◌≤◌, ◌⊎◌, inl, inr, ⊎_elim, List, length}
 use Rattle.std.proofs.Common.{get_or, take, drop, refl, sym, ◌∙◌, ap, arith}
-use Rattle.std.proofs.lemmas.List.{get_or-drop, length-drop}
-use Rattle.std.proofs.lemmas.Bool.{cases_lt}
+use Rattle.epx_types.proofs.Common.{get_or-drop, length-drop, cases_lt}
 use Rattle.epx_components.proofs.StartLemmas.{IsInGroupFrom-take}
 use Rattle.epx_components.specs.inner.SearchInvariants.{IsRow, MayLead}
 use Rattle.epx_components.specs.inner.SearchStates.{visit_of}

@@ -1,11 +1,9 @@
 -- What components collect: step by step, and in terms of what their nodes reach.
-use Rattle.std.proofs.Common.{◌≡◌, ◌≢◌, ◌↔◌, ◌⊎◌, inl, inr, ℕ, zero, suc, ◌+◌, ◌<◌, List, []}
-use Rattle.std.proofs.Common.{◌∷◌, length, get_or, replicate, refl, sym, subst, ◌∙◌, ap, arith}
-use Rattle.std.proofs.Common.{Contains}
-use Rattle.std.proofs.lemmas.Bool.{cases_eq, cases_lt}
-use Rattle.std.proofs.lemmas.List.{get_or_default, get_or_past, get_or-replicate, length-replicate}
-use Rattle.std.proofs.lemmas.List.Elements.{Contains-get_or}
-use Rattle.epx_graph.specs.NodePaths.{IsNodePath, NodeReaches}
+use Rattle.std.proofs.Common.{◌≡◌, ◌≢◌, ◌↔◌, ◌⊎◌, inl, inr, ℕ, zero, suc, ◌+◌, ◌<◌, List, [], ◌∷◌}
+use Rattle.std.proofs.Common.{length, get_or, replicate, refl, sym, subst, ◌∙◌, ap, arith, Contains}
+use Rattle.epx_types.proofs.Common.{cases_eq, cases_lt, get_or_default, get_or_past}
+use Rattle.epx_types.proofs.Common.{get_or-replicate, length-replicate, Contains-get_or}
+use Rattle.epx_graph.proofs.Common.{IsNodePath, NodeReaches}
 use Rattle.epx_components.specs.Collections.{LeadsOut, LeadsDown, AreCollected}
 use Rattle.epx_components.specs.Partitions.{ComponentParts, IsPartition, component_of, node_at}
 use Rattle.epx_components.proofs.NodePathLemmas.{reach_falls, reaches_edge, reaches_itself}

@@ -1,10 +1,8 @@
 -- The depths of components, from those of the components below them.
-use Rattle.std.proofs.Common.{◌≡◌, ◌≢◌, ◌↔◌, inl, inr, ℕ, zero, suc, ◌+◌, ◌-◌, ◌^◌, ◌<◌, ◌≤◌}
-use Rattle.std.proofs.Common.{min, List, [], ◌∷◌, length, get_or, replicate, refl, ap, arith}
-use Rattle.std.proofs.lemmas.Bool.{cases_lt}
-use Rattle.std.proofs.lemmas.List.{get_or_past}
-use Rattle.std.proofs.lemmas.List.Elements.{Contains-get_or}
-use Rattle.epx_graph.specs.NodePaths.{NodeReaches}
+use Rattle.std.proofs.Common.{◌≡◌, ◌≢◌, ◌↔◌, inl, inr, ℕ, zero, suc, ◌+◌, ◌-◌, ◌^◌, ◌<◌, ◌≤◌, min}
+use Rattle.std.proofs.Common.{List, [], ◌∷◌, length, get_or, replicate, refl, ap, arith}
+use Rattle.epx_types.proofs.Common.{cases_lt, get_or_past, Contains-get_or}
+use Rattle.epx_graph.proofs.Common.{NodeReaches}
 use Rattle.epx_components.specs.Collections.{AreCollected}
 use Rattle.epx_components.specs.NodeDepths.{NodeDescends, IsNodeDepth}
 use Rattle.epx_components.specs.Partitions.{ComponentParts, IsPartition, component_of, node_at}

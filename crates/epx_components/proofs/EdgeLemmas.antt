@@ -1,8 +1,8 @@
 -- The invariant of a graph, for its nodes and edges.
 use Rattle.std.proofs.Common.{ℕ, ◌<◌, length, get_or, arith, Contains}
-use Rattle.std.proofs.lemmas.List.Elements.{Contains-get_or}
-use Rattle.epx_graph.specs.Graphs.{DependencyGraph, edges_of, IsGraph}
-use Rattle.epx_graph.proofs.GraphNodeLemmas.{edge_from_committed, edge_within}
+use Rattle.epx_types.proofs.Common.{Contains-get_or}
+use Rattle.epx_graph.proofs.Common.{DependencyGraph, edges_of, IsGraph, edge_from_committed}
+use Rattle.epx_graph.proofs.Common.{edge_within}
 
 -- only nodes have edges
 pub edge_from : (g : DependencyGraph) → IsGraph g → (k j : ℕ) → Contains (edges_of g k) j

@@ -1,8 +1,7 @@
 -- When every node is seen and none is open, the finished components are those of the graph.
 use Rattle.std.proofs.Common.{◌≡◌, ℕ, ◌<◌, ◌≤◌, List, length, get_or, refl, sym, ◌∙◌, ap, arith}
 use Rattle.std.proofs.Common.{Contains}
-use Rattle.std.proofs.lemmas.List.{get_or_default}
-use Rattle.std.proofs.lemmas.List.Elements.{All-from_get_or}
+use Rattle.epx_types.proofs.Common.{get_or_default, All-from_get_or}
 use Rattle.epx_components.proofs.VisitLemmas.{placed_below}
 use Rattle.epx_components.specs.Partitions.{IsPartition}
 use Rattle.epx_components.specs.inner.SearchInvariants.{IsSearch, MayLead}

@@ -1,11 +1,11 @@
 -- The last group becomes a component.
-use Rattle.std.proofs.Common.{◌≡◌, ℕ, ◌+◌, ◌-◌, ◌<◌, ◌≤◌, ◌⊎◌, inl, inr, List, ◌++◌, length}
-use Rattle.std.proofs.Common.{get_or, take, drop, refl, sym, subst, ◌∙◌, ap, arith, length-append}
+use Rattle.std.proofs.Common.{◌≡◌, ℕ, ◌+◌, ◌-◌, ◌<◌, ◌≤◌, ◌⊎◌, inl, inr, List, ◌++◌, length, get_or}
+use Rattle.std.proofs.Common.{take, drop, refl, sym, subst, ◌∙◌, ap, arith, length-append}
 use Rattle.std.proofs.Common.{length-take}
-use Rattle.std.proofs.lemmas.List.{get_or-take, get_or_append_left, get_or-append_right}
-use Rattle.std.proofs.lemmas.List.{get_or-drop, length-drop, get_or_default}
-use Rattle.std.proofs.lemmas.List.Elements.{Contains-append_left, Contains-append_right}
-use Rattle.std.proofs.lemmas.Bool.{cases_lt}
+use Rattle.epx_types.proofs.Common.{get_or-take, get_or_append_left, get_or-drop, length-drop}
+use Rattle.epx_types.proofs.Common.{get_or_default, Contains-append_left, Contains-append_right}
+use Rattle.epx_types.proofs.Common.{cases_lt}
+use Rattle.std.proofs.lemmas.List.{get_or-append_right}
 use Rattle.epx_components.proofs.CloseLemmas.{WasOpen, was_unseen, was_open, was_closed}
 use Rattle.epx_components.proofs.CloseLemmas.{stays_open, is_closed, stays_closed, MayLead-close}
 use Rattle.epx_components.proofs.PathEndLemmas.{rising_last}

@@ -1,10 +1,10 @@
 -- An edge that is looked at, from a node of the last group.
 use Rattle.std.proofs.Common.{◌≡◌, ◌≢◌, ℕ, ◌+◌, ◌<◌, ◌≤◌, List, [], ◌∷◌, ◌++◌, length, get_or, set}
-use Rattle.std.proofs.Common.{refl, sym, subst, ◌∙◌, ap, arith, length-take, zero, suc}
-use Rattle.std.proofs.Common.{Result, Ok, Err, IfOk, OnOk}
-use Rattle.std.proofs.lemmas.List.{get_or-set_same, get_or-set_other, get_or-take, length_push}
-use Rattle.std.proofs.lemmas.List.Elements.{Contains-get_or}
-use Rattle.epx_graph.specs.NodePaths.{NodeReaches}
+use Rattle.std.proofs.Common.{refl, sym, subst, ◌∙◌, ap, arith, length-take, zero, suc, Result, Ok}
+use Rattle.std.proofs.Common.{Err, IfOk, OnOk}
+use Rattle.epx_types.proofs.Common.{get_or-set_same, get_or-set_other, get_or-take, length_push}
+use Rattle.epx_types.proofs.Common.{Contains-get_or}
+use Rattle.epx_graph.proofs.Common.{NodeReaches}
 use Rattle.epx_components.proofs.LookLemmas.{look_keeps}
 use Rattle.epx_components.proofs.GroupMergeLemmas.{cut_keeps}
 use Rattle.epx_components.proofs.NodePathLemmas.{reaches_edge, reaches_on}

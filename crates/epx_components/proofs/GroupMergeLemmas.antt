@@ -1,7 +1,7 @@
 -- The groups from a position on become one.
 use Rattle.std.proofs.Common.{◌≡◌, ℕ, ◌<◌, ◌≤◌, ⊎_elim, List, sym, subst, arith, length-take}
-use Rattle.std.proofs.lemmas.Bool.{cases_lt}
-use Rattle.epx_graph.specs.NodePaths.{NodeReaches}
+use Rattle.epx_types.proofs.Common.{cases_lt}
+use Rattle.epx_graph.proofs.Common.{NodeReaches}
 use Rattle.epx_components.proofs.NodePathLemmas.{reaches_on}
 use Rattle.epx_components.proofs.VisitLemmas.{MayLead-take}
 use Rattle.epx_components.proofs.StartLemmas.{IsInGroupFrom-untake, AreRisingBelow-take}

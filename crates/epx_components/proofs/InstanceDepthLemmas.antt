@@ -1,13 +1,8 @@
 -- The depth of an instance is that of its node.
 use Rattle.std.proofs.Common.{◌≡◌, ℕ, List, [], ◌∷◌, length, slice_get, Some, refl, ◌∙◌, arith}
-use Rattle.std.proofs.lemmas.Option.{slice_get_within}
-use Rattle.epx_types.specs.declared.id.Id.{Id}
-use Rattle.epx_types.specs.Depth.{Descends, IsDepth}
-use Rattle.epx_types.specs.Instances.{Instance}
-use Rattle.epx_graph.specs.Graphs.{DependencyGraph, edges_of}
-use Rattle.epx_graph.specs.GraphOf.{IsGraphOf}
-use Rattle.epx_graph.proofs.GraphNodeLemmas.{node_id, reached_within}
-use Rattle.epx_graph.proofs.MapPathLemmas.{node_reaches, reached_node}
+use Rattle.epx_types.proofs.Common.{slice_get_within, Id, Descends, IsDepth, Instance}
+use Rattle.epx_graph.proofs.Common.{DependencyGraph, edges_of, IsGraphOf, node_id, reached_within}
+use Rattle.epx_graph.proofs.Common.{node_reaches, reached_node}
 use Rattle.epx_components.specs.NodeDepths.{NodeDescends, IsNodeDepth}
 
 module _ (m : List Instance) (g : DependencyGraph) (is : IsGraphOf m g) where

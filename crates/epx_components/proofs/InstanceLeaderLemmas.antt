@@ -1,16 +1,11 @@
 -- The leader of an instance is that of its node.
 use Rattle.std.proofs.Common.{◌≡◌, ℕ, ◌<◌, List, length, slice_get, Some, sym, ap, ◌∙◌, inl, inr}
 use Rattle.std.proofs.Common.{arith}
-use Rattle.std.proofs.lemmas.Bool.{cases_lt}
-use Rattle.epx_types.specs.declared.id.Id.{Id}
-use Rattle.epx_types.specs.Components.{IsLeader}
-use Rattle.epx_types.specs.Instances.{Instance}
-use Rattle.epx_types.proofs.graph.ReachingLemmas.{Reaches-trans}
-use Rattle.epx_types.proofs.graph.ReachingDecisionLemmas.{Reaches-committed}
-use Rattle.epx_graph.specs.Graphs.{DependencyGraph, IsGraph, edges_of}
-use Rattle.epx_graph.specs.GraphOf.{IsGraphOf}
-use Rattle.epx_graph.proofs.GraphNodeLemmas.{reached_within, node_is_unique}
-use Rattle.epx_graph.proofs.MapPathLemmas.{node_committed, node_reaches, node_order, reached_node}
+use Rattle.epx_types.proofs.Common.{cases_lt, Id, IsLeader, Instance, Reaches-trans}
+use Rattle.epx_types.proofs.Common.{Reaches-committed}
+use Rattle.epx_graph.proofs.Common.{DependencyGraph, IsGraph, edges_of, IsGraphOf, reached_within}
+use Rattle.epx_graph.proofs.Common.{node_is_unique, node_committed, node_reaches, node_order}
+use Rattle.epx_graph.proofs.Common.{reached_node}
 use Rattle.epx_components.specs.NodeComponents.{IsNodeLeader}
 
 -- a leader is a node

@@ -2,8 +2,8 @@
 use Rattle.std.proofs.Common.{◌≡◌, ◌≢◌, ℕ, ◌+◌, ◌-◌, ◌<◌, ◌≤◌, inl, inr, ⊎_elim, List, length}
 use Rattle.std.proofs.Common.{get_or, set, take, sym, subst, ◌∙◌, ap, arith, Contains, length-take}
 use Rattle.std.proofs.Common.{length-set}
-use Rattle.std.proofs.lemmas.List.{get_or-take, get_or_default, get_or-set_same, get_or-set_other}
-use Rattle.std.proofs.lemmas.Bool.{cases_eq, cases_lt}
+use Rattle.epx_types.proofs.Common.{get_or-take, get_or_default, get_or-set_same, get_or-set_other}
+use Rattle.epx_types.proofs.Common.{cases_eq, cases_lt}
 use Rattle.epx_components.proofs.VisitLemmas.{placed_below}
 use Rattle.epx_components.proofs.StartLemmas.{AreRisingBelow-take}
 use Rattle.epx_components.specs.inner.SearchInvariants.{IsSearch, MayLead}

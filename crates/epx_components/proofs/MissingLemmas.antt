@@ -1,6 +1,6 @@
 -- The nodes that reach a missing one.
 use Rattle.std.proofs.Common.{◌≡◌, ◌↔◌, ℕ, ◌<◌, ◌≤◌, List, length, refl, sym, arith}
-use Rattle.epx_graph.specs.NodePaths.{NodeReaches}
+use Rattle.epx_graph.proofs.Common.{NodeReaches}
 use Rattle.epx_components.specs.Collections.{AreCollected}
 use Rattle.epx_components.specs.MissingNodes.{ReachesMissing}
 use Rattle.epx_components.specs.Partitions.{ComponentParts, IsPartition, component_of}

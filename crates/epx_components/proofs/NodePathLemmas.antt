@@ -1,7 +1,7 @@
 -- Paths from node to node, and what follows from them about components.
 use Rattle.std.proofs.Common.{◌≡◌, ℕ, ◌<◌, ◌≤◌, List, [], ◌∷◌, ◌++◌, get_or, refl, sym, subst, ap}
 use Rattle.std.proofs.Common.{arith, Contains}
-use Rattle.epx_graph.specs.NodePaths.{IsNodePath, NodeReaches}
+use Rattle.epx_graph.proofs.Common.{IsNodePath, NodeReaches}
 use Rattle.epx_components.specs.Partitions.{EdgesFall}
 
 IsNodePath-append : (edges : ℕ → List ℕ) (k c j : ℕ) (cs ds : List ℕ) → IsNodePath edges k cs c

@@ -2,9 +2,8 @@
 use Rattle.std.proofs.Common.{◌≡◌, ◌<◌, ◌↔◌, ℕ, List, Bool, map, length, get_or, slice_get, Some}
 use Rattle.std.proofs.Common.{sym, subst, ap, ◌∙◌, arith, IsTrue}
 use Rattle.std.proofs.lemmas.List.{get_or-map}
-use Rattle.std.proofs.lemmas.Option.{slice_get_within, get_or_from_slice_get}
-use Rattle.epx_types.proofs.lists.ListPositionLemmas.{slice_get-from_map}
-use Rattle.epx_graph.specs.Graphs.{DependencyGraph, edges_of}
+use Rattle.epx_types.proofs.Common.{slice_get_within, get_or_from_slice_get, slice_get-from_map}
+use Rattle.epx_graph.proofs.Common.{DependencyGraph, edges_of}
 use Rattle.epx_components.specs.declared.node_ranks.NodeRank.{NodeRank}
 use Rattle.epx_components.specs.NodeComponents.{IsNodeLeader}
 use Rattle.epx_components.specs.NodeDepths.{IsNodeDepth}

@@ -1,11 +1,9 @@
 -- A node is opened.
 use Rattle.std.proofs.Common.{◌≡◌, ◌≢◌, ℕ, ◌<◌, ◌≤◌, ◌⊎◌, inl, inr, ⊎_elim, List, [], ◌∷◌, ◌++◌}
-use Rattle.std.proofs.Common.{length, get_or, set, sym, subst, ◌∙◌, ap, arith, Contains}
-use Rattle.std.proofs.Common.{length-set}
-use Rattle.std.proofs.lemmas.List.{get_or-set_same, get_or-set_other, get_or_append_left}
-use Rattle.std.proofs.lemmas.List.{get_or_push, length_push}
-use Rattle.std.proofs.lemmas.List.Elements.{Contains-push, Contains-append_left}
-use Rattle.epx_graph.specs.NodePaths.{NodeReaches}
+use Rattle.std.proofs.Common.{length, get_or, set, sym, subst, ◌∙◌, ap, arith, Contains, length-set}
+use Rattle.epx_types.proofs.Common.{get_or-set_same, get_or-set_other, get_or_append_left}
+use Rattle.epx_types.proofs.Common.{get_or_push, length_push, Contains-push, Contains-append_left}
+use Rattle.epx_graph.proofs.Common.{NodeReaches}
 use Rattle.epx_components.proofs.NodePathLemmas.{reaches_itself}
 use Rattle.epx_components.proofs.VisitLemmas.{MayLead-from, MayLead-push, MayLead-to, set_cases}
 use Rattle.epx_components.proofs.StartLemmas.{IsInGroupFrom-pushed, IsInGroupFrom-unpush}

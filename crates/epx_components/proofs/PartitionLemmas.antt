@@ -1,9 +1,7 @@
 -- Facts of a partition node by node, and after a write for one component.
 use Rattle.std.proofs.Common.{◌≡◌, ◌≢◌, ◌⊎◌, inl, inr, ⊎_elim, ℕ, ◌<◌, List, length, get_or, set}
 use Rattle.std.proofs.Common.{ap, ◌∙◌}
-use Rattle.std.proofs.lemmas.Bool.{cases_eq}
-use Rattle.std.proofs.lemmas.List.{get_or-set_same, get_or-set_other}
-use Rattle.std.proofs.lemmas.List.Elements.{All-get_or}
+use Rattle.epx_types.proofs.Common.{cases_eq, get_or-set_same, get_or-set_other, All-get_or}
 use Rattle.epx_components.specs.Partitions.{ComponentParts, IsPartition, component_of, node_at}
 
 pub node_below : (edges : ℕ → List ℕ) (p : ComponentParts) → IsPartition edges p → (i : ℕ)

@@ -1,7 +1,7 @@
 -- What follows from the last elements of the path and of the starts.
 use Rattle.std.proofs.Common.{◌≡◌, ℕ, ◌-◌, ◌<◌, ◌≤◌, ⊎_elim, List, length, get_or, sym, ◌∙◌, ap}
 use Rattle.std.proofs.Common.{arith}
-use Rattle.std.proofs.lemmas.Bool.{cases_lt}
+use Rattle.epx_types.proofs.Common.{cases_lt}
 use Rattle.epx_components.proofs.VisitLemmas.{placed_below}
 use Rattle.epx_components.specs.inner.SearchInvariants.{IsSearch}
 use Rattle.epx_components.specs.inner.SearchStates.{SearchState, visit_of}

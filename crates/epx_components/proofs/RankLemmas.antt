@@ -1,13 +1,10 @@
 -- Lists of ranks: the element at a position, and one more rank.
 use Rattle.std.proofs.Common.{◌≡◌, ◌&&◌, ℕ, ◌+◌, ◌<◌, List, [], ◌∷◌, ◌++◌, length, take, get_or}
 use Rattle.std.proofs.Common.{slice_get, Some, Bool, true, false, eqb, is_eq, sym, ap, ◌∙◌, arith}
-use Rattle.std.proofs.lemmas.Bool.Decides.{nat_tests}
-use Rattle.std.proofs.lemmas.List.{get_or-map, length-map, map_more}
-use Rattle.std.proofs.lemmas.List.Sums.{count_by_more_no, count_by_more_yes}
-use Rattle.std.proofs.lemmas.Option.{slice_get-get_or}
-use Rattle.epx_types.specs.declared.id.Id.{Id}
-use Rattle.epx_types.specs.ExecutionOrder.{Ranked, ranked_ids, component_count}
-use Rattle.epx_types.specs.Ids.{id_cmp}
+use Rattle.epx_types.proofs.Common.{nat_tests, length-map, count_by_more_no, count_by_more_yes}
+use Rattle.epx_types.proofs.Common.{slice_get-get_or, Id, Ranked, ranked_ids, component_count}
+use Rattle.epx_types.proofs.Common.{id_cmp}
+use Rattle.std.proofs.lemmas.List.{get_or-map, map_more}
 use Rattle.epx_types.proofs.lists.ListPositionLemmas.{slice_get-map}
 use Rattle.epx_components.specs.Ranks.{ranked, ranked_all}
 use Rattle.epx_components.specs.declared.rank.Rank.{Rank}

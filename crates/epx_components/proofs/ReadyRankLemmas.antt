@@ -1,18 +1,10 @@
 -- The rank of a ready instance, from the rank of its node.
 use Rattle.std.proofs.Common.{◌≡◌, ℕ, ◌<◌, List, slice_get, Some, Contains, refl, sym, ap, ◌∙◌}
 use Rattle.std.proofs.Common.{subst, IsTrue, arith}
-use Rattle.epx_types.specs.declared.id.Id.{Id}
-use Rattle.epx_types.specs.ExecutionOrder.{IsRanked}
-use Rattle.epx_types.specs.Ids.{IsRising}
-use Rattle.epx_types.specs.Instances.{Instance}
-use Rattle.epx_types.proofs.committed.AgreementLemmas.{instance_of_iff}
-use Rattle.epx_types.specs.Done.{without_deps, remaining}
-use Rattle.epx_types.proofs.remaining.RemainingLemmas.{Contains-remaining_iff}
-use Rattle.epx_types.proofs.remaining.RemainingPositionLemmas.{Contains-left}
-use Rattle.epx_graph.specs.Graphs.{DependencyGraph}
-use Rattle.epx_graph.specs.GraphOf.{IsGraphOf}
-use Rattle.epx_graph.proofs.GraphNodeLemmas.{node_id}
-use Rattle.epx_graph.proofs.MapPathLemmas.{node_committed, node_instance}
+use Rattle.epx_types.proofs.Common.{Id, IsRanked, IsRising, Instance, instance_of_iff, without_deps}
+use Rattle.epx_types.proofs.Common.{remaining, Contains-remaining_iff, Contains-left}
+use Rattle.epx_graph.proofs.Common.{DependencyGraph, IsGraphOf, node_id, node_committed}
+use Rattle.epx_graph.proofs.Common.{node_instance}
 use Rattle.epx_components.proofs.InstanceDepthLemmas.{depth_from_node}
 use Rattle.epx_components.proofs.InstanceLeaderLemmas.{leader_from_node}
 use Rattle.epx_components.proofs.ReadyNodeLemmas.{ready_from_node}

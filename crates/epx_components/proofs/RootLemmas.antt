@@ -1,8 +1,7 @@
 -- A node that was seen already, and the search from a node.
 use Rattle.std.proofs.Common.{◌≡◌, ◌≢◌, ℕ, ◌+◌, ◌<◌, ⊎_elim, List, length, sym, subst, ◌∙◌, arith}
 use Rattle.std.proofs.Common.{set}
-use Rattle.std.proofs.lemmas.Bool.{cases_eq}
-use Rattle.std.proofs.lemmas.List.{get_or-set_same}
+use Rattle.epx_types.proofs.Common.{cases_eq, get_or-set_same}
 use Rattle.epx_components.proofs.OpenLemmas.{enter_keeps}
 use Rattle.epx_components.specs.inner.SearchInvariants.{IsSearch}
 use Rattle.epx_components.specs.inner.SearchStates.{SearchState, visit_of}

@@ -1,9 +1,8 @@
 -- Rising lists of starts, and the positions from a group on, after starts are added or cut.
 use Rattle.std.proofs.Common.{◌≡◌, ℕ, ◌<◌, ◌≤◌, ⊎_elim, List, [], ◌∷◌, ◌++◌, length, get_or, take}
 use Rattle.std.proofs.Common.{refl, sym, subst, ◌∙◌, arith, length-take}
-use Rattle.std.proofs.lemmas.List.{get_or-take, get_or_append_left, get_or_push, length_push}
-use Rattle.std.proofs.lemmas.List.{get_or_past}
-use Rattle.std.proofs.lemmas.Bool.{cases_lt}
+use Rattle.epx_types.proofs.Common.{get_or-take, get_or_append_left, get_or_push, length_push}
+use Rattle.epx_types.proofs.Common.{get_or_past, cases_lt}
 use Rattle.epx_components.specs.inner.Starts.{IsInGroupFrom, AreRisingBelow}
 
 -- an element of a list with one more at its end

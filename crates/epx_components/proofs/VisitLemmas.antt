@@ -1,8 +1,8 @@
 -- States of nodes: after a write, and where edges lead after the groups change.
 use Rattle.std.proofs.Common.{◌≡◌, ◌≢◌, ℕ, ◌<◌, ◌≤◌, ◌⊎◌, inl, inr, ⊎_elim, List, [], ◌∷◌, ◌++◌}
 use Rattle.std.proofs.Common.{length, set, take, refl, ◌∙◌, ap}
-use Rattle.std.proofs.lemmas.List.{get_or-set_same, get_or-set_other, get_or_past}
-use Rattle.std.proofs.lemmas.Bool.{cases_eq, cases_lt}
+use Rattle.epx_types.proofs.Common.{get_or-set_same, get_or-set_other, get_or_past, cases_eq}
+use Rattle.epx_types.proofs.Common.{cases_lt}
 use Rattle.epx_components.proofs.StartLemmas.{IsInGroupFrom-push, IsInGroupFrom-take}
 use Rattle.epx_components.specs.inner.SearchInvariants.{MayLead}
 use Rattle.epx_components.specs.inner.Starts.{IsInGroupFrom}

@@ -1,9 +1,7 @@
 -- What the reads of a source deliver, as its bytes are known or its file is opened.
-use Rattle.std.proofs.Common.{◌≡◌, ℕ, List, [], ◌∷◌, ◌++◌, ◌<◌, flat_map, Option, None, Some}
-use Rattle.std.proofs.Common.{refl, sym}
-use Rattle.std.proofs.Common.{subst, ap, ◌∙◌, append-nil, append_assoc}
-use Rattle.std.specs.Prelude.{MatchOption}
-use Rattle.std.specs.Io.KnownBytes.{Consumes}
+use Rattle.std.proofs.Common.{◌≡◌, ℕ, List, [], ◌∷◌, ◌++◌, ◌<◌, flat_map, Option, None, Some, refl}
+use Rattle.std.proofs.Common.{sym, subst, ap, ◌∙◌, append-nil, append_assoc, MatchOption}
+use Rattle.epx_types.proofs.Common.{Consumes}
 use Rattle.epx_devices.specs.Deliveries.{ReadStep, AreReads}
 use Rattle.epx_devices.specs.DeliveryLaws.{AllAreReturned, AllAreTheKnown, DeliversOpened}
 use Rattle.epx_devices.specs.DeliveryLaws.{FileReturnsAll, PathDeliversOpened}

@@ -1,8 +1,7 @@
 -- The known bytes of a device after several calls.
 use Rattle.std.proofs.Common.{◌≡◌, ℕ, ◌+◌, List, ◌++◌, take, drop, Option, None, Some, sym, arith}
-use Rattle.std.proofs.lemmas.Grind.{common_steps}
+use Rattle.epx_types.proofs.Common.{common_steps, Appends, Consumes}
 use Rattle.std.proofs.Math.Seq.{take-add}
-use Rattle.std.specs.Io.KnownBytes.{Appends, Consumes}
 
 pub Consumes-trans : (a b c : Option (List ℕ)) (xs ys : List ℕ) → Consumes a b xs → Consumes b c ys
     → Consumes a c (xs ++ ys)

@@ -1,18 +1,16 @@
 -- The loop invariants of the two transfers.
-use Rattle.std.proofs.Common.{◌≡◌, ℕ, ◌+◌, ◌-◌, ◌≤◌, Bool, false, List, [], ◌∷◌, ◌++◌, length}
-use Rattle.std.proofs.Common.{take, drop, flat_map, Option, refl, sym, ap, ◌∙◌, subst, arith}
-use Rattle.std.proofs.Common.{append-nil, true, None, Some, Ok, Err, rules}
-use Rattle.std.specs.Prelude.{IfSome, MatchResult, Result}
-use Rattle.std.proofs.lemmas.Grind.{common_steps, flat_map-append}
-use Rattle.epx_types.specs.declared.fault.Fault.{Fault}
-use Rattle.epx_types.specs.declared.fault.Fault.TheVariants.{Memory, LogTooLong}
-use Rattle.epx_types.specs.Limits.{max_log_bytes}
+use Rattle.std.proofs.Common.{◌≡◌, ℕ, ◌+◌, ◌-◌, ◌≤◌, Bool, false, List, [], ◌∷◌, ◌++◌, length, take}
+use Rattle.std.proofs.Common.{drop, flat_map, Option, refl, sym, ap, ◌∙◌, subst, arith, append-nil}
+use Rattle.std.proofs.Common.{true, None, Some, Ok, Err, rules, IfSome, Result}
+use Rattle.epx_types.proofs.Common.{MatchResult, common_steps, Fault, LogTooLong, max_log_bytes}
+use Rattle.epx_types.proofs.Common.{Appends, Consumes, IsAtEnd}
+use Rattle.std.proofs.lemmas.Grind.{flat_map-append}
+use Rattle.epx_types.specs.declared.fault.Fault.TheVariants.{Memory}
 use Rattle.epx_devices.specs.Deliveries.{ReadStep, AreReads, Delivers}
 use Rattle.epx_devices.specs.declared.transfer.LogPart.{LogPart}
 use Rattle.epx_devices.specs.LogParts.{EndsLog, EndsPart, IsFrontOfLog, IsReadUpTo}
 use Rattle.epx_devices.specs.Models.{SinkModel, SourceModel}
 use Rattle.epx_devices.proofs.KnownBytesLemmas.{Appends-trans, Consumes-trans, take-more}
-use Rattle.std.specs.Io.KnownBytes.{Appends, Consumes, IsAtEnd}
 
 -- the sink has accepted the first n bytes, and no further call has failed
 pub record IsWritten {S : Type 0} (D : SinkModel S) (first now : S) (bytes : List ℕ) (n : ℕ) : Type

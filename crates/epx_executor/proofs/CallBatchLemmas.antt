@@ -1,19 +1,11 @@
 -- A call that looks at a part of the pending instances executes what is ready of all.
-use Rattle.std.proofs.Common.{◌≡◌, ◌⊎◌, ◌↔◌, ℕ, List, map, Contains}
-use Rattle.std.proofs.Common.{Option, None, Some, IfSome, sym, ◌∙◌, subst, inl, inr}
-use Rattle.epx_types.specs.declared.id.Id.{Id}
-use Rattle.epx_types.specs.declared.fault.Fault.{Fault}
-use Rattle.epx_types.specs.CommittedMap.{ids_of}
-use Rattle.epx_types.specs.Done.{remaining}
-use Rattle.epx_types.specs.ExecutionOrder.{Ranked, ranked_ids}
-use Rattle.epx_types.specs.Ids.{IsRising}
-use Rattle.epx_types.specs.Instances.{Instance}
-use Rattle.epx_types.specs.Readiness.{IsReady, WaitsFor}
-use Rattle.epx_types.specs.WaitingLists.{Waiting, waiting_ids}
-use Rattle.epx_types.proofs.graph.WaitingLemmas.{Contains-Id_cases, IsReady-from_no_wait}
-use Rattle.epx_types.proofs.lists.MembershipLemmas.{Contains-map, Contains-from_map}
-use Rattle.epx_types.proofs.orders.ExecutionOrderLemmas.{IsExecutionOrder-IsLawful}
-use Rattle.epx_types.proofs.remaining.RemainingLemmas.{Contains-remaining_iff, IsRising-remaining}
+use Rattle.std.proofs.Common.{◌≡◌, ◌⊎◌, ◌↔◌, ℕ, List, Contains, Option, None, Some, IfSome}
+use Rattle.std.proofs.Common.{sym, ◌∙◌, subst, inl, inr}
+use Rattle.epx_types.proofs.Common.{Id, Fault, ids_of, remaining, Ranked, ranked_ids, IsRising}
+use Rattle.epx_types.proofs.Common.{Instance, IsReady, WaitsFor, Waiting, waiting_ids}
+use Rattle.epx_types.proofs.Common.{Contains-Id_cases, IsReady-from_no_wait, Contains-map}
+use Rattle.epx_types.proofs.Common.{Contains-from_map, IsExecutionOrder-IsLawful}
+use Rattle.epx_types.proofs.Common.{Contains-remaining_iff, IsRising-remaining}
 use Rattle.epx_committed.specs.MergedLines.{IsMerged, IsMergeFault}
 use Rattle.epx_executor.specs.declared.choose.Choice.{Choice}
 use Rattle.epx_executor.specs.CallLines.{call_lines}

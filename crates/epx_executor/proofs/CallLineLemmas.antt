@@ -1,24 +1,14 @@
 -- The lines of a call, and the map that they commit.
-use Rattle.std.proofs.Common.{◌≡◌, ◌<◌, ◌≤◌, ◌+◌, ◌↔◌, ◌⊎◌, Bool, true, not, ℕ, suc, List, []}
-use Rattle.std.proofs.Common.{◌∷◌, ◌++◌, length, filter, get_or, take, Contains, ap, ◌∙◌}
-use Rattle.std.proofs.Common.{sym, subst, inl, inr, arith, length-take}
-use Rattle.std.proofs.lemmas.Bool.{cases_Bool}
-use Rattle.std.proofs.lemmas.Bool.Decides.{nat_tests}
-use Rattle.std.proofs.lemmas.List.{length-map, take_more}
-use Rattle.std.proofs.lemmas.List.Elements.{Contains-append_cases, Contains-append_left}
-use Rattle.std.proofs.lemmas.List.Elements.{Contains-append_right}
-use Rattle.epx_types.specs.declared.id.Id.{Id}
-use Rattle.epx_types.specs.declared.place.Place.{Place}
-use Rattle.epx_types.specs.CommittedMap.{ids_of}
-use Rattle.epx_types.specs.Done.{is_among}
-use Rattle.epx_types.specs.Instances.{Instance}
-use Rattle.epx_types.specs.Limits.{max_instances}
-use Rattle.epx_types.specs.PlacedLines.{Placed, Earlier}
-use Rattle.epx_types.proofs.lists.MembershipLemmas.{Contains-nil, Contains-head, Contains-cons}
-use Rattle.epx_types.proofs.lists.MembershipLemmas.{Contains-cons_cases}
-use Rattle.epx_types.proofs.lists.MembershipLemmas.{Contains-from_map, Contains-filter}
-use Rattle.epx_types.proofs.lists.MembershipLemmas.{Contains-from_filter, passes-from_filter}
-use Rattle.epx_types.proofs.remaining.RemainingLemmas.{not_among}
+use Rattle.std.proofs.Common.{◌≡◌, ◌<◌, ◌≤◌, ◌+◌, ◌↔◌, ◌⊎◌, Bool, true, not, ℕ, suc, List, [], ◌∷◌}
+use Rattle.std.proofs.Common.{◌++◌, length, filter, get_or, take, Contains, ap, ◌∙◌, sym, subst}
+use Rattle.std.proofs.Common.{inl, inr, arith, length-take}
+use Rattle.epx_types.proofs.Common.{cases_Bool, nat_tests, length-map, take_more}
+use Rattle.epx_types.proofs.Common.{Contains-append_cases, Contains-append_left}
+use Rattle.epx_types.proofs.Common.{Contains-append_right, Id, Place, ids_of, is_among, Instance}
+use Rattle.epx_types.proofs.Common.{max_instances, Placed, Earlier, Contains-nil, Contains-head}
+use Rattle.epx_types.proofs.Common.{Contains-cons, Contains-cons_cases, Contains-from_map}
+use Rattle.epx_types.proofs.Common.{Contains-filter, Contains-from_filter, passes-from_filter}
+use Rattle.epx_types.proofs.Common.{not_among}
 use Rattle.epx_committed.specs.LineOrder.{IsSortedByPlace}
 use Rattle.epx_committed.specs.MergedLines.{IsMerged}
 use Rattle.epx_committed.proofs.InstanceCountLemmas.{named_ids_are_committed}

@@ -1,21 +1,13 @@
 -- Pending instances that cannot be ready yet.
-use Rattle.std.proofs.Common.{◌≡◌, ◌⊎◌, ◌↔◌, ◌+◌, ◌<◌, ◌≤◌, ℕ, List, [], ◌∷◌, ◌++◌, length}
-use Rattle.std.proofs.Common.{get_or, take, map, Contains, sym, subst, inl, inr}
-use Rattle.std.proofs.lemmas.List.{take_all, take_more}
-use Rattle.std.proofs.lemmas.List.Elements.{Contains-append_cases, Contains-append_right}
-use Rattle.epx_types.specs.declared.id.Id.{Id}
-use Rattle.epx_types.specs.CommittedMap.{ids_of, IsCommitted}
-use Rattle.epx_types.specs.Done.{remaining}
-use Rattle.epx_types.specs.Instances.{Instance}
-use Rattle.epx_types.specs.Limits.{max_instances}
-use Rattle.epx_types.specs.Reaching.{DependsOn, Reaches}
-use Rattle.epx_types.specs.Readiness.{IsReady}
-use Rattle.epx_types.proofs.graph.ReachingLemmas.{Reaches-trans, Reaches-dependency}
-use Rattle.epx_types.proofs.graph.ReachingLemmas.{IsReady-reached}
-use Rattle.epx_types.proofs.lists.MembershipLemmas.{Contains-nil, Contains-head, Contains-map}
-use Rattle.epx_types.proofs.lists.MembershipLemmas.{Contains-cons_cases, Contains-from_map}
-use Rattle.epx_types.proofs.remaining.RemainingLemmas.{Contains-remaining_iff, DependsOn-remaining}
-use Rattle.epx_types.proofs.remaining.RemainingLemmas.{is_among_cases}
+use Rattle.std.proofs.Common.{◌≡◌, ◌⊎◌, ◌↔◌, ◌+◌, ◌<◌, ◌≤◌, ℕ, List, [], ◌∷◌, ◌++◌, length, get_or}
+use Rattle.std.proofs.Common.{take, map, Contains, sym, subst, inl, inr}
+use Rattle.epx_types.proofs.Common.{take_all, take_more, Contains-append_cases}
+use Rattle.epx_types.proofs.Common.{Contains-append_right, Id, ids_of, IsCommitted, remaining}
+use Rattle.epx_types.proofs.Common.{Instance, max_instances, DependsOn, Reaches, IsReady}
+use Rattle.epx_types.proofs.Common.{Reaches-trans, Reaches-dependency, IsReady-reached}
+use Rattle.epx_types.proofs.Common.{Contains-nil, Contains-head, Contains-map, Contains-cons_cases}
+use Rattle.epx_types.proofs.Common.{Contains-from_map, Contains-remaining_iff, DependsOn-remaining}
+use Rattle.epx_types.proofs.Common.{is_among_cases}
 use Rattle.epx_executor.specs.inner.Choices.{AgreesWith, AreBlocked, AreFiledIn, IsBlockedIn}
 use Rattle.epx_executor.specs.inner.Choices.{IsChoice, IsNeededBy, IsSortedOut, IsUnion}
 use Rattle.epx_executor.specs.inner.Choices.{NeedsMissing}

@@ -1,28 +1,13 @@
 -- What a commit comes to.
 use Rattle.std.proofs.Common.{◌≡◌, ◌⊎◌, ◌↔◌, ◌≤◌, ◌^◌, ℕ, zero, suc, List, [], ◌∷◌, map, zip}
-use Rattle.std.proofs.Common.{length, arith}
-use Rattle.std.proofs.Common.{Contains, slice_get, Option, None, Some, refl, sym, ap, ◌∙◌, subst}
-use Rattle.std.proofs.Common.{inl}
-use Rattle.std.proofs.Common.{inr}
-use Rattle.std.proofs.lemmas.List.{length-map}
-use Rattle.epx_types.specs.declared.id.Id.{Id}
-use Rattle.epx_types.specs.declared.op.Op.{Op}
-use Rattle.epx_types.specs.declared.reply.Reply.{Reply}
-use Rattle.epx_types.specs.CommittedMap.{ids_of, instance_of, ops_or_empty}
-use Rattle.epx_types.specs.Contents.{Contents}
-use Rattle.epx_types.specs.Execution.{execute}
-use Rattle.epx_types.specs.Done.{remaining}
-use Rattle.epx_types.specs.ExecutionOrder.{Ranked, ranked_ids, IsExecutionOrder}
-use Rattle.epx_types.specs.Ids.{IsRising}
-use Rattle.epx_types.specs.Instances.{Instance}
-use Rattle.epx_types.specs.Readiness.{IsReady}
-use Rattle.epx_types.specs.Sound.{HasRemaining}
-use Rattle.epx_types.specs.WaitingLists.{Waiting}
-use Rattle.epx_types.proofs.committed.AgreementLemmas.{IsRising-same}
-use Rattle.epx_types.proofs.orders.ExecutionOrderLemmas.{IsExecutionOrder-IsLawful}
-use Rattle.epx_types.proofs.remaining.RemainingLemmas.{Contains-remaining_iff, IsRising-remaining}
-use Rattle.epx_types.proofs.remaining.ResumedMapLemmas.{IsReady-in_whole}
-use Rattle.epx_types.proofs.graph.ReachingLemmas.{IsReady-reached}
+use Rattle.std.proofs.Common.{length, arith, Contains, slice_get, Option, None, Some, refl, sym, ap}
+use Rattle.std.proofs.Common.{◌∙◌, subst, inl, inr}
+use Rattle.epx_types.proofs.Common.{length-map, Id, Op, Reply, ids_of, instance_of, ops_or_empty}
+use Rattle.epx_types.proofs.Common.{Contents, execute, remaining, Ranked, ranked_ids}
+use Rattle.epx_types.proofs.Common.{IsExecutionOrder, IsRising, Instance, IsReady, HasRemaining}
+use Rattle.epx_types.proofs.Common.{Waiting, IsRising-same, IsExecutionOrder-IsLawful}
+use Rattle.epx_types.proofs.Common.{Contains-remaining_iff, IsRising-remaining, IsReady-in_whole}
+use Rattle.epx_types.proofs.Common.{IsReady-reached}
 use Rattle.epx_laws.specs.DoneLaws.{RemainingIsReadyAlike}
 use Rattle.epx_laws.specs.ResumedRunLaws.{CanResume, run_on}
 use Rattle.epx_executor.specs.declared.choose.Choice.{Choice}

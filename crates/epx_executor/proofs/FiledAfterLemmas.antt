@@ -1,18 +1,10 @@
 -- What is filed after a call waits there.
-use Rattle.std.proofs.Common.{◌≡◌, ◌⊎◌, ℕ, List, [], Contains, Option, None, Some, IfSome}
-use Rattle.std.proofs.Common.{sym, subst, inl, inr}
-use Rattle.epx_types.specs.declared.id.Id.{Id}
-use Rattle.epx_types.specs.CommittedMap.{ids_of, IsCommitted}
-use Rattle.epx_types.specs.Done.{remaining}
-use Rattle.epx_types.specs.ExecutionOrder.{Ranked, ranked_ids}
-use Rattle.epx_types.specs.Instances.{Instance}
-use Rattle.epx_types.specs.Reaching.{Reaches}
-use Rattle.epx_types.specs.Readiness.{IsReady}
-use Rattle.epx_types.specs.WaitingLists.{Waiting, waiting_ids}
-use Rattle.epx_types.proofs.graph.ReachingLemmas.{IsReady-reached}
-use Rattle.epx_types.proofs.lists.MembershipLemmas.{Contains-nil, Contains-map, Contains-from_map}
-use Rattle.epx_types.proofs.orders.ExecutionOrderLemmas.{IsExecutionOrder-IsLawful}
-use Rattle.epx_types.proofs.remaining.RemainingLemmas.{Contains-remaining_iff}
+use Rattle.std.proofs.Common.{◌≡◌, ◌⊎◌, ℕ, List, [], Contains, Option, None, Some, IfSome, sym}
+use Rattle.std.proofs.Common.{subst, inl, inr}
+use Rattle.epx_types.proofs.Common.{Id, ids_of, IsCommitted, remaining, Ranked, ranked_ids}
+use Rattle.epx_types.proofs.Common.{Instance, Reaches, IsReady, Waiting, waiting_ids}
+use Rattle.epx_types.proofs.Common.{IsReady-reached, Contains-nil, Contains-map, Contains-from_map}
+use Rattle.epx_types.proofs.Common.{IsExecutionOrder-IsLawful, Contains-remaining_iff}
 use Rattle.epx_executor.specs.declared.choose.Choice.{Choice}
 use Rattle.epx_executor.specs.inner.Batches.{IsCallBatch}
 use Rattle.epx_executor.specs.inner.Choices.{AreFiledIn, CanRefile, IsBlockedIn, IsChoice}

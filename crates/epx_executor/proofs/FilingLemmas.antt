@@ -2,24 +2,16 @@
 use Rattle.std.proofs.Common.{◌≡◌, ◌⊎◌, ◌↔◌, ℕ, zero, suc, ◌+◌, ◌<◌, ◌≤◌, List, [], ◌∷◌, ◌++◌}
 use Rattle.std.proofs.Common.{length, get_or, Contains, All, refl, sym, ap, subst, inl, inr, ◌∙◌}
 use Rattle.std.proofs.Common.{arith, false}
-use Rattle.std.specs.List.{IsDistinct}
+use Rattle.epx_types.proofs.Common.{IsDistinct, eq_by_cmp, keys_of, cases_Bool, get_or_default}
+use Rattle.epx_types.proofs.Common.{Contains-from_any, list_any-from_Contains, Id, id_cmp, Id-cases}
+use Rattle.epx_types.proofs.Common.{id_cmp_total, id_cmp-IsAntisymmetric, Contains-cons_cases}
+use Rattle.epx_types.proofs.Common.{Contains-map, Contains-from_map, Contains-nil}
 use Rattle.std.specs.Cmp.{eq_by_cmp_equiv}
-use Rattle.std.specs.Ordering.{eq_by_cmp}
-use Rattle.std.specs.Map.{keys_of}
-use Rattle.std.proofs.lemmas.Bool.{cases_Bool}
-use Rattle.std.proofs.lemmas.List.{get_or_default}
 use Rattle.std.proofs.lemmas.List.Elements.{recursion_from_All}
 use Rattle.std.proofs.lemmas.Map.Entries.{length-keys_of}
 use Rattle.std.proofs.lemmas.Map.Keys.{IsDistinct-cons}
 use Rattle.std.proofs.lemmas.Map.Made.{length-le_from_is_member}
-use Rattle.std.proofs.lemmas.Map.Views.{Contains-from_any, list_any-from_Contains}
 use Rattle.std.proofs.lemmas.Map.Views.{tells_apart}
-use Rattle.epx_types.specs.declared.id.Id.{Id}
-use Rattle.epx_types.specs.Ids.{id_cmp}
-use Rattle.epx_types.proofs.graph.WaitingLemmas.{Id-cases}
-use Rattle.epx_types.proofs.lists.ComparisonLemmas.{id_cmp_total, id_cmp-IsAntisymmetric}
-use Rattle.epx_types.proofs.lists.MembershipLemmas.{Contains-cons_cases, Contains-map}
-use Rattle.epx_types.proofs.lists.MembershipLemmas.{Contains-from_map, Contains-nil}
 use Rattle.epx_executor.specs.inner.Filings.{AreFilings, Filings, IsBehind, IsBlockedBy, IsFiled}
 use Rattle.epx_executor.specs.inner.Filings.{IsWay}
 
@@ -73,13 +65,6 @@ pub IsBehind-more : (filings more : Filings)
     → IsBehind filings x y → IsBehind more x y
 IsBehind-more filings more whole x y h =
     (h.0, IsWay-more filings more whole x h.0 y h.1)
-
--- who waits is filed
-pub IsFiled-from_behind : (filings : Filings) (x y : Id) → IsBehind filings x y → IsFiled filings x
-IsFiled-from_behind filings x y h = by h.0 h.1 where
-  by : (via : List Id) → IsWay filings x via y → IsFiled filings x
-  by [] way = IsFiled-under filings x y way
-  by (z ∷ via) way = IsFiled-under filings x z way.0
 
 -- a set of Ids with all that is filed under its members has all that waits behind them
 pub closed_under_behind : (filings : Filings) (P Q : Id → Type 0)

@@ -1,20 +1,15 @@
 -- Filings as the entries of a map, and the lists of what is filed under each Id.
-use Rattle.std.proofs.Common.{◌≡◌, ◌⊎◌, ◌↔◌, List, [], ◌∷◌}
-use Rattle.std.proofs.Common.{length, Contains, refl, sym, ap, subst, inl, inr, ◌∙◌}
-use Rattle.std.proofs.Common.{arith, Some, None, Option, Bool, true, false, cond}
+use Rattle.std.proofs.Common.{◌≡◌, ◌⊎◌, ◌↔◌, List, [], ◌∷◌, length, Contains, refl, sym, ap, subst}
+use Rattle.std.proofs.Common.{inl, inr, ◌∙◌, arith, Some, None, Option, Bool, true, false, cond}
+use Rattle.std.proofs.Common.{Vec}
 use Rattle.std.specs.List.{items_where_true}
 use Rattle.std.specs.List.Retain.{IsFiltered, ReturnsInTurn}
 use Rattle.std.specs.Option.{MatchOption, is_some}
-use Rattle.std.specs.Prelude.{Vec}
-use Rattle.std.specs.BTreeMap.{BTreeMap, IsOrdered, Updates, get, is_at}
-use Rattle.std.proofs.lemmas.Bool.{cases_Bool}
+use Rattle.epx_types.proofs.Common.{BTreeMap, IsOrdered, get, is_at, cases_Bool, Id, id_cmp}
+use Rattle.epx_types.proofs.Common.{Id-cases, id_cmp_total, id_cmp-IsAntisymmetric, Contains-nil}
+use Rattle.epx_types.proofs.Common.{Contains-head, Contains-cons, Contains-cons_cases}
+use Rattle.std.specs.BTreeMap.{Updates}
 use Rattle.std.proofs.lemmas.Map.Views.{btree_map_get_iff, tells_apart}
-use Rattle.epx_types.specs.declared.id.Id.{Id}
-use Rattle.epx_types.specs.Ids.{id_cmp}
-use Rattle.epx_types.proofs.graph.WaitingLemmas.{Id-cases}
-use Rattle.epx_types.proofs.lists.ComparisonLemmas.{id_cmp_total, id_cmp-IsAntisymmetric}
-use Rattle.epx_types.proofs.lists.MembershipLemmas.{Contains-nil, Contains-head, Contains-cons}
-use Rattle.epx_types.proofs.lists.MembershipLemmas.{Contains-cons_cases}
 use Rattle.epx_executor.specs.inner.Filings.{AreListedUnder, Filings, IsFiled, IsListed}
 use Rattle.epx_executor.proofs.FilingLemmas.{IsFiled-under, filed_under}
 

@@ -1,21 +1,16 @@
 -- What a search from Id to Id finds.
-use Rattle.std.proofs.Common.{◌≡◌, ◌⊎◌, ◌↔◌, ℕ, ◌+◌, ◌<◌, ◌≤◌, List, [], ◌∷◌, ◌++◌}
-use Rattle.std.proofs.Common.{length, get_or, take, Contains, refl, sym, ap, subst, inl, inr, ◌∙◌}
-use Rattle.std.proofs.Common.{arith, Bool, true, false, cond, not, IsTrue}
+use Rattle.std.proofs.Common.{◌≡◌, ◌⊎◌, ◌↔◌, ℕ, ◌+◌, ◌<◌, ◌≤◌, List, [], ◌∷◌, ◌++◌, length, get_or}
+use Rattle.std.proofs.Common.{take, Contains, refl, sym, ap, subst, inl, inr, ◌∙◌, arith, Bool}
+use Rattle.std.proofs.Common.{true, false, cond, not, IsTrue}
 use Rattle.std.specs.BTreeSet as sorted
 use Rattle.std.specs.BTreeSet.{BTreeSet}
-use Rattle.std.proofs.lemmas.List.{append-nil, append_assoc, length-append}
-use Rattle.std.proofs.lemmas.List.{take-append-le, take_all, take_more}
-use Rattle.std.proofs.lemmas.List.Elements.{Contains-append_cases, Contains-append_left}
-use Rattle.std.proofs.lemmas.List.Elements.{Contains-append_right}
+use Rattle.epx_types.proofs.Common.{append-nil, append_assoc, length-append, take-append-le}
+use Rattle.epx_types.proofs.Common.{take_all, take_more, Contains-append_cases}
+use Rattle.epx_types.proofs.Common.{Contains-append_left, Contains-append_right, Id, id_cmp}
+use Rattle.epx_types.proofs.Common.{Id-cases, id_cmp_total, id_cmp-IsAntisymmetric}
+use Rattle.epx_types.proofs.Common.{Contains-cons_cases, Contains-head, Contains-nil}
 use Rattle.std.proofs.lemmas.Map.Keys.{IsDistinct-from_sorted}
 use Rattle.std.proofs.lemmas.Map.Views.{btree_set_contains_iff}
-use Rattle.epx_types.specs.declared.id.Id.{Id}
-use Rattle.epx_types.specs.Ids.{id_cmp}
-use Rattle.epx_types.proofs.graph.WaitingLemmas.{Id-cases}
-use Rattle.epx_types.proofs.lists.ComparisonLemmas.{id_cmp_total, id_cmp-IsAntisymmetric}
-use Rattle.epx_types.proofs.lists.MembershipLemmas.{Contains-cons_cases, Contains-head}
-use Rattle.epx_types.proofs.lists.MembershipLemmas.{Contains-nil}
 use Rattle.epx_executor.specs.inner.Filings.{AreAppended, AreSeen, Filings, IsBehind}
 use Rattle.epx_executor.specs.inner.Filings.{IsFiled}
 use Rattle.epx_executor.proofs.FilingLemmas.{IsFiled-under, closed_under_behind}

@@ -2,10 +2,8 @@
 use Rattle.std.proofs.Common.{◌≡◌, ℕ, ◌+◌, ◌<◌, Bool, true, false, List, [], ◌∷◌, ◌++◌, length}
 use Rattle.std.proofs.Common.{get_or, take, filter, flat_map, Contains, ◌&&◌, refl, ap, ◌∙◌, inl}
 use Rattle.std.proofs.Common.{inr}
-use Rattle.std.proofs.lemmas.Bool.{cases_Bool}
-use Rattle.epx_types.proofs.lists.MembershipLemmas.{Contains-head, Contains-cons}
-use Rattle.std.proofs.lemmas.List.{append-nil, take_more}
-use Rattle.std.proofs.lemmas.List.Elements.{filter-append}
+use Rattle.epx_types.proofs.Common.{cases_Bool, Contains-head, Contains-cons, append-nil, take_more}
+use Rattle.epx_types.proofs.Common.{filter-append}
 use Rattle.std.proofs.lemmas.Grind.{flat_map-append}
 
 module _ {X : Type 0} (p : X → Bool) (xs : List X) (k : ℕ) (d : X) (l : k < length xs) where

@@ -1,17 +1,9 @@
 -- The calls of an executor, one after another.
-use Rattle.std.proofs.Common.{◌≡◌, ◌⊎◌, ◌↔◌, ℕ, List, [], ◌∷◌, Contains, slice_get, Some}
-use Rattle.std.proofs.Common.{refl, sym, subst, inl, inr}
-use Rattle.epx_types.specs.declared.id.Id.{Id}
-use Rattle.epx_types.specs.declared.reply.Reply.{Reply}
-use Rattle.epx_types.specs.CommittedMap.{ids_of}
-use Rattle.epx_types.specs.Conflicts.{IsCovered}
-use Rattle.epx_types.specs.ExecutionOrder.{Ranked, IsExecutionOrder}
-use Rattle.epx_types.specs.Ids.{IsRising}
-use Rattle.epx_types.specs.Instances.{Instance}
-use Rattle.epx_types.specs.Readiness.{IsReady}
-use Rattle.epx_types.proofs.lists.MembershipLemmas.{Contains-nil, Contains-head, Contains-cons}
-use Rattle.epx_types.proofs.lists.MembershipLemmas.{Contains-cons_cases}
-use Rattle.epx_types.proofs.remaining.RemainingLemmas.{is_among_cases}
+use Rattle.std.proofs.Common.{◌≡◌, ◌⊎◌, ◌↔◌, ℕ, List, [], ◌∷◌, Contains, slice_get, Some, refl, sym}
+use Rattle.std.proofs.Common.{subst, inl, inr}
+use Rattle.epx_types.proofs.Common.{Id, Reply, ids_of, IsCovered, Ranked, IsExecutionOrder}
+use Rattle.epx_types.proofs.Common.{IsRising, Instance, IsReady, Contains-nil, Contains-head}
+use Rattle.epx_types.proofs.Common.{Contains-cons, Contains-cons_cases, is_among_cases}
 use Rattle.epx_laws.specs.ResumedRunLaws.{HasReply, whole_run}
 use Rattle.epx_executor.specs.Commits.{ExecutorView, IsCommit, AllWait}
 use Rattle.epx_executor.specs.ExecutorLaws.{IsSoundFor, CommittingStaysSound}

@@ -1,16 +1,9 @@
 -- The instances of the execution order of a remaining map: how many they are, and their commands.
 use Rattle.std.proofs.Common.{◌≡◌, ◌≤◌, ◌^◌, List, length, Contains, sym, arith}
-use Rattle.std.proofs.lemmas.List.{length-map}
-use Rattle.epx_types.specs.declared.id.Id.{Id}
-use Rattle.epx_types.specs.CommittedMap.{commands_in}
-use Rattle.epx_types.specs.Done.{remaining}
-use Rattle.epx_types.specs.ExecutionOrder.{Ranked, ranked_ids, IsExecutionOrder}
-use Rattle.epx_types.specs.Instances.{Instance}
-use Rattle.epx_types.specs.Limits.{max_instances}
-use Rattle.epx_types.proofs.orders.ExecutionOrderLemmas.{IsExecutionOrder-IsLawful}
-use Rattle.epx_types.proofs.orders.OrderLengthLemmas.{ordered_are_few}
-use Rattle.epx_types.proofs.remaining.RemainingCommandLemmas.{commands-left, length-remaining}
-use Rattle.epx_types.proofs.remaining.RemainingLemmas.{Contains-remaining_iff}
+use Rattle.epx_types.proofs.Common.{length-map, Id, commands_in, remaining, Ranked, ranked_ids}
+use Rattle.epx_types.proofs.Common.{IsExecutionOrder, Instance, max_instances}
+use Rattle.epx_types.proofs.Common.{IsExecutionOrder-IsLawful, ordered_are_few, commands-left}
+use Rattle.epx_types.proofs.Common.{length-remaining, Contains-remaining_iff}
 
 module _ (done : List Id) (m : List Instance) (order : List Ranked)
     (ordered : IsExecutionOrder (remaining done m) order) where

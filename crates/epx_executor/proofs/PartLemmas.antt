@@ -1,25 +1,14 @@
 -- A part of a map: what its instances reach, which of them are ready, their order and commands.
-use Rattle.std.proofs.Common.{◌≡◌, ◌↔◌, List, [], ◌∷◌, not, Contains, sym, ap, ◌∙◌, subst, inl}
-use Rattle.std.proofs.Common.{inr}
-use Rattle.epx_types.specs.declared.id.Id.{Id}
-use Rattle.epx_types.specs.Ids.{IsRising}
-use Rattle.epx_types.specs.Instances.{Instance}
-use Rattle.epx_types.specs.CommittedMap.{ids_of, instance_of, ops_or_empty, commands_in}
-use Rattle.epx_types.specs.CommittedMap.{IsCommitted}
-use Rattle.epx_types.specs.Done.{is_among, without_deps, remaining}
-use Rattle.epx_types.specs.Reaching.{DependsOn, IsPath, Reaches}
-use Rattle.epx_types.specs.Readiness.{IsReady}
-use Rattle.epx_types.specs.Components.{InOneComponent}
-use Rattle.epx_types.specs.Depth.{Descends}
-use Rattle.epx_types.specs.ExecutionOrder.{Ranked, IsRanked, IsExecutionOrder}
-use Rattle.epx_types.proofs.committed.AgreementLemmas.{IsRising-same, instance_of-found}
-use Rattle.epx_types.proofs.committed.AgreementLemmas.{instance_of-finds, instance_of_iff}
-use Rattle.epx_types.proofs.graph.DependencyLemmas.{IsCommitted-from_Contains}
-use Rattle.epx_types.proofs.graph.ReachingLemmas.{Reaches-refl, Reaches-trans, Reaches-dependency}
-use Rattle.epx_types.proofs.graph.ReachingLemmas.{Reaches-passes, IsReady-reached}
-use Rattle.epx_types.proofs.lists.MembershipLemmas.{Contains-map, Contains-from_map}
-use Rattle.epx_types.proofs.lists.MembershipLemmas.{Contains-filter, map-agree}
-use Rattle.epx_types.proofs.remaining.RemainingLemmas.{DependsOn-remaining, from_remaining}
+use Rattle.std.proofs.Common.{◌≡◌, ◌↔◌, List, [], ◌∷◌, not, Contains, sym, ap, ◌∙◌, subst, inl, inr}
+use Rattle.epx_types.proofs.Common.{Id, IsRising, Instance, ids_of, instance_of, ops_or_empty}
+use Rattle.epx_types.proofs.Common.{commands_in, IsCommitted, is_among, without_deps, remaining}
+use Rattle.epx_types.proofs.Common.{DependsOn, IsPath, Reaches, IsReady, InOneComponent, Descends}
+use Rattle.epx_types.proofs.Common.{Ranked, IsRanked, IsExecutionOrder, IsRising-same}
+use Rattle.epx_types.proofs.Common.{instance_of-found, instance_of-finds, instance_of_iff}
+use Rattle.epx_types.proofs.Common.{IsCommitted-from_Contains, Reaches-refl, Reaches-trans}
+use Rattle.epx_types.proofs.Common.{Reaches-dependency, Reaches-passes, IsReady-reached}
+use Rattle.epx_types.proofs.Common.{Contains-map, Contains-from_map, Contains-filter, map-agree}
+use Rattle.epx_types.proofs.Common.{DependsOn-remaining, from_remaining}
 use Rattle.epx_executor.specs.Commits.{not_done}
 
 -- ---- paths of a part

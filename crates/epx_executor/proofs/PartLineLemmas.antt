@@ -1,25 +1,15 @@
 -- The lines of a call, where only a part of the pending instances is looked at.
-use Rattle.std.proofs.Common.{◌≡◌, ◌≢◌, ◌≤◌, ◌+◌, ◌↔◌, ◌⊎◌, List, [], ◌++◌, length}
-use Rattle.std.proofs.Common.{Contains, refl, sym, ◌∙◌, subst, inl, inr, arith}
-use Rattle.std.proofs.lemmas.List.{length-map, length-append}
-use Rattle.std.proofs.lemmas.List.Elements.{Contains-append_cases, Contains-append_left}
-use Rattle.std.proofs.lemmas.List.Elements.{Contains-append_right}
-use Rattle.epx_types.specs.declared.id.Id.{Id}
-use Rattle.epx_types.specs.declared.fault.Fault.{Fault}
-use Rattle.epx_types.specs.declared.fault.Fault.TheVariants.{Memory, TooManyLogs, LogTooLong}
-use Rattle.epx_types.specs.declared.fault.Fault.TheVariants.{BadLine, TooManyInstances, Disagree}
-use Rattle.epx_types.specs.declared.fault.Fault.TheVariants.{Read, Write, BadBase}
-use Rattle.epx_types.specs.Ids.{IsRising}
-use Rattle.epx_types.specs.Instances.{Instance}
-use Rattle.epx_types.specs.Limits.{max_instances}
-use Rattle.epx_types.specs.PlacedLines.{Placed}
-use Rattle.epx_types.specs.Agreement.{Agree, Differ, IsFirstDisagreement}
-use Rattle.epx_types.specs.CommittedMap.{ids_of}
-use Rattle.epx_types.proofs.committed.AgreementLemmas.{IsRising-same}
-use Rattle.epx_types.proofs.committed.AgreementLemmas.{IsFirstDisagreement-not_Agree}
-use Rattle.epx_types.proofs.lists.MembershipLemmas.{Contains-nil, Contains-map}
-use Rattle.epx_types.proofs.lists.RisingIdLemmas.{rising_once}
-use Rattle.epx_types.proofs.orders.OrderLengthLemmas.{fewer}
+use Rattle.std.proofs.Common.{◌≡◌, ◌≢◌, ◌≤◌, ◌+◌, ◌↔◌, ◌⊎◌, List, [], ◌++◌, length, Contains, refl}
+use Rattle.std.proofs.Common.{sym, ◌∙◌, subst, inl, inr, arith}
+use Rattle.epx_types.proofs.Common.{length-map, length-append, Contains-append_cases}
+use Rattle.epx_types.proofs.Common.{Contains-append_left, Contains-append_right, Id, Fault}
+use Rattle.epx_types.proofs.Common.{TooManyLogs, LogTooLong, BadLine, TooManyInstances, Disagree}
+use Rattle.epx_types.proofs.Common.{Read, BadBase, IsRising, Instance, max_instances, Placed, Agree}
+use Rattle.epx_types.proofs.Common.{Differ, IsFirstDisagreement, ids_of, IsRising-same}
+use Rattle.epx_types.proofs.Common.{IsFirstDisagreement-not_Agree, Contains-nil, Contains-map}
+use Rattle.epx_types.proofs.Common.{rising_once, fewer}
+use Rattle.epx_types.specs.declared.fault.Fault.TheVariants.{Memory}
+use Rattle.epx_types.specs.declared.fault.Fault.TheVariants.{Write}
 use Rattle.epx_committed.specs.InstanceCounts.{AreNamedBy, FewInstances, ManyInstances}
 use Rattle.epx_committed.specs.MergedLines.{IsMerged, IsMergeFault}
 use Rattle.epx_committed.proofs.InstanceCountLemmas.{few_or_many}

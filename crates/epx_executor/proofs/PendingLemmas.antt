@@ -1,27 +1,20 @@
 -- The pending instances, each at its Id in a map: look-ups, insertions and removals, and what is
 -- left after a call.
-use Rattle.std.proofs.Common.{◌≡◌, ◌≢◌, ◌⊎◌, ◌↔◌, ℕ, ◌+◌, ◌<◌, ◌≤◌, Bool, true, false, not}
-use Rattle.std.proofs.Common.{List, [], ◌∷◌, ◌++◌, length, map, take, drop, get_or, Contains}
-use Rattle.std.proofs.Common.{Option, Some, None, MatchOption, is_some, Less, Equal, Greater}
-use Rattle.std.proofs.Common.{Bor, refl, sym, ap, ◌∙◌, subst, inl, inr}
-use Rattle.std.proofs.lemmas.Bool.{cases_Bool}
-use Rattle.std.proofs.lemmas.List.{take_all, take_more, take-append-drop}
-use Rattle.std.proofs.lemmas.List.Elements.{Contains-append_left, Contains-append_right}
-use Rattle.std.proofs.lemmas.List.Elements.{Contains-append_cases}
-use Rattle.std.specs.BTreeMap.{insert_entry, is_at}
-use Rattle.std.specs.Cmp.{Equal-is, tied_itself}
-use Rattle.std.specs.Map.{lookup, remove_entry}
+use Rattle.std.proofs.Common.{◌≡◌, ◌≢◌, ◌⊎◌, ◌↔◌, ℕ, ◌+◌, ◌<◌, ◌≤◌, Bool, true, false, not, List}
+use Rattle.std.proofs.Common.{[], ◌∷◌, ◌++◌, length, map, take, drop, get_or, Contains, Option}
+use Rattle.std.proofs.Common.{Some, None, MatchOption, is_some, Less, Equal, Greater, Bor, refl}
+use Rattle.std.proofs.Common.{sym, ap, ◌∙◌, subst, inl, inr}
+use Rattle.epx_types.proofs.Common.{cases_Bool, take_all, take_more, take-append-drop}
+use Rattle.epx_types.proofs.Common.{Contains-append_left, Contains-append_right}
+use Rattle.epx_types.proofs.Common.{Contains-append_cases, is_at, Equal-is, lookup, is_eq}
+use Rattle.epx_types.proofs.Common.{match_ordering, Id, ids_of, id_cmp, Below, BelowAll, IsRising}
+use Rattle.epx_types.proofs.Common.{Instance, IsRising-same, id_cmp_total, id_cmp-IsAntisymmetric}
+use Rattle.epx_types.proofs.Common.{Contains-nil, Contains-head, Contains-cons, Contains-cons_cases}
+use Rattle.epx_types.proofs.Common.{Contains-map, below_irrefl}
+use Rattle.std.specs.BTreeMap.{insert_entry}
+use Rattle.std.specs.Cmp.{tied_itself}
+use Rattle.std.specs.Map.{remove_entry}
 use Rattle.std.specs.Option.{option_copied, IfSome}
-use Rattle.std.specs.Ordering.{is_eq, match_ordering}
-use Rattle.epx_types.specs.declared.id.Id.{Id}
-use Rattle.epx_types.specs.CommittedMap.{ids_of}
-use Rattle.epx_types.specs.Ids.{id_cmp, Below, BelowAll, IsRising}
-use Rattle.epx_types.specs.Instances.{Instance}
-use Rattle.epx_types.proofs.committed.AgreementLemmas.{IsRising-same}
-use Rattle.epx_types.proofs.lists.ComparisonLemmas.{id_cmp_total, id_cmp-IsAntisymmetric}
-use Rattle.epx_types.proofs.lists.MembershipLemmas.{Contains-nil, Contains-head, Contains-cons}
-use Rattle.epx_types.proofs.lists.MembershipLemmas.{Contains-cons_cases, Contains-map}
-use Rattle.epx_types.proofs.lists.TotalOrderLemmas.{below_irrefl}
 
 abbrev keys : List (Id × Instance) → List Id
 keys es = map (λ e. e.0) es
@@ -401,14 +394,6 @@ pub record AreInserted (done : List Id) (before so_far m : List Instance) (ids :
   pub only : (e : Instance) → Contains m e → Contains before e
       ⊎ (Contains so_far e × (¬ Contains done e.id) × Contains ids e.id)
   pub left : (e : Instance) → Contains so_far e → ¬ Contains done e.id → Contains m e
-
-pub none_inserted : (done : List Id) (before : List Instance) → AreInserted done before [] before []
-none_inserted done before = record {
-  kept = λ e h. h;
-  old = λ e h there. absurd (Contains-nil e.id there);
-  only = λ e h. inl h;
-  left = λ e h l. absurd (Contains-nil e h);
-}
 
 -- the noted Ids tell what was there before
 pub noted : (done : List Id) (before so_far m : List Instance) (ids : List Id)

@@ -1,26 +1,15 @@
 -- What the calls of an executor execute, one after another.
-use Rattle.std.proofs.Common.{◌≡◌, ◌⊎◌, List, [], ◌∷◌, ◌++◌, map, zip, length, Contains}
-use Rattle.std.proofs.Common.{refl, sym, ap, ap₂, ◌∙◌, subst, inl, inr, arith}
-use Rattle.std.proofs.lemmas.List.{append_assoc, append-nil, length-map, map-append}
+use Rattle.std.proofs.Common.{◌≡◌, ◌⊎◌, List, [], ◌∷◌, ◌++◌, map, zip, length, Contains, refl, sym}
+use Rattle.std.proofs.Common.{ap, ap₂, ◌∙◌, subst, inl, inr, arith}
+use Rattle.epx_types.proofs.Common.{append_assoc, append-nil, length-map, map-append, Id, Reply}
+use Rattle.epx_types.proofs.Common.{instance_of, ops_or_empty, commands_in, Contents, remaining}
+use Rattle.epx_types.proofs.Common.{remaining_ids, Execution, execute, ranked_ids, Instance}
+use Rattle.epx_types.proofs.Common.{IsLawfulPrefix, IsLawfulFor, IsLawful, IsReady, HasRemaining}
+use Rattle.epx_types.proofs.Common.{execute-append, length-replies, Contains-nil, Contains-head}
+use Rattle.epx_types.proofs.Common.{IsExecutionOrder-IsLawful, IsLawfulFor-same}
+use Rattle.epx_types.proofs.Common.{IsLawfulFor-together, IsLawful-part_and_rest}
+use Rattle.epx_types.proofs.Common.{IsLawfulAfter-left, commands_in-left}
 use Rattle.std.specs.FinMap as contents
-use Rattle.epx_types.specs.declared.id.Id.{Id}
-use Rattle.epx_types.specs.declared.reply.Reply.{Reply}
-use Rattle.epx_types.specs.CommittedMap.{instance_of, ops_or_empty, commands_in}
-use Rattle.epx_types.specs.Contents.{Contents}
-use Rattle.epx_types.specs.Done.{remaining, remaining_ids}
-use Rattle.epx_types.specs.Execution.{Execution, execute}
-use Rattle.epx_types.specs.ExecutionOrder.{ranked_ids}
-use Rattle.epx_types.specs.Instances.{Instance}
-use Rattle.epx_types.specs.LawfulPrefixes.{IsLawfulPrefix}
-use Rattle.epx_types.specs.LawfulOrders.{IsLawfulFor, IsLawful}
-use Rattle.epx_types.specs.Readiness.{IsReady}
-use Rattle.epx_types.specs.Sound.{HasRemaining}
-use Rattle.epx_types.proofs.commands.ExecutionLemmas.{execute-append, length-replies}
-use Rattle.epx_types.proofs.lists.MembershipLemmas.{Contains-nil, Contains-head}
-use Rattle.epx_types.proofs.orders.ExecutionOrderLemmas.{IsExecutionOrder-IsLawful}
-use Rattle.epx_types.proofs.orders.LawfulPartLemmas.{IsLawfulFor-same, IsLawfulFor-together}
-use Rattle.epx_types.proofs.orders.LawfulPartLemmas.{IsLawful-part_and_rest}
-use Rattle.epx_types.proofs.remaining.ResumedMapLemmas.{IsLawfulAfter-left, commands_in-left}
 use Rattle.epx_laws.specs.ResumedRunLaws.{run_on}
 use Rattle.epx_executor.specs.Commits.{ExecutorView, IsCommit}
 use Rattle.epx_executor.specs.ExecutorLaws.{IsSoundFor, CommittingStaysSound, new_executor}

@@ -1,17 +1,11 @@
 -- What is filed after a call: what stays, and instances that are filed under one that they reach.
-use Rattle.std.proofs.Common.{◌≡◌, ◌⊎◌, ◌↔◌, ℕ, ◌+◌, ◌<◌, ◌≤◌, List, [], ◌∷◌, length, take}
-use Rattle.std.proofs.Common.{get_or, Contains, Option, Some, None, MatchOption, IfSome, unwrap_or}
-use Rattle.std.proofs.Common.{true, false, Result, Ok, Err, OnOk, OnErr, is_ok, sym, ap, ◌∙◌, subst}
-use Rattle.std.proofs.Common.{inl, inr, refl}
-use Rattle.std.proofs.lemmas.List.{take_all}
-use Rattle.std.proofs.lemmas.List.Elements.{Contains-get_or}
-use Rattle.epx_types.specs.declared.id.Id.{Id}
-use Rattle.epx_types.specs.CommittedMap.{IsCommitted}
-use Rattle.epx_types.specs.Instances.{Instance}
-use Rattle.epx_types.specs.Reaching.{Reaches}
-use Rattle.epx_types.specs.WaitingLists.{Waiting, waiting_ids}
-use Rattle.epx_types.proofs.graph.ReachingLemmas.{Reaches-trans}
-use Rattle.epx_types.proofs.lists.MembershipLemmas.{Contains-from_map, Contains-map, Contains-nil}
+use Rattle.std.proofs.Common.{◌≡◌, ◌⊎◌, ◌↔◌, ℕ, ◌+◌, ◌<◌, ◌≤◌, List, [], ◌∷◌, length, take, get_or}
+use Rattle.std.proofs.Common.{Contains, Option, Some, None, MatchOption, IfSome, unwrap_or, true}
+use Rattle.std.proofs.Common.{false, Result, Ok, Err, OnOk, OnErr, is_ok, sym, ap, ◌∙◌, subst, inl}
+use Rattle.std.proofs.Common.{inr, refl}
+use Rattle.epx_types.proofs.Common.{take_all, Contains-get_or, Id, IsCommitted, Instance, Reaches}
+use Rattle.epx_types.proofs.Common.{Waiting, waiting_ids, Reaches-trans, Contains-from_map}
+use Rattle.epx_types.proofs.Common.{Contains-map, Contains-nil}
 use Rattle.epx_executor.specs.declared.choose.Choice.{Choice}
 use Rattle.epx_executor.specs.inner.Choices.{AreFiledIn, AreWithin, CanRefile, IsRefiled}
 use Rattle.epx_executor.specs.inner.Filings.{Filings, IsBlockedBy, IsFiled, IsWay}

@@ -1,21 +1,13 @@
 -- What remains of a map: the tests by which instances are left out, and maps of which the same
 -- remains.
-use Rattle.std.proofs.Common.{◌≡◌, ◌⊎◌, ◌↔◌, Bool, true, false, not, IsTrue, List, [], ◌∷◌}
-use Rattle.std.proofs.Common.{filter, flat_map, map, ◌&&◌, Contains, refl, sym, ap}
-use Rattle.std.proofs.Common.{◌∙◌, subst, inl, inr}
-use Rattle.std.proofs.lemmas.List.Kept.{AllPairs-filter}
-use Rattle.epx_types.specs.declared.id.Id.{Id}
-use Rattle.epx_types.specs.CommittedMap.{ids_of}
-use Rattle.epx_types.specs.Done.{is_among, without_deps, remaining}
-use Rattle.epx_types.specs.Ids.{Below, IsRising}
-use Rattle.epx_types.specs.Instances.{Instance}
-use Rattle.epx_types.proofs.lists.ComparisonLemmas.{id_cmp_total}
-use Rattle.epx_types.proofs.lists.MembershipLemmas.{Contains-filter, Contains-from_filter}
-use Rattle.epx_types.proofs.lists.MembershipLemmas.{passes-from_filter, map-agree, Contains-map}
-use Rattle.epx_types.proofs.lists.MembershipLemmas.{Contains-flat_map, Contains-from_flat_map}
-use Rattle.epx_types.proofs.lists.RisingIdLemmas.{AllPairs-from_rising_ids}
-use Rattle.epx_types.proofs.lists.TotalOrderLemmas.{below_irrefl, below_trans, same_rising}
-use Rattle.epx_types.proofs.remaining.RemainingLemmas.{is_among_cases, not_among, IsRising-remaining}
+use Rattle.std.proofs.Common.{◌≡◌, ◌⊎◌, ◌↔◌, Bool, true, false, not, IsTrue, List, [], ◌∷◌, filter}
+use Rattle.std.proofs.Common.{flat_map, map, ◌&&◌, Contains, refl, sym, ap, ◌∙◌, subst, inl, inr}
+use Rattle.epx_types.proofs.Common.{AllPairs-filter, Id, ids_of, is_among, without_deps, remaining}
+use Rattle.epx_types.proofs.Common.{Below, IsRising, Instance, id_cmp_total, Contains-filter}
+use Rattle.epx_types.proofs.Common.{Contains-from_filter, passes-from_filter, map-agree}
+use Rattle.epx_types.proofs.Common.{Contains-map, Contains-flat_map, Contains-from_flat_map}
+use Rattle.epx_types.proofs.Common.{AllPairs-from_rising_ids, below_irrefl, below_trans}
+use Rattle.epx_types.proofs.Common.{same_rising, is_among_cases, not_among, IsRising-remaining}
 use Rattle.epx_executor.specs.Commits.{not_done}
 use Rattle.epx_executor.specs.inner.Batches.{AreDoneDeps}
 use Rattle.epx_executor.proofs.FilterLemmas.{filter-agree, filter-twice}

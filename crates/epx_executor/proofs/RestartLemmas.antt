@@ -1,18 +1,10 @@
 -- Executors that hold the same.
-use Rattle.std.proofs.Common.{◌≡◌, ◌↔◌, not, List, [], ◌∷◌, ◌++◌, zip, Contains, refl, sym}
-use Rattle.std.proofs.Common.{ap, ap₂, ◌∙◌, subst, inl, inr}
-use Rattle.epx_types.specs.declared.id.Id.{Id}
-use Rattle.epx_types.specs.declared.reply.Reply.{Reply}
-use Rattle.epx_types.specs.CommittedMap.{commands_in, IsCommittedBy}
-use Rattle.epx_types.specs.Done.{is_among, remaining}
-use Rattle.epx_types.specs.Execution.{Execution, execute}
-use Rattle.epx_types.specs.ExecutionOrder.{Ranked, ranked_ids, IsExecutionOrder}
-use Rattle.epx_types.specs.Instances.{Instance}
-use Rattle.epx_types.specs.PlacedLines.{Placed}
-use Rattle.epx_types.specs.Readiness.{IsReady}
-use Rattle.epx_types.proofs.lists.MembershipLemmas.{Contains-nil, Contains-head, Contains-cons}
-use Rattle.epx_types.proofs.orders.ExecutionOrderLemmas.{IsExecutionOrder-IsLawful}
-use Rattle.epx_types.proofs.remaining.RemainingLemmas.{not_among}
+use Rattle.std.proofs.Common.{◌≡◌, ◌↔◌, not, List, [], ◌∷◌, ◌++◌, zip, Contains, refl, sym, ap, ap₂}
+use Rattle.std.proofs.Common.{◌∙◌, subst, inl, inr}
+use Rattle.epx_types.proofs.Common.{Id, Reply, commands_in, IsCommittedBy, is_among, remaining}
+use Rattle.epx_types.proofs.Common.{Execution, execute, Ranked, ranked_ids, IsExecutionOrder}
+use Rattle.epx_types.proofs.Common.{Instance, Placed, IsReady, Contains-nil, Contains-head}
+use Rattle.epx_types.proofs.Common.{Contains-cons, IsExecutionOrder-IsLawful, not_among}
 use Rattle.epx_laws.specs.AgreementLaws.{CommittedMapIsUnique}
 use Rattle.epx_laws.specs.OrderLaws.{ExecutionOrderIsUnique}
 use Rattle.epx_laws.specs.ResumedRunLaws.{run_on}

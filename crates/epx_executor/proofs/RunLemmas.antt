@@ -1,28 +1,21 @@
 -- Runs of consecutive numbers: which Ids are in them, and how they lie.
 use Rattle.std.proofs.Common.{◌≡◌, ◌⊎◌, ◌↔◌, ℕ, ◌+◌, ◌-◌, ◌<◌, ◌≤◌, List, [], ◌∷◌, ◌++◌, length}
-use Rattle.std.proofs.Common.{get_or, map, Contains, All, AllPairs, refl, sym, ap, subst}
-use Rattle.std.proofs.Common.{inl, inr, ◌∙◌, arith, Some, true, false, zero, suc, Ordering, take}
+use Rattle.std.proofs.Common.{get_or, map, Contains, All, AllPairs, refl, sym, ap, subst, inl, inr}
+use Rattle.std.proofs.Common.{◌∙◌, arith, Some, true, false, zero, suc, Ordering, take}
 use Rattle.std.specs.List.{range_with_len}
-use Rattle.std.specs.List.Sorted.{IsSorted, IsPermutation}
-use Rattle.std.specs.Ordering.{nat_cmp, is_lt, is_some_and, partial_ordering_then}
-use Rattle.std.proofs.lemmas.Bool.{cases_lt, cases_eq}
-use Rattle.std.proofs.lemmas.Bool.Decides.{nat_tests}
-use Rattle.std.proofs.lemmas.List.{get_or_append_left, get_or_default, take_more, length-append}
-use Rattle.std.proofs.Math.Seq.{get_or-append_seam}
+use Rattle.epx_types.proofs.Common.{IsSorted, IsPermutation, nat_cmp, is_lt, cases_lt, cases_eq}
+use Rattle.epx_types.proofs.Common.{nat_tests, get_or_append_left, get_or_default, take_more}
+use Rattle.epx_types.proofs.Common.{length-append, get_or-append_seam, Contains-append_left}
+use Rattle.epx_types.proofs.Common.{Contains-append_right, Contains-append_cases, All-push, All-pop}
+use Rattle.epx_types.proofs.Common.{All-contains, All-append, Contains-permutation}
+use Rattle.epx_types.proofs.Common.{IsPermutation-sym, all_pairs_push, Id, Below, UpTo}
+use Rattle.epx_types.proofs.Common.{id_cmp_total, id_cmp-IsAntisymmetric, Contains-nil}
+use Rattle.epx_types.proofs.Common.{Contains-head, Contains-cons_cases, Contains-map}
+use Rattle.epx_types.proofs.Common.{Contains-from_map, Contains-flat_map, Contains-from_flat_map}
+use Rattle.epx_types.proofs.Common.{below_trans, below_cases}
+use Rattle.std.specs.Ordering.{is_some_and, partial_ordering_then}
 use Rattle.std.proofs.lemmas.List.FromFn.{length-range_with_len, get_or-range_with_len}
-use Rattle.std.proofs.lemmas.List.Elements.{Contains-append_left, Contains-append_right}
-use Rattle.std.proofs.lemmas.List.Elements.{Contains-append_cases, All-push, All-pop}
-use Rattle.std.proofs.lemmas.List.Elements.{All-contains, All-append}
-use Rattle.std.proofs.lemmas.List.Sorted.{Contains-permutation, IsPermutation-sym}
-use Rattle.std.proofs.lemmas.List.Quantifiers.{all_pairs_push}
-use Rattle.epx_types.specs.declared.id.Id.{Id}
-use Rattle.epx_types.specs.Ids.{Below, UpTo}
-use Rattle.epx_types.proofs.lists.ComparisonLemmas.{id_cmp_total, id_cmp-IsAntisymmetric}
-use Rattle.epx_types.proofs.lists.MembershipLemmas.{Contains-nil, Contains-head, Contains-cons_cases}
-use Rattle.epx_types.proofs.lists.MembershipLemmas.{Contains-map, Contains-from_map}
-use Rattle.epx_types.proofs.lists.MembershipLemmas.{Contains-flat_map, Contains-from_flat_map}
-use Rattle.epx_types.proofs.lists.TotalOrderLemmas.{below_trans, below_cases}
-use Rattle.epx_graph.proofs.NeighbourLemmas.{is_lt-from_lt}
+use Rattle.epx_graph.proofs.Common.{is_lt-from_lt}
 use Rattle.epx_executor.specs.declared.done_runs.Run.{Run}
 use Rattle.epx_executor.specs.contracts.done_runs.RunOrd.TheImpl as run_ord
 use Rattle.epx_executor.specs.Runs.{AreFilled, AreRuns, BeginInOrder, start_of, ids_in}

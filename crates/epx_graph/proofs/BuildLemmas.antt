@@ -2,20 +2,14 @@
 use Rattle.std.proofs.Common.{◌≡◌, inl, inr, ℕ, ◌-◌, ◌<◌, ◌≤◌, List, [], ◌++◌, length, take, drop}
 use Rattle.std.proofs.Common.{replicate, get_or, Some, slice_get, Contains, All, AllPairs, refl}
 use Rattle.std.proofs.Common.{sym, ap, subst, ◌∙◌, arith}
-use Rattle.std.proofs.lemmas.Bool.{cases_lt}
-use Rattle.std.proofs.lemmas.List.{length-append, length-replicate, get_or_append_left}
-use Rattle.std.proofs.lemmas.List.{get_or-append_right, get_or-replicate, get_or_past}
-use Rattle.std.proofs.lemmas.List.Elements.{All-append, All-replicate, All-nil, All-from_get_or}
-use Rattle.std.proofs.lemmas.List.Elements.{All-contains_itself, All-weaker}
-use Rattle.std.proofs.lemmas.Option.{slice_get_within, slice_get-get_or}
-use Rattle.epx_types.specs.declared.id.Id.{Id}
-use Rattle.epx_types.specs.Ids.{IsRising}
-use Rattle.epx_types.specs.Instances.{Instance}
-use Rattle.epx_types.specs.CommittedMap.{ids_of}
-use Rattle.epx_types.specs.Reaching.{DependsOn}
-use Rattle.epx_types.proofs.lists.MembershipLemmas.{Contains-nil}
-use Rattle.epx_types.proofs.lists.ListPositionLemmas.{slice_get-from_map, Contains-slice_get}
-use Rattle.epx_types.proofs.graph.DependencyLemmas.{DependsOn-listed, DependsOn-committed}
+use Rattle.epx_types.proofs.Common.{cases_lt, length-append, length-replicate, get_or_append_left}
+use Rattle.epx_types.proofs.Common.{get_or-replicate, get_or_past, All-append, All-nil}
+use Rattle.epx_types.proofs.Common.{All-from_get_or, All-contains_itself, All-weaker}
+use Rattle.epx_types.proofs.Common.{slice_get_within, slice_get-get_or, Id, IsRising, Instance}
+use Rattle.epx_types.proofs.Common.{ids_of, DependsOn, Contains-nil, slice_get-from_map}
+use Rattle.epx_types.proofs.Common.{Contains-slice_get, DependsOn-listed, DependsOn-committed}
+use Rattle.std.proofs.lemmas.List.{get_or-append_right}
+use Rattle.std.proofs.lemmas.List.Elements.{All-replicate}
 use Rattle.epx_graph.specs.Graphs.{edges_of, IsGraph, graph_over}
 use Rattle.epx_graph.specs.GraphOf.{IsGraphOf}
 use Rattle.epx_rows.specs.Rows.{row_of, AreTransposed}

@@ -5,13 +5,9 @@ use Rattle.std.proofs.Common.{◌∙◌, append-nil, arith, flat_map, slice_rang
 use Rattle.std.specs.Result.{IfOk}
 use Rattle.std.proofs.Math.Nat.{mul-le-mul_right}
 use Rattle.std.proofs.Math.Seq.{take-add}
-use Rattle.std.proofs.lemmas.List.{drop-drop, map-append, take_all}
+use Rattle.epx_types.proofs.Common.{drop-drop, map-append, take_all, All-append, All-nil, All-push}
+use Rattle.epx_types.proofs.Common.{slice_get_within, get_or_from_slice_get, Id, IsRising, Instance}
 use Rattle.std.proofs.lemmas.List.Concat.{flat_map-append}
-use Rattle.std.proofs.lemmas.List.Elements.{All-append, All-nil, All-push}
-use Rattle.std.proofs.lemmas.Option.{slice_get_within, get_or_from_slice_get}
-use Rattle.epx_types.specs.declared.id.Id.{Id}
-use Rattle.epx_types.specs.Ids.{IsRising}
-use Rattle.epx_types.specs.Instances.{Instance}
 use Rattle.epx_claims.specs.Answered.{AreOrderedAnswers}
 use Rattle.epx_graph.specs.inner.Nodes.{positions_of, missing_of, IsGatheredOf}
 use Rattle.epx_graph.specs.inner.Nodes.{first_of_piece, instances_of_piece}

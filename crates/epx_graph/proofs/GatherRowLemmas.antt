@@ -3,18 +3,13 @@ use Rattle.std.proofs.Common.{◌≡◌, ℕ, suc, ◌+◌, ◌-◌, ◌<◌, �
 use Rattle.std.proofs.Common.{length, take, drop, drop-cons, get_or, Some, None, slice_get}
 use Rattle.std.proofs.Common.{Contains, All, AllPairs, sym, ap, subst, ◌∙◌, append-nil, arith}
 use Rattle.std.specs.List.{cons_option}
-use Rattle.std.proofs.lemmas.List.{length-map, length-append, take_at, drop_at}
-use Rattle.std.proofs.lemmas.List.Elements.{All-contains, All-contains_itself, All-weaker}
+use Rattle.epx_types.proofs.Common.{length-map, length-append, take_at, drop_at, All-contains}
+use Rattle.epx_types.proofs.Common.{All-contains_itself, All-weaker, AllPairs-filter}
+use Rattle.epx_types.proofs.Common.{slice_get_within, get_or_from_slice_get, Id, Below, IsRising}
+use Rattle.epx_types.proofs.Common.{Instance, position_of, IsCommitted, Contains-nil}
+use Rattle.epx_types.proofs.Common.{Contains-flat_map, Contains-slice_get, AllPairs-from_IsRising}
 use Rattle.std.proofs.lemmas.List.Elements.{filter_map-append}
-use Rattle.std.proofs.lemmas.List.Kept.{AllPairs-filter}
-use Rattle.std.proofs.lemmas.Option.{slice_get_within, get_or_from_slice_get}
-use Rattle.epx_types.specs.declared.id.Id.{Id}
-use Rattle.epx_types.specs.Ids.{Below, IsRising}
-use Rattle.epx_types.specs.Instances.{Instance}
-use Rattle.epx_types.specs.CommittedMap.{position_of, IsCommitted}
-use Rattle.epx_types.proofs.lists.MembershipLemmas.{Contains-nil, Contains-flat_map}
-use Rattle.epx_types.proofs.lists.ListPositionLemmas.{Contains-slice_get, slice_get-map}
-use Rattle.epx_types.proofs.lists.RisingIdLemmas.{AllPairs-from_IsRising}
+use Rattle.epx_types.proofs.lists.ListPositionLemmas.{slice_get-map}
 use Rattle.epx_rows.specs.Rows.{row_of}
 use Rattle.epx_graph.specs.inner.Nodes.{positions_of, missing_of, all_positions, all_missing_of}
 use Rattle.epx_graph.specs.inner.Nodes.{AreNodesOf, ArePositionsOf, AreRowsOf, IsGathered}

@@ -2,25 +2,18 @@
 use Rattle.std.proofs.Common.{◌≡◌, ◌⊎◌, ◌∙◌, ◌<◌, ℕ, true, List, [], ◌++◌, map, length, take, drop}
 use Rattle.std.proofs.Common.{flat_map, Contains, Option, Some, None, slice_get, nat_cmp, Ordering}
 use Rattle.std.proofs.Common.{Less, Equal, Greater, is_lt, refl, sym, ap, subst, inl, inr}
-use Rattle.std.specs.Cmp.{nat_cmp_total, ranked}
+use Rattle.epx_types.proofs.Common.{nat_cmp_total, length-map, slice_get_within}
+use Rattle.epx_types.proofs.Common.{get_or_from_slice_get, take-append_seam, Id, IsRising, Instance}
+use Rattle.epx_types.proofs.Common.{ids_of, IsCommitted, id_cmp_total, id_cmp-IsAntisymmetric}
+use Rattle.epx_types.proofs.Common.{Contains-flat_map, Contains-from_flat_map, AllPairs-slice_get}
+use Rattle.epx_types.proofs.Common.{AllPairs-from_slice_get, IsRising-from_AllPairs}
+use Rattle.epx_types.proofs.Common.{Contains-Id_cases, list_positions, Contains-list_positions}
+use Rattle.epx_types.proofs.Common.{not_cases, AreThose, rising_list}
+use Rattle.std.specs.Cmp.{ranked}
 use Rattle.std.specs.Ordering.{MatchOrdering}
 use Rattle.std.specs.FinMap.{nat_cmp-IsAntisymmetric}
-use Rattle.std.proofs.lemmas.List.{length-map}
-use Rattle.std.proofs.lemmas.Option.{slice_get_within, get_or_from_slice_get}
-use Rattle.std.proofs.Math.Seq.{drop-append_seam, take-append_seam}
-use Rattle.epx_types.specs.declared.id.Id.{Id}
-use Rattle.epx_types.specs.Ids.{IsRising}
-use Rattle.epx_types.specs.Instances.{Instance}
-use Rattle.epx_types.specs.CommittedMap.{ids_of, IsCommitted}
-use Rattle.epx_types.proofs.lists.ComparisonLemmas.{id_cmp_total, id_cmp-IsAntisymmetric}
-use Rattle.epx_types.proofs.lists.MembershipLemmas.{Contains-flat_map, Contains-from_flat_map}
-use Rattle.epx_types.proofs.lists.ListPositionLemmas.{slice_get-map, AllPairs-slice_get}
-use Rattle.epx_types.proofs.lists.ListPositionLemmas.{AllPairs-from_slice_get}
-use Rattle.epx_types.proofs.lists.RisingIdLemmas.{IsRising-from_AllPairs}
-use Rattle.epx_types.proofs.graph.WaitingLemmas.{Contains-Id_cases}
-use Rattle.epx_types.proofs.commands.RearrangementLemmas.{list_positions, Contains-list_positions}
-use Rattle.epx_types.proofs.graph.ReachingDecisionLemmas.{not_cases}
-use Rattle.epx_types.proofs.lists.RisingListLemmas.{AreThose, rising_list}
+use Rattle.std.proofs.Math.Seq.{drop-append_seam}
+use Rattle.epx_types.proofs.lists.ListPositionLemmas.{slice_get-map}
 use Rattle.epx_graph.specs.Graphs.{DependencyGraph, graph_over}
 use Rattle.epx_graph.specs.GraphOf.{IsGraphOf}
 use Rattle.epx_graph.specs.inner.Nodes.{AreMissingIds, AreNodesOf, ArePositionsOf, AreRowsOf}

@@ -1,10 +1,9 @@
 -- A map has at most one graph.
 use Rattle.std.proofs.Common.{◌≡◌, ℕ, ◌<◌, List, [], length, slice_get, Contains, sym, ap, ◌∙◌}
 use Rattle.std.proofs.Common.{◌++◌, arith}
-use Rattle.std.proofs.lemmas.List.{take-append-drop, same_lists, get_or_default}
-use Rattle.epx_types.specs.Instances.{Instance}
-use Rattle.epx_types.proofs.lists.TotalOrderLemmas.{same_rising}
-use Rattle.epx_types.proofs.lists.RisingIdLemmas.{same_ids}
+use Rattle.epx_types.proofs.Common.{take-append-drop, get_or_default, Instance, same_rising}
+use Rattle.epx_types.proofs.Common.{same_ids}
+use Rattle.std.proofs.lemmas.List.{same_lists}
 use Rattle.epx_graph.specs.Graphs.{DependencyGraph, edges_of, committed_ids, missing_ids}
 use Rattle.epx_graph.specs.GraphOf.{IsGraphOf}
 use Rattle.epx_graph.specs.GraphLaws.{GraphIsUnique}

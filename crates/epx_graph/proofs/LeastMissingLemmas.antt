@@ -1,7 +1,6 @@
 -- The searches back from the missing nodes find the least one that each node reaches.
-use Rattle.std.proofs.Common.{inl, inr, ℕ, List, length, Option}
-use Rattle.std.proofs.Common.{sym, subst}
-use Rattle.std.proofs.lemmas.Bool.{cases_lt}
+use Rattle.std.proofs.Common.{inl, inr, ℕ, List, length, Option, sym, subst}
+use Rattle.epx_types.proofs.Common.{cases_lt}
 use Rattle.epx_rows.specs.Rows.{row_of, AreTransposed}
 use Rattle.epx_graph.specs.declared.search.MarkKind.TheVariants as kind
 use Rattle.epx_graph.specs.Graphs.{DependencyGraph, edges_of}

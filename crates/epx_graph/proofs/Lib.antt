@@ -1,3 +1,4 @@
+pub mod Common
 mod RisingPositionLemmas
 pub mod GraphNodeLemmas
 pub mod MapPathLemmas

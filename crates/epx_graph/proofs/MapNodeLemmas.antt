@@ -1,14 +1,9 @@
 -- The nodes of a map, and the rows of their edges.
 use Rattle.std.proofs.Common.{◌≡◌, inl, inr, ℕ, ◌+◌, ◌<◌, ◌≤◌, List, [], ◌∷◌, ◌++◌, length, take}
 use Rattle.std.proofs.Common.{Some, slice_get, Contains, sym, ap, subst, ◌∙◌, arith}
-use Rattle.std.proofs.lemmas.Bool.{cases_lt}
-use Rattle.std.proofs.lemmas.List.{length-take, length-map, get_or_append_left, get_or_push}
-use Rattle.std.proofs.lemmas.List.{length_push, take_at, drop_at}
-use Rattle.epx_types.specs.declared.id.Id.{Id}
-use Rattle.epx_types.specs.Ids.{IsRising}
-use Rattle.epx_types.specs.Instances.{Instance}
-use Rattle.epx_types.specs.CommittedMap.{ids_of, IsCommitted}
-use Rattle.epx_types.proofs.lists.ListPositionLemmas.{Contains-slice_get}
+use Rattle.epx_types.proofs.Common.{cases_lt, length-take, length-map, get_or_append_left}
+use Rattle.epx_types.proofs.Common.{get_or_push, length_push, take_at, drop_at, Id, IsRising}
+use Rattle.epx_types.proofs.Common.{Instance, ids_of, IsCommitted, Contains-slice_get}
 use Rattle.epx_rows.specs.Rows.{row_of}
 use Rattle.epx_graph.specs.inner.Nodes.{AreMissingIds, AreNodesOf, ArePositionsOf, AreRowsOf}
 use Rattle.epx_graph.proofs.RisingPositionLemmas.{slice_get-take}

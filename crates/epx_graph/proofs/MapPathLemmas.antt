@@ -1,16 +1,9 @@
 -- Paths of the graph of a map are those of the map.
 use Rattle.std.proofs.Common.{◌≡◌, ◌↔◌, ℕ, ◌<◌, List, [], ◌∷◌, length, slice_get, Some, Contains}
 use Rattle.std.proofs.Common.{◌≤◌, refl, sym, ap, subst, ◌∙◌, inl, inr, arith}
-use Rattle.std.proofs.lemmas.Bool.{cases_lt}
-use Rattle.std.proofs.lemmas.List.{length-take, length-map}
-use Rattle.epx_types.specs.declared.id.Id.{Id}
-use Rattle.epx_types.specs.Ids.{Below}
-use Rattle.epx_types.specs.Instances.{Instance}
-use Rattle.epx_types.specs.CommittedMap.{ids_of, IsCommitted}
-use Rattle.epx_types.specs.Reaching.{DependsOn, IsPath, Reaches}
-use Rattle.epx_types.proofs.lists.ListPositionLemmas.{slice_get-from_map}
-use Rattle.epx_types.proofs.graph.ReachingLemmas.{Reaches-trans, Reaches-dependency}
-use Rattle.epx_types.proofs.graph.WaitingLemmas.{Contains-Id_cases}
+use Rattle.epx_types.proofs.Common.{cases_lt, length-take, length-map, Id, Below, Instance, ids_of}
+use Rattle.epx_types.proofs.Common.{IsCommitted, DependsOn, IsPath, Reaches, slice_get-from_map}
+use Rattle.epx_types.proofs.Common.{Reaches-trans, Reaches-dependency, Contains-Id_cases}
 use Rattle.epx_graph.specs.Graphs.{DependencyGraph, edges_of, committed_ids}
 use Rattle.epx_graph.specs.GraphOf.{IsGraphOf}
 use Rattle.epx_graph.specs.NodePaths.{IsNodePath, NodeReaches}

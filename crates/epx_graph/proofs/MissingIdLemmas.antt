@@ -1,28 +1,19 @@
 -- The missing instances of a map, gathered, sorted and each kept once.
 use Rattle.std.proofs.Common.{◌≡◌, ◌↔◌, inl, inr, ℕ, ◌+◌, true, not, cond, List, [], ◌∷◌, ◌++◌}
 use Rattle.std.proofs.Common.{length, take, get_or, position, Option, Some, None, is_some}
-use Rattle.std.proofs.Common.{slice_get, Contains, nat_lt, refl, sym, ap, subst, ◌∙◌}
-use Rattle.std.proofs.Common.{append-nil, arith}
+use Rattle.std.proofs.Common.{slice_get, Contains, nat_lt, refl, sym, ap, subst, ◌∙◌, append-nil}
+use Rattle.std.proofs.Common.{arith}
 use Rattle.std.specs.List.{position_or_len}
-use Rattle.std.specs.Ordering.{is_eq}
+use Rattle.epx_types.proofs.Common.{is_eq, cases_lt, nat_tests, take_more, map_push, All-contains}
+use Rattle.epx_types.proofs.Common.{filter-append, slice_get_within, get_or_from_slice_get, Id}
+use Rattle.epx_types.proofs.Common.{id_cmp, IsRising, Instance, ids_of, position_of, IsCommitted}
+use Rattle.epx_types.proofs.Common.{id_cmp_total, Contains-filter, Contains-from_filter}
+use Rattle.epx_types.proofs.Common.{Contains-flat_map, Contains-from_flat_map, Contains-from_map}
+use Rattle.epx_types.proofs.Common.{Contains-slice_get, position_of-instance}
+use Rattle.epx_types.proofs.Common.{IsCommitted-from_Contains}
 use Rattle.std.specs.Cmp.{tied_itself}
-use Rattle.std.proofs.lemmas.Bool.{cases_lt}
-use Rattle.std.proofs.lemmas.Bool.Decides.{nat_tests}
-use Rattle.std.proofs.lemmas.List.{take_more, map_push}
-use Rattle.std.proofs.lemmas.List.Elements.{All-contains, filter_passes, filter-append}
+use Rattle.std.proofs.lemmas.List.Elements.{filter_passes}
 use Rattle.std.proofs.lemmas.List.Sums.{fails_before_first}
-use Rattle.std.proofs.lemmas.Option.{slice_get_within, get_or_from_slice_get}
-use Rattle.epx_types.specs.declared.id.Id.{Id}
-use Rattle.epx_types.specs.Ids.{id_cmp, IsRising}
-use Rattle.epx_types.specs.Instances.{Instance}
-use Rattle.epx_types.specs.CommittedMap.{ids_of, position_of, IsCommitted}
-use Rattle.epx_types.proofs.lists.ComparisonLemmas.{id_cmp_total}
-use Rattle.epx_types.proofs.lists.MembershipLemmas.{Contains-filter, Contains-from_filter}
-use Rattle.epx_types.proofs.lists.MembershipLemmas.{Contains-flat_map, Contains-from_flat_map}
-use Rattle.epx_types.proofs.lists.MembershipLemmas.{Contains-from_map}
-use Rattle.epx_types.proofs.lists.ListPositionLemmas.{Contains-slice_get}
-use Rattle.epx_types.proofs.committed.PositionLemmas.{position_of-instance}
-use Rattle.epx_types.proofs.graph.DependencyLemmas.{IsCommitted-from_Contains}
 use Rattle.epx_graph.specs.GraphOf.{IsMissing}
 use Rattle.epx_graph.specs.inner.Nodes.{missing_of, all_missing_of, AreMissingIds}
 

@@ -1,15 +1,9 @@
 -- The Ids of a rising list on both sides of an Id between two neighbours.
-use Rattle.std.proofs.Common.{◌≡◌, ◌-◌, ◌<◌, ◌≤◌, ℕ, List, length, true, get_or, Some}
-use Rattle.std.proofs.Common.{Ordering, Less, Equal, Greater, is_lt, inl, inr, subst}
-use Rattle.std.proofs.Common.{arith}
-use Rattle.std.specs.Ordering.{ordering_then, partial_ordering_then, is_some_and}
-use Rattle.std.proofs.lemmas.Bool.{cases_lt}
-use Rattle.std.proofs.lemmas.Option.{slice_get-get_or}
-use Rattle.epx_types.specs.declared.id.Id.{Id}
-use Rattle.epx_types.specs.Ids.{Below, IsRising}
-use Rattle.epx_types.proofs.lists.ComparisonLemmas.{id_cmp_total}
-use Rattle.epx_types.proofs.lists.RisingIdLemmas.{AllPairs-from_IsRising}
-use Rattle.epx_types.proofs.lists.TotalOrderLemmas.{below_trans}
+use Rattle.std.proofs.Common.{◌≡◌, ◌-◌, ◌<◌, ◌≤◌, ℕ, List, length, true, get_or, Some, Ordering}
+use Rattle.std.proofs.Common.{Less, Equal, Greater, is_lt, inl, inr, subst, arith}
+use Rattle.epx_types.proofs.Common.{ordering_then, cases_lt, slice_get-get_or, Id, Below, IsRising}
+use Rattle.epx_types.proofs.Common.{id_cmp_total, AllPairs-from_IsRising, below_trans}
+use Rattle.std.specs.Ordering.{partial_ordering_then, is_some_and}
 
 -- `<` of two fields, from their comparisons
 pub is_lt-from_lt : (r s : Ordering) → is_some_and is_lt (partial_ordering_then (Some r) (Some s))

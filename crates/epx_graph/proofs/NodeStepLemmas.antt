@@ -2,7 +2,7 @@
 -- them.
 use Rattle.std.proofs.Common.{◌≡◌, ℕ, zero, suc, ◌+◌, ◌<◌, List, [], ◌∷◌, length, All, Contains}
 use Rattle.std.proofs.Common.{Option, Some, refl, sym, subst, subst₂, arith}
-use Rattle.std.proofs.lemmas.List.Elements.{All-from_get_or, All-weaker, All-contains_itself}
+use Rattle.epx_types.proofs.Common.{All-from_get_or, All-weaker, All-contains_itself}
 use Rattle.epx_rows.specs.Rows.{row_of, AreTransposed}
 use Rattle.epx_graph.specs.declared.search.MarkKind.TheVariants as kind
 use Rattle.epx_graph.specs.Graphs.{DependencyGraph, edges_of, IsGraph}

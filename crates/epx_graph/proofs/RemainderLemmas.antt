@@ -1,26 +1,18 @@
 -- What is left of a map: the positions of its instances and of other Ids.
 use Rattle.std.proofs.Common.{◌≡◌, ℕ, zero, suc, ◌+◌, ◌<◌, List, [], ◌∷◌, ◌++◌, length, take}
-use Rattle.std.proofs.Common.{Option, Some, None, cond, not, get_or, slice_get, Contains, refl}
-use Rattle.std.proofs.Common.{sym, ap, ◌∙◌, subst, inl, inr, append-nil, arith}
-use Rattle.std.proofs.lemmas.Bool.{cases_lt}
-use Rattle.std.proofs.lemmas.List.{append_assoc, length_push, nil_from_length, get_or_append_left}
-use Rattle.std.proofs.lemmas.List.{get_or_push, get_or_read, take_all, take_more}
-use Rattle.std.proofs.lemmas.List.Elements.{filter-append}
-use Rattle.std.proofs.lemmas.List.Kept.{AllPairs-filter}
-use Rattle.std.proofs.lemmas.Option.{slice_get_within, slice_get-get_or}
-use Rattle.epx_types.specs.declared.id.Id.{Id}
-use Rattle.epx_types.specs.Ids.{Below, IsRising}
-use Rattle.epx_types.specs.Instances.{Instance}
-use Rattle.epx_types.specs.CommittedMap.{ids_of, position_of}
-use Rattle.epx_types.specs.Done.{is_among, without_deps, remaining, remaining_ids}
-use Rattle.epx_types.proofs.remaining.RemainingLemmas.{Contains-remaining_iff, IsRising-remaining}
-use Rattle.epx_types.proofs.remaining.RemainingLemmas.{is_among_cases, not_among, remaining-nil}
-use Rattle.epx_types.proofs.remaining.RemainingPositionLemmas.{remaining_skip, remaining_more}
-use Rattle.epx_types.proofs.remaining.RemainingPositionLemmas.{remaining_position}
-use Rattle.epx_types.proofs.lists.MembershipLemmas.{Contains-nil}
-use Rattle.epx_types.proofs.lists.ListPositionLemmas.{Contains-slice_get, slice_get-map}
-use Rattle.epx_types.proofs.committed.PositionLemmas.{position_of-instance, position_of-found}
-use Rattle.epx_types.proofs.lists.RisingIdLemmas.{AllPairs-from_IsRising, IsRising-from_AllPairs}
+use Rattle.std.proofs.Common.{Option, Some, None, cond, not, get_or, slice_get, Contains, refl, sym}
+use Rattle.std.proofs.Common.{ap, ◌∙◌, subst, inl, inr, append-nil, arith}
+use Rattle.epx_types.proofs.Common.{cases_lt, append_assoc, length_push, nil_from_length}
+use Rattle.epx_types.proofs.Common.{get_or_append_left, get_or_push, get_or_read, take_all}
+use Rattle.epx_types.proofs.Common.{take_more, filter-append, AllPairs-filter, slice_get_within}
+use Rattle.epx_types.proofs.Common.{slice_get-get_or, Id, Below, IsRising, Instance, ids_of}
+use Rattle.epx_types.proofs.Common.{position_of, is_among, without_deps, remaining, remaining_ids}
+use Rattle.epx_types.proofs.Common.{Contains-remaining_iff, IsRising-remaining, is_among_cases}
+use Rattle.epx_types.proofs.Common.{not_among, remaining-nil, remaining_skip, remaining_more}
+use Rattle.epx_types.proofs.Common.{remaining_position, Contains-nil, Contains-slice_get}
+use Rattle.epx_types.proofs.Common.{position_of-instance, position_of-found, AllPairs-from_IsRising}
+use Rattle.epx_types.proofs.Common.{IsRising-from_AllPairs}
+use Rattle.epx_types.proofs.lists.ListPositionLemmas.{slice_get-map}
 use Rattle.epx_graph.specs.inner.Remainder.{RemainderView, rest_of, IsIdStateOf, IsAtPosition}
 use Rattle.epx_graph.specs.inner.Remainder.{IsPositionLeft, ArePositionTables}
 use Rattle.epx_graph.specs.inner.Nodes.{missing_of, positions_of}

@@ -1,14 +1,10 @@
 -- Positions of rising Ids, and of what is taken from a list and dropped from it.
-use Rattle.std.proofs.Common.{◌≡◌, ℕ, ◌+◌, ◌-◌, ◌<◌, ◌≤◌, List, take, drop, get_or, slice_get}
-use Rattle.std.proofs.Common.{Some, sym, ap, subst, ◌∙◌, inl, inr, arith}
-use Rattle.std.proofs.lemmas.Bool.{cases_lt}
-use Rattle.std.proofs.lemmas.List.{length-take, length-drop, get_or-take, get_or-drop}
-use Rattle.std.proofs.lemmas.Option.{slice_get_within, slice_get-get_or, get_or_from_slice_get}
-use Rattle.epx_types.specs.declared.id.Id.{Id}
-use Rattle.epx_types.specs.Ids.{Below, IsRising}
-use Rattle.epx_types.proofs.lists.TotalOrderLemmas.{below_irrefl, below_asymm}
-use Rattle.epx_types.proofs.lists.ComparisonLemmas.{id_cmp_total}
-use Rattle.epx_types.proofs.lists.RisingIdLemmas.{rising_positions}
+use Rattle.std.proofs.Common.{◌≡◌, ℕ, ◌+◌, ◌-◌, ◌<◌, ◌≤◌, List, take, drop, get_or, slice_get, Some}
+use Rattle.std.proofs.Common.{sym, ap, subst, ◌∙◌, inl, inr, arith}
+use Rattle.epx_types.proofs.Common.{cases_lt, length-take, length-drop, get_or-take, get_or-drop}
+use Rattle.epx_types.proofs.Common.{slice_get_within, slice_get-get_or, get_or_from_slice_get, Id}
+use Rattle.epx_types.proofs.Common.{Below, IsRising, below_irrefl, below_asymm, id_cmp_total}
+use Rattle.epx_types.proofs.Common.{rising_positions}
 
 -- ---- what is taken and dropped
 

@@ -3,25 +3,17 @@ use Rattle.std.proofs.Common.{◌≡◌, inl, inr, ℕ, ◌+◌, ◌-◌, ◌<�
 use Rattle.std.proofs.Common.{length, take, drop, get_or, Option, Some, None, is_some, slice_get}
 use Rattle.std.proofs.Common.{Contains, All, AllPairs, refl, sym, ap, subst, ◌∙◌, arith}
 use Rattle.std.specs.List.{cons_option}
-use Rattle.std.proofs.lemmas.Bool.{cases_lt}
-use Rattle.std.proofs.lemmas.List.{length-map, take_more}
-use Rattle.std.proofs.lemmas.List.Elements.{All-get_or, All-contains, Contains-append_left}
-use Rattle.std.proofs.lemmas.List.Elements.{Contains-append_right, Contains-append_cases}
-use Rattle.std.proofs.lemmas.List.Elements.{Contains-push, Contains-push_cases}
-use Rattle.std.proofs.lemmas.Option.{slice_get_within, slice_get-get_or}
-use Rattle.epx_types.specs.declared.id.Id.{Id}
-use Rattle.epx_types.specs.Ids.{Below, IsRising}
-use Rattle.epx_types.specs.Instances.{Instance}
-use Rattle.epx_types.specs.CommittedMap.{ids_of, position_of, IsCommitted}
-use Rattle.epx_types.proofs.lists.MembershipLemmas.{Contains-nil, Contains-head, Contains-cons}
-use Rattle.epx_types.proofs.lists.MembershipLemmas.{Contains-cons_cases, Contains-filter}
-use Rattle.epx_types.proofs.lists.MembershipLemmas.{Contains-from_filter}
-use Rattle.epx_types.proofs.lists.ListPositionLemmas.{Contains-slice_get, slice_get-from_Contains}
-use Rattle.epx_types.proofs.lists.ListPositionLemmas.{slice_get-map, AllPairs-head, AllPairs-tail}
-use Rattle.epx_types.proofs.lists.ListPositionLemmas.{AllPairs-slice_get, AllPairs-from_parts}
-use Rattle.epx_types.proofs.lists.ListPositionLemmas.{AllPairs-append}
-use Rattle.epx_types.proofs.lists.RisingIdLemmas.{rising_position_is_unique}
-use Rattle.epx_types.proofs.committed.PositionLemmas.{position_of-instance}
+use Rattle.epx_types.proofs.Common.{cases_lt, length-map, take_more, All-get_or, All-contains}
+use Rattle.epx_types.proofs.Common.{Contains-append_left, Contains-append_right}
+use Rattle.epx_types.proofs.Common.{Contains-append_cases, Contains-push, Contains-push_cases}
+use Rattle.epx_types.proofs.Common.{slice_get_within, slice_get-get_or, Id, Below, IsRising}
+use Rattle.epx_types.proofs.Common.{Instance, ids_of, position_of, IsCommitted, Contains-nil}
+use Rattle.epx_types.proofs.Common.{Contains-head, Contains-cons, Contains-cons_cases}
+use Rattle.epx_types.proofs.Common.{Contains-filter, Contains-from_filter, Contains-slice_get}
+use Rattle.epx_types.proofs.Common.{slice_get-from_Contains, AllPairs-head, AllPairs-tail}
+use Rattle.epx_types.proofs.Common.{AllPairs-slice_get, AllPairs-from_parts, AllPairs-append}
+use Rattle.epx_types.proofs.Common.{rising_position_is_unique, position_of-instance}
+use Rattle.epx_types.proofs.lists.ListPositionLemmas.{slice_get-map}
 use Rattle.epx_graph.specs.inner.Nodes.{positions_of, missing_of, AreNodesOf, ArePositionsOf}
 use Rattle.epx_graph.proofs.MissingIdLemmas.{no_position, lacks-from_missing, lacking_missing}
 use Rattle.epx_graph.proofs.MapNodeLemmas.{missing_above}

@@ -1,35 +1,24 @@
 -- The search level by level marks each node for the first start that leads to it.
 use Rattle.std.proofs.Common.{◌≡◌, ◌⊎◌, inl, inr, ℕ, zero, suc, ◌+◌, ◌<◌, ◌≤◌, true, false, not}
-use Rattle.std.proofs.Common.{cond, List, [], ◌∷◌, ◌++◌, length, take, drop, get_or, set, replicate}
-use Rattle.std.proofs.Common.{Option, Some, None, is_some, Contains, flat_map, refl, sym, ap}
-use Rattle.std.proofs.Common.{subst, ◌∙◌, arith}
-use Rattle.std.proofs.lemmas.Bool.{cases_lt, cases_eq}
-use Rattle.std.proofs.lemmas.List.{take_more, length-set, length_push, length-replicate}
-use Rattle.std.proofs.lemmas.List.{get_or-set_same, get_or-set_other, get_or-replicate}
+use Rattle.std.proofs.Common.{cond, List, [], ◌∷◌, ◌++◌, length, take, drop, get_or, set}
+use Rattle.std.proofs.Common.{Option, Some, None, is_some, Contains, flat_map, refl, sym, ap, subst}
+use Rattle.std.proofs.Common.{◌∙◌, arith}
+use Rattle.epx_types.proofs.Common.{cases_lt, cases_eq, take_more, length-set, length_push}
+use Rattle.epx_types.proofs.Common.{get_or-set_same, get_or-set_other}
+use Rattle.epx_types.proofs.Common.{append-nil, length-drop}
+use Rattle.epx_types.proofs.Common.{nil_from_length, take_all, Contains-append_left}
+use Rattle.epx_types.proofs.Common.{Contains-append_right, Contains-append_cases, Contains-push}
+use Rattle.epx_types.proofs.Common.{Contains-push_cases, count_by-le-length, Contains-nil}
+use Rattle.epx_types.proofs.Common.{Contains-head, Contains-cons_cases, Contains-flat_map}
+use Rattle.epx_types.proofs.Common.{Contains-from_flat_map, value_of_some, none_from_test}
 use Rattle.std.proofs.lemmas.Grind.{flat_map-append}
-use Rattle.std.proofs.lemmas.List.{get_or_past, append-nil, length-drop, nil_from_length, take_all}
-use Rattle.std.proofs.lemmas.List.Elements.{Contains-append_left, Contains-append_right}
-use Rattle.std.proofs.lemmas.List.Elements.{Contains-append_cases}
-use Rattle.std.proofs.lemmas.List.Elements.{Contains-push, Contains-push_cases}
-use Rattle.std.proofs.lemmas.List.Sums.{sum_by-set, count_by-le-length}
-use Rattle.epx_types.proofs.lists.MembershipLemmas.{Contains-nil, Contains-head}
-use Rattle.epx_types.proofs.lists.MembershipLemmas.{Contains-cons_cases, Contains-flat_map}
-use Rattle.epx_types.proofs.lists.MembershipLemmas.{Contains-from_flat_map}
-use Rattle.epx_types.proofs.lists.SearchLemmas.{value_of_some, none_from_test}
+use Rattle.std.proofs.lemmas.List.Sums.{sum_by-set}
 use Rattle.epx_rows.specs.Rows.{row_of}
 use Rattle.epx_graph.specs.inner.Searches.{LeadsIn, node_mark, IsMarked, SearchView, left_to_do}
 use Rattle.epx_graph.specs.inner.Searches.{IsVisit, IsNewMark, IsLevelSearch, AreClosed}
 use Rattle.epx_graph.specs.inner.Searches.{IsSearchFrom, AreFirstMarks}
 
 -- ---- marks
-
-no_mark : (n k : ℕ) → node_mark (replicate n None) k ≡ None
-no_mark n k =
-    elim (cases_lt k n) [
-      | inl l ↦ get_or-replicate n k None None l
-      | inr past ↦ get_or_past (replicate n None) k None
-          (omega (arith, length-replicate {A = Option ℕ} n None))
-    ]
 
 -- a node that has no mark had none, if marks are kept
 none_before : (old new : List (Option ℕ))
@@ -345,13 +334,6 @@ module _ (rows : List (List ℕ)) (start : ℕ) (mark : ℕ → ℕ) (before : L
 -- ---- from start to start
 
 module _ (rows : List (List ℕ)) (mark : ℕ → ℕ → ℕ) (first count : ℕ) where
-  pub marks_none : AreFirstMarks rows mark first first count (replicate count None)
-  marks_none = record {
-    nodes = length-replicate count None;
-    marked = λ k m h. let none = no_mark count k in absurd (cc (h, none));
-    unmarked = λ k s i none after before. absurd (omega arith);
-  }
-
   module _ (start : ℕ) (old : List (Option ℕ))
       (are : AreFirstMarks rows mark first start count old) where
     pub marks_closed : AreClosed rows old

@@ -1,21 +1,11 @@
 -- The marked nodes are the waiting list of the map.
 use Rattle.std.proofs.Common.{◌≡◌, inl, inr, ℕ, ◌+◌, ◌<◌, ◌≤◌, List, [], ◌∷◌, ◌++◌, Option, Some}
 use Rattle.std.proofs.Common.{None, slice_get, Contains, refl, sym, ap, subst, ◌∙◌, arith}
-use Rattle.std.proofs.lemmas.Bool.{cases_lt}
-use Rattle.std.proofs.lemmas.List.{map_push}
-use Rattle.std.proofs.lemmas.List.Elements.{Contains-append_left, Contains-push}
-use Rattle.std.proofs.lemmas.List.Elements.{Contains-push_cases}
-use Rattle.std.proofs.lemmas.Option.{slice_get_within}
-use Rattle.epx_types.specs.declared.id.Id.{Id}
-use Rattle.epx_types.specs.Ids.{Below, UpTo, IsRising}
-use Rattle.epx_types.specs.Instances.{Instance}
-use Rattle.epx_types.specs.Reaching.{Reaches}
-use Rattle.epx_types.specs.Readiness.{WaitsFor}
-use Rattle.epx_types.specs.WaitingLists.{Waiting, waiting_ids, IsWaitingList}
-use Rattle.epx_types.proofs.lists.MembershipLemmas.{Contains-nil}
-use Rattle.epx_types.proofs.lists.MembershipLemmas.{Contains-from_map}
-use Rattle.epx_types.proofs.lists.RisingIdLemmas.{IsRising-push}
-use Rattle.epx_types.proofs.graph.ReachingLemmas.{UpTo-antisymm}
+use Rattle.epx_types.proofs.Common.{cases_lt, map_push, Contains-append_left, Contains-push}
+use Rattle.epx_types.proofs.Common.{Contains-push_cases, slice_get_within, Id, Below, UpTo}
+use Rattle.epx_types.proofs.Common.{IsRising, Instance, Reaches, WaitsFor, Waiting, waiting_ids}
+use Rattle.epx_types.proofs.Common.{IsWaitingList, Contains-nil, Contains-from_map, IsRising-push}
+use Rattle.epx_types.proofs.Common.{UpTo-antisymm}
 use Rattle.epx_graph.specs.Graphs.{DependencyGraph, edges_of, IsGraph}
 use Rattle.epx_graph.specs.GraphOf.{IsGraphOf}
 use Rattle.epx_graph.specs.NodePaths.{NodeReaches}

@@ -7,7 +7,7 @@ ghost use Rattle.epx_types.specs.Ids.{IsRising};
 ghost use Rattle.epx_graph.specs.inner.Remainder.{IsIdStateOf, IsAtPosition, rest_of};
 
 use crate::neighbours::is_absent;
-use epx_committed::{Guesses, Merged};
+use epx_committed::{Merged, PositionHints};
 use epx_types::id_list::find_id;
 use epx_types::{Entry, Id, Memory};
 use std::alloc::Global;
@@ -28,8 +28,8 @@ pub(crate) enum IdState {
 pub(crate) struct Remainder<'a> {
     merged: &'a Merged,
     done: &'a [Id],
-    /// Guesses of the positions of the done instances.
-    guesses: Guesses,
+    /// Hints at the positions of the done instances.
+    hints: PositionHints,
     /// The position in the map of each instance that is left. Empty if nothing is done: the whole
     /// map is left then, and no look-up needs a table.
     positions: Vec<usize>,
@@ -62,22 +62,22 @@ fn is_at(done: &[Id], index: usize, id: Id) -> bool
     index < done.len() && done[index] == id
 }
 
-/// Whether the Id is at its guessed position, which shows that it is done.
-fn is_guessed(done: &[Id], guesses: &Guesses, id: Id) -> bool
+/// Whether the Id is at its hinted position, which shows that it is done.
+fn is_at_hint(done: &[Id], hints: &PositionHints, id: Id) -> bool
     ensures { IsTrue result → Contains done.now id }
 {
-    match guesses.guess(id) {
+    match hints.hint(id) {
         Some(index) => is_at(done, index, id),
         None => false,
     }
 }
 
-/// Whether an Id is done. The guess is usually right; otherwise a binary search decides.
-fn is_done(done: &[Id], guesses: &Guesses, id: Id) -> bool
+/// Whether an Id is done. The hint is usually right; otherwise a binary search decides.
+fn is_done(done: &[Id], hints: &PositionHints, id: Id) -> bool
     requires { IsRising done.now }
     ensures { IsTrue result ↔ Contains done.now id }
 {
-    is_guessed(done, guesses, id) || find_id(done, id).is_some()
+    is_at_hint(done, hints, id) || find_id(done, id).is_some()
 }
 
 /// The first position, from `start` on, whose Id is not below the given one.
@@ -112,7 +112,7 @@ impl<'a> Remainder<'a> {
         requires { IsRising done.now }
         ensures { IfOk result (λ left. left ≡ record { whole = merged.now; done = done.now }) }
     {
-        let guesses = Guesses::of(alloc, done.iter().copied())?;
+        let hints = PositionHints::of(alloc, done.iter().copied())?;
         let mut positions = Vec::new(alloc);
         let mut positions_left = Vec::new(alloc);
         let all = merged.len();
@@ -132,7 +132,7 @@ impl<'a> Remainder<'a> {
         Ok(Remainder {
             merged,
             done,
-            guesses,
+            hints,
             positions,
             positions_left,
         })
@@ -182,7 +182,7 @@ impl<'a> Remainder<'a> {
         ensures { IsIdStateOf self.now id result }
     {
         // Most done Ids are not in the map: this test avoids a search of the map in vain.
-        if is_guessed(self.done, &self.guesses, id) {
+        if is_at_hint(self.done, &self.hints, id) {
             return IdState::Done;
         }
         if let Some(position) = self.merged.position(id) {
@@ -194,7 +194,7 @@ impl<'a> Remainder<'a> {
                 None => IdState::Done,
             };
         }
-        if is_done(self.done, &self.guesses, id) {
+        if is_done(self.done, &self.hints, id) {
             IdState::Done
         } else {
             IdState::Missing
@@ -210,7 +210,7 @@ impl<'a> Remainder<'a> {
         }
         let mut count = 0;
         for id in ids {
-            if is_done(self.done, &self.guesses, *id) {
+            if is_done(self.done, &self.hints, *id) {
                 continue;
             }
             count += 1;

@@ -1,25 +1,13 @@
 -- Executing component by component is lawful.
-use Rattle.std.proofs.Common.{◌≡◌, ◌≢◌, List, [], ◌∷◌, Contains, AllPairs, true}
-use Rattle.std.proofs.Common.{sym, ◌∙◌, subst, subst₂, inl, inr, arith}
-use Rattle.std.proofs.Common.{is_lt, nat_cmp}
-use Rattle.std.specs.List.{flat_map}
-use Rattle.std.specs.Ordering.{ordering_then}
-use Rattle.epx_types.specs.declared.id.Id.{Id}
-use Rattle.epx_types.specs.Ids.{id_cmp, IsRising}
-use Rattle.epx_types.specs.Instances.{Instance}
-use Rattle.epx_types.specs.CommittedMap.{ids_of}
-use Rattle.epx_types.specs.Components.{InOneComponent}
-use Rattle.epx_types.specs.LawfulOrders.{Before, SequenceBefore, IsLawful}
-use Rattle.epx_types.specs.Reaching.{Reaches}
-use Rattle.epx_types.proofs.committed.AgreementLemmas.{IsRising-same}
-use Rattle.epx_types.proofs.graph.ReachingLemmas.{IsReady-reached}
-use Rattle.epx_types.proofs.lists.ListPositionLemmas.{AllPairs-from_slice_get, AllPairs-slice_get}
-use Rattle.epx_types.proofs.lists.ListPositionLemmas.{AllPairs-append, AllPairs-head}
-use Rattle.epx_types.proofs.lists.ListPositionLemmas.{AllPairs-tail, Contains-slice_get}
-use Rattle.epx_types.proofs.lists.MembershipLemmas.{Contains-from_flat_map, Contains-head}
-use Rattle.epx_types.proofs.lists.MembershipLemmas.{Contains-cons}
-use Rattle.epx_types.proofs.lists.TotalOrderLemmas.{below_asymm}
-use Rattle.epx_types.proofs.orders.LawfulOrderLemmas.{Before-cases, sequence_cmp_total}
+use Rattle.std.proofs.Common.{◌≡◌, ◌≢◌, List, [], ◌∷◌, Contains, AllPairs, true, sym, ◌∙◌, subst}
+use Rattle.std.proofs.Common.{subst₂, inl, inr, arith, is_lt, nat_cmp}
+use Rattle.epx_types.proofs.Common.{flat_map, ordering_then, Id, id_cmp, IsRising, Instance, ids_of}
+use Rattle.epx_types.proofs.Common.{InOneComponent, Before, SequenceBefore, IsLawful, Reaches}
+use Rattle.epx_types.proofs.Common.{IsRising-same, IsReady-reached, AllPairs-from_slice_get}
+use Rattle.epx_types.proofs.Common.{AllPairs-slice_get, AllPairs-append, AllPairs-head}
+use Rattle.epx_types.proofs.Common.{AllPairs-tail, Contains-slice_get, Contains-from_flat_map}
+use Rattle.epx_types.proofs.Common.{Contains-head, Contains-cons, below_asymm, Before-cases}
+use Rattle.epx_types.proofs.Common.{sequence_cmp_total}
 use Rattle.epx_laws.specs.AlgorithmLaws.{all_members, AreSortedComponents}
 
 -- no two instances are each before the other by sequence number

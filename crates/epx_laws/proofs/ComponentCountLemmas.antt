@@ -1,22 +1,16 @@
 -- An execution order has as many components as leaders.
 use Rattle.std.proofs.Common.{◌≡◌, ◌≢◌, Bool, true, List, map, filter, length, Contains, AllPairs}
 use Rattle.std.proofs.Common.{is_eq, sym, ap, ◌∙◌, subst}
-use Rattle.std.specs.Cmp.{Equal-is, tied_itself}
-use Rattle.std.proofs.lemmas.List.{length-map}
-use Rattle.std.proofs.lemmas.List.Kept.{AllPairs-filter}
+use Rattle.epx_types.proofs.Common.{Equal-is, length-map, AllPairs-filter, Id, id_cmp, Instance}
+use Rattle.epx_types.proofs.Common.{Ranked, ranked_ids, IsExecutionOrder, component_count}
+use Rattle.epx_types.proofs.Common.{id_cmp_total, id_cmp-IsAntisymmetric, Contains-map}
+use Rattle.epx_types.proofs.Common.{Contains-from_map, Contains-filter, Contains-from_filter}
+use Rattle.epx_types.proofs.Common.{passes-from_filter, slice_get-from_map, AllPairs-slice_get}
+use Rattle.epx_types.proofs.Common.{AllPairs-from_slice_get, IsExecutionOrder-once}
+use Rattle.epx_types.proofs.Common.{IsExecutionOrder-leaders}
+use Rattle.std.specs.Cmp.{tied_itself}
 use Rattle.std.proofs.lemmas.List.Sums.{length-filter}
-use Rattle.epx_types.specs.declared.id.Id.{Id}
-use Rattle.epx_types.specs.Ids.{id_cmp}
-use Rattle.epx_types.specs.Instances.{Instance}
-use Rattle.epx_types.specs.ExecutionOrder.{Ranked, ranked_ids, IsExecutionOrder, component_count}
-use Rattle.epx_types.proofs.lists.ComparisonLemmas.{id_cmp_total, id_cmp-IsAntisymmetric}
-use Rattle.epx_types.proofs.lists.MembershipLemmas.{Contains-map, Contains-from_map}
-use Rattle.epx_types.proofs.lists.MembershipLemmas.{Contains-filter, Contains-from_filter}
-use Rattle.epx_types.proofs.lists.MembershipLemmas.{passes-from_filter}
-use Rattle.epx_types.proofs.lists.ListPositionLemmas.{slice_get-map, slice_get-from_map}
-use Rattle.epx_types.proofs.lists.ListPositionLemmas.{AllPairs-slice_get, AllPairs-from_slice_get}
-use Rattle.epx_types.proofs.orders.ExecutionOrderLemmas.{IsExecutionOrder-once}
-use Rattle.epx_types.proofs.orders.ExecutionOrderLemmas.{IsExecutionOrder-leaders}
+use Rattle.epx_types.proofs.lists.ListPositionLemmas.{slice_get-map}
 
 abbrev pub leads : Ranked → Bool
 leads r = is_eq (id_cmp r.id r.leader)

@@ -1,18 +1,11 @@
 -- What is ready and lawful in a map is so in every map that contains it, with the same commands.
 use Rattle.std.proofs.Common.{◌≡◌, ◌∙◌, List, Contains, sym, ap, subst}
-use Rattle.epx_types.specs.declared.id.Id.{Id}
-use Rattle.epx_types.specs.Ids.{IsRising}
-use Rattle.epx_types.specs.Instances.{Instance}
-use Rattle.epx_types.specs.CommittedMap.{ids_of, instance_of, ops_or_empty, commands_in, IsCommitted}
-use Rattle.epx_types.specs.Reaching.{DependsOn, Reaches}
-use Rattle.epx_types.specs.Readiness.{IsReady}
-use Rattle.epx_types.specs.LawfulOrders.{SequenceBefore, IsLawfulFor, IsLawful}
-use Rattle.epx_types.proofs.committed.AgreementLemmas.{IsRising-same, instance_of_iff}
-use Rattle.epx_types.proofs.committed.AgreementLemmas.{instance_of-found, instance_of-finds}
-use Rattle.epx_types.proofs.graph.DependencyLemmas.{IsCommitted-from_Contains}
-use Rattle.epx_types.proofs.lists.MembershipLemmas.{Contains-from_map, map-agree}
-use Rattle.epx_types.proofs.graph.ReachingLemmas.{Reaches-refl, Reaches-trans, Reaches-dependency}
-use Rattle.epx_types.proofs.graph.ReachingLemmas.{Reaches-passes}
+use Rattle.epx_types.proofs.Common.{Id, IsRising, Instance, ids_of, instance_of, ops_or_empty}
+use Rattle.epx_types.proofs.Common.{commands_in, IsCommitted, DependsOn, Reaches, IsReady}
+use Rattle.epx_types.proofs.Common.{SequenceBefore, IsLawfulFor, IsLawful, IsRising-same}
+use Rattle.epx_types.proofs.Common.{instance_of_iff, instance_of-found, instance_of-finds}
+use Rattle.epx_types.proofs.Common.{IsCommitted-from_Contains, Contains-from_map, map-agree}
+use Rattle.epx_types.proofs.Common.{Reaches-refl, Reaches-trans, Reaches-dependency, Reaches-passes}
 
 module _ (m more : List Instance) (rising : IsRising (ids_of more))
     (within : (e : Instance) → Contains m e → Contains more e) where

@@ -1,13 +1,11 @@
 -- Finitely many names, each given once, extend to an injective function.
-use Rattle.std.proofs.Common.{◌≡◌, ◌≢◌, ◌⊎◌, ℕ, ℤ, List, [], ◌∷◌, Contains, refl, sym, ap}
-use Rattle.std.proofs.Common.{◌∙◌, subst, inl, inr}
+use Rattle.std.proofs.Common.{◌≡◌, ◌≢◌, ◌⊎◌, ℕ, ℤ, List, [], ◌∷◌, Contains, refl, sym, ap, ◌∙◌}
+use Rattle.std.proofs.Common.{subst, inl, inr}
 use Rattle.std.specs.Ordering.{int_eq}
 use Rattle.std.proofs.lemmas.Bool.Decides.{Decides-int_eq}
-use Rattle.std.proofs.lemmas.List.Elements.{All-contains}
+use Rattle.epx_types.proofs.Common.{All-contains, key_cases, AllPairs-first, AllPairs-tail}
+use Rattle.epx_types.proofs.Common.{Contains-nil, Contains-cons_cases}
 use Rattle.epx_types.proofs.commands.EqualityLemmas.{decided}
-use Rattle.epx_types.proofs.keys.KeyListLemmas.{key_cases}
-use Rattle.epx_types.proofs.lists.ListPositionLemmas.{AllPairs-first, AllPairs-tail}
-use Rattle.epx_types.proofs.lists.MembershipLemmas.{Contains-nil, Contains-cons_cases}
 use Rattle.epx_laws.specs.Renaming.{IsInjective, Renaming}
 use Rattle.epx_laws.specs.RenamingLaws.{AreOneToOne, GivesNames}
 

@@ -2,23 +2,12 @@
 -- is not covered, two instances that conflict may come in either order.
 use Rattle.std.proofs.Common.{◌≡◌, ◌≢◌, ◌⊎◌, Bool, true, false, not, List, ◌++◌, filter, Contains}
 use Rattle.std.proofs.Common.{refl, inl, inr}
-use Rattle.std.proofs.lemmas.List.Kept.{AllPairs-filter}
-use Rattle.epx_types.specs.declared.id.Id.{Id}
-use Rattle.epx_types.specs.Ids.{IsRising}
-use Rattle.epx_types.specs.Instances.{Instance}
-use Rattle.epx_types.specs.CommittedMap.{ids_of}
-use Rattle.epx_types.specs.Done.{is_among, remaining_ids}
-use Rattle.epx_types.specs.Conflicts.{IsCovered}
-use Rattle.epx_types.specs.LawfulOrders.{Before, IsLawful, IsLawfulFor}
-use Rattle.epx_types.specs.Reaching.{Reaches}
-use Rattle.epx_types.specs.Readiness.{IsReady}
-use Rattle.epx_types.proofs.graph.ReachingDecisionLemmas.{Reaches-cases}
-use Rattle.epx_types.proofs.graph.ReachingLemmas.{IsReady-reached, Reaches-refl, Reaches-trans}
-use Rattle.epx_types.proofs.lists.BeforeLemmas.{Before-across, Before-filter}
-use Rattle.epx_types.proofs.lists.MembershipLemmas.{Contains-filter, Contains-from_filter}
-use Rattle.epx_types.proofs.lists.MembershipLemmas.{passes-from_filter}
-use Rattle.epx_types.proofs.orders.LawfulPartLemmas.{IsLawful-part_and_rest, passes_rest}
-use Rattle.epx_types.proofs.orders.LawfulOrderLemmas.{Before-not_both}
+use Rattle.epx_types.proofs.Common.{AllPairs-filter, Id, IsRising, Instance, ids_of, is_among}
+use Rattle.epx_types.proofs.Common.{remaining_ids, IsCovered, Before, IsLawful, IsLawfulFor}
+use Rattle.epx_types.proofs.Common.{Reaches, IsReady, Reaches-cases, IsReady-reached, Reaches-refl}
+use Rattle.epx_types.proofs.Common.{Reaches-trans, Before-across, Before-filter, Contains-filter}
+use Rattle.epx_types.proofs.Common.{Contains-from_filter, passes-from_filter}
+use Rattle.epx_types.proofs.Common.{IsLawful-part_and_rest, passes_rest, Before-not_both}
 use Rattle.epx_laws.specs.OrderLaws.{ConflictsAreOrdered}
 use Rattle.epx_laws.proofs.PrefixLemmas.{lawful_order}
 

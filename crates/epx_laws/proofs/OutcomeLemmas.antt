@@ -1,26 +1,14 @@
 -- Each committed instance is executed or waits.
 use Rattle.std.proofs.Common.{◌≡◌, ◌≢◌, ◌⊎◌, ◌↔◌, ◌+◌, ◌++◌, List, length, Contains, AllPairs}
 use Rattle.std.proofs.Common.{subst, inl, inr, arith}
-use Rattle.std.specs.Ordering.{is_eq}
-use Rattle.std.proofs.lemmas.List.{length-map, length-append}
-use Rattle.std.proofs.lemmas.List.Sums.{count_by-le-length}
-use Rattle.std.proofs.lemmas.List.Elements.{Contains-append_left, Contains-append_right}
-use Rattle.std.proofs.lemmas.List.Elements.{Contains-append_cases}
-use Rattle.epx_types.specs.declared.id.Id.{Id}
-use Rattle.epx_types.specs.Ids.{id_cmp, IsRising}
-use Rattle.epx_types.specs.Instances.{Instance}
-use Rattle.epx_types.specs.CommittedMap.{ids_of, IsCommitted}
-use Rattle.epx_types.specs.Reaching.{Reaches}
-use Rattle.epx_types.specs.Readiness.{IsReady, WaitsFor}
-use Rattle.epx_types.specs.ExecutionOrder.{Ranked, IsExecutionOrder, ranked_ids}
-use Rattle.epx_types.specs.WaitingLists.{Waiting, IsWaitingList, waiting_ids}
-use Rattle.epx_types.proofs.graph.ReachingLemmas.{IsReady-not_waiting}
-use Rattle.epx_types.proofs.lists.ListPositionLemmas.{AllPairs-append}
-use Rattle.epx_types.proofs.lists.MembershipLemmas.{Contains-map, Contains-from_map}
-use Rattle.epx_types.proofs.lists.RisingIdLemmas.{rising_once}
-use Rattle.epx_types.proofs.orders.ExecutionOrderLemmas.{IsExecutionOrder-IsLawful}
-use Rattle.epx_types.proofs.orders.RankExistenceLemmas.{ready_or_waits}
-use Rattle.epx_types.proofs.orders.OrderLengthLemmas.{fewer}
+use Rattle.epx_types.proofs.Common.{is_eq, length-map, length-append, count_by-le-length}
+use Rattle.epx_types.proofs.Common.{Contains-append_left, Contains-append_right}
+use Rattle.epx_types.proofs.Common.{Contains-append_cases, Id, id_cmp, IsRising, Instance, ids_of}
+use Rattle.epx_types.proofs.Common.{IsCommitted, Reaches, IsReady, WaitsFor, Ranked}
+use Rattle.epx_types.proofs.Common.{IsExecutionOrder, ranked_ids, Waiting, IsWaitingList}
+use Rattle.epx_types.proofs.Common.{waiting_ids, IsReady-not_waiting, AllPairs-append, Contains-map}
+use Rattle.epx_types.proofs.Common.{Contains-from_map, rising_once, IsExecutionOrder-IsLawful}
+use Rattle.epx_types.proofs.Common.{ready_or_waits, fewer}
 use Rattle.epx_laws.specs.OutcomeLaws.{EachHasOneOutcome}
 
 -- ---- outcomes

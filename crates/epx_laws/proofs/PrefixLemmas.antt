@@ -1,28 +1,13 @@
 -- Prefixes of lawful orders: which lists are, and that they reply as the order does.
-use Rattle.std.proofs.Common.{◌≡◌, ◌∙◌, ℕ, ◌<◌, List, [], ◌++◌, length, map, Contains, Some}
+use Rattle.std.proofs.Common.{◌≡◌, ◌∙◌, ℕ, ◌<◌, List, [], ◌++◌, length, Contains, Some}
 use Rattle.std.proofs.Common.{slice_get, get_or, sym, ap, subst, arith}
-use Rattle.std.proofs.lemmas.List.{length-map, map-append, append-nil}
-use Rattle.std.proofs.lemmas.Option.{slice_get_within, slice_get-get_or}
-use Rattle.epx_types.specs.declared.id.Id.{Id}
-use Rattle.epx_types.specs.declared.reply.Reply.TheVariants.{Abort}
-use Rattle.epx_types.specs.Ids.{IsRising}
-use Rattle.epx_types.specs.Instances.{Instance}
-use Rattle.epx_types.specs.Contents.{Contents}
-use Rattle.epx_types.specs.CommittedMap.{ids_of, instance_of, ops_or_empty, commands_in}
-use Rattle.epx_types.specs.Conflicts.{IsCovered}
-use Rattle.epx_types.specs.Execution.{execute}
-use Rattle.epx_types.specs.Done.{remaining_ids}
-use Rattle.epx_types.specs.ExecutionOrder.{ranked_ids}
-use Rattle.epx_types.specs.LawfulPrefixes.{IsLawfulPrefix}
-use Rattle.epx_types.specs.LawfulOrders.{IsLawful, IsLawfulFor}
-use Rattle.epx_types.specs.Reaching.{Reaches}
-use Rattle.epx_types.specs.Readiness.{IsReady}
-use Rattle.epx_types.proofs.commands.ExecutionLemmas.{length-replies, execute-append}
-use Rattle.epx_types.proofs.lists.BeforeLemmas.{slice_get-append_left}
-use Rattle.epx_types.proofs.orders.ExecutionOrderLemmas.{IsExecutionOrder-IsLawful}
-use Rattle.epx_types.proofs.orders.LawfulExecutionLemmas.{reply-lawful}
-use Rattle.epx_types.proofs.orders.LawfulPartLemmas.{IsLawful-part_and_rest}
-use Rattle.epx_types.proofs.orders.OrderExistenceLemmas.{execution_order_exists}
+use Rattle.epx_types.proofs.Common.{length-map, map-append, append-nil, slice_get_within}
+use Rattle.epx_types.proofs.Common.{slice_get-get_or, Id, Abort, IsRising, Instance, Contents}
+use Rattle.epx_types.proofs.Common.{ids_of, instance_of, ops_or_empty, commands_in, IsCovered}
+use Rattle.epx_types.proofs.Common.{execute, remaining_ids, ranked_ids, IsLawfulPrefix, IsLawful}
+use Rattle.epx_types.proofs.Common.{IsLawfulFor, Reaches, IsReady, length-replies, execute-append}
+use Rattle.epx_types.proofs.Common.{slice_get-append_left, IsExecutionOrder-IsLawful, reply-lawful}
+use Rattle.epx_types.proofs.Common.{IsLawful-part_and_rest, execution_order_exists}
 
 -- each committed map has a lawful order
 pub lawful_order : (m : List Instance) → IsRising (ids_of m) → (ids : List Id) × IsLawful m ids

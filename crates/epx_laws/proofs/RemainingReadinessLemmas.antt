@@ -1,14 +1,8 @@
 -- A remaining instance is ready in the remaining map exactly if it is ready in the whole map.
 use Rattle.std.proofs.Common.{◌↔◌, List, [], ◌∷◌, Contains, subst, inl, inr}
-use Rattle.epx_types.specs.declared.id.Id.{Id}
-use Rattle.epx_types.specs.Instances.{Instance}
-use Rattle.epx_types.specs.CommittedMap.{IsCommitted}
-use Rattle.epx_types.specs.Done.{remaining}
-use Rattle.epx_types.specs.Reaching.{IsPath, Reaches}
-use Rattle.epx_types.specs.Readiness.{IsReady}
-use Rattle.epx_types.proofs.remaining.RemainingLemmas.{Contains-remaining_iff, DependsOn-remaining}
-use Rattle.epx_types.proofs.remaining.RemainingLemmas.{is_among_cases}
-use Rattle.epx_types.proofs.graph.ReachingLemmas.{Reaches-trans, Reaches-dependency}
+use Rattle.epx_types.proofs.Common.{Id, Instance, IsCommitted, remaining, IsPath, Reaches, IsReady}
+use Rattle.epx_types.proofs.Common.{Contains-remaining_iff, DependsOn-remaining, is_among_cases}
+use Rattle.epx_types.proofs.Common.{Reaches-trans, Reaches-dependency}
 
 module _ (done : List Id) (m : List Instance) where
   -- ---- a remaining instance reaches what it reached before and is not done

@@ -1,18 +1,10 @@
 -- A remaining instance waits for the same instance in the remaining map as in the whole map, also
 -- if the remaining map is that of other logs.
 use Rattle.std.proofs.Common.{◌↔◌, List, [], ◌∷◌, Contains, refl, subst, inl, inr}
-use Rattle.epx_types.specs.declared.id.Id.{Id}
-use Rattle.epx_types.specs.Instances.{Instance}
-use Rattle.epx_types.specs.CommittedMap.{IsCommitted}
-use Rattle.epx_types.specs.Done.{remaining}
-use Rattle.epx_types.specs.Reaching.{IsPath, Reaches}
-use Rattle.epx_types.specs.Sound.{HasRemaining}
-use Rattle.epx_types.specs.Readiness.{IsReady, WaitsFor}
-use Rattle.epx_types.proofs.graph.ReachingLemmas.{Reaches-trans, Reaches-dependency}
-use Rattle.epx_types.proofs.graph.WaitingLemmas.{Contains-Id_cases}
-use Rattle.epx_types.proofs.remaining.RemainingLemmas.{Contains-remaining_iff, DependsOn-remaining}
-use Rattle.epx_types.proofs.remaining.RemainingLemmas.{from_remaining, not_done}
-use Rattle.epx_types.proofs.remaining.RemainingPositionLemmas.{Contains-left}
+use Rattle.epx_types.proofs.Common.{Id, Instance, IsCommitted, remaining, IsPath, Reaches}
+use Rattle.epx_types.proofs.Common.{HasRemaining, IsReady, WaitsFor, Reaches-trans}
+use Rattle.epx_types.proofs.Common.{Reaches-dependency, Contains-Id_cases, Contains-remaining_iff}
+use Rattle.epx_types.proofs.Common.{DependsOn-remaining, from_remaining, not_done, Contains-left}
 use Rattle.epx_laws.proofs.RemainingReadinessLemmas.{Reaches-from_remaining}
 use Rattle.epx_laws.proofs.SameGraphLemmas.{IsInGraphOf, WaitsFor-same}
 

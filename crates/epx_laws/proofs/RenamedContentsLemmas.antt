@@ -1,18 +1,14 @@
 -- Contents under new names: what is read of them, and what is assigned to them.
-use Rattle.std.proofs.Common.{◌≡◌, ◌⊎◌, ℕ, ℤ, Bool, true, false, cond, not, ◌&&◌, int_lt, List}
-use Rattle.std.proofs.Common.{[], ◌∷◌, map, Option, Some, None, option_map, refl, sym, ap, ap₂}
-use Rattle.std.proofs.Common.{◌∙◌, subst, inl, inr}
-use Rattle.std.specs.Bool.{Decides}
-use Rattle.std.specs.Ordering.{eq_by_cmp, is_eq}
-use Rattle.std.specs.declared.cmp.Ordering.TheVariants.{Less, Equal, Greater}
+use Rattle.std.proofs.Common.{◌≡◌, ◌⊎◌, ℕ, ℤ, Bool, true, false, cond, not, ◌&&◌, int_lt, List, []}
+use Rattle.std.proofs.Common.{◌∷◌, map, Option, Some, None, option_map, refl, sym, ap, ap₂, ◌∙◌}
+use Rattle.std.proofs.Common.{subst, inl, inr}
+use Rattle.epx_types.proofs.Common.{Decides, eq_by_cmp, is_eq, Less, Equal, Greater, get-empty}
+use Rattle.epx_types.proofs.Common.{get-entries, get-from_entries, key_cmp, Contents, assign}
+use Rattle.epx_types.proofs.Common.{same_value, key_cmp_total, key_cases, same_contents, get-assign}
+use Rattle.epx_types.proofs.Common.{get-assign_cases}
 use Rattle.std.specs.FinMap as contents
-use Rattle.std.specs.FinMap.{find, get-empty, get-entries, get-from_entries}
+use Rattle.std.specs.FinMap.{find}
 use Rattle.std.proofs.lemmas.Bool.Decides.{same_from_decides, Decides-at, Decides-int_eq}
-use Rattle.epx_types.specs.Keys.{key_cmp}
-use Rattle.epx_types.specs.Contents.{Contents, assign}
-use Rattle.epx_types.specs.Operations.{same_value}
-use Rattle.epx_types.proofs.keys.KeyListLemmas.{key_cmp_total, key_cases}
-use Rattle.epx_types.proofs.commands.ContentsLemmas.{same_contents, get-assign, get-assign_cases}
 use Rattle.epx_laws.specs.Renaming.{Renaming, renamed_value, renamed_contents}
 
 -- an option is Some or None

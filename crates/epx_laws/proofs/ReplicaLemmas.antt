@@ -1,41 +1,20 @@
 -- Prefixes of lawful orders in maps that grow, and in parts of one map.
-use Rattle.std.proofs.Common.{◌≡◌, ◌≢◌, ◌↔◌, ◌∙◌, ℕ, ◌<◌, List, ◌++◌, length, Contains}
-use Rattle.std.proofs.Common.{AllPairs, Some, slice_get, get_or, append_assoc, sym, ap, subst}
-use Rattle.std.proofs.Common.{inl, inr, arith}
-use Rattle.std.proofs.lemmas.List.{length-map}
-use Rattle.std.proofs.lemmas.List.Elements.{Contains-append_left}
-use Rattle.std.proofs.lemmas.Option.{slice_get_within, slice_get-get_or}
-use Rattle.epx_types.specs.declared.id.Id.{Id}
-use Rattle.epx_types.specs.declared.op.Op.{Op}
-use Rattle.epx_types.specs.Ids.{IsRising}
-use Rattle.epx_types.specs.Instances.{Instance}
-use Rattle.epx_types.specs.Contents.{Contents}
-use Rattle.epx_types.specs.CommittedMap.{ids_of, instance_of, commands_in, ops_or_empty}
-use Rattle.epx_types.specs.Conflicts.{Conflict, IsCovered}
-use Rattle.epx_types.specs.Done.{remaining_ids}
-use Rattle.epx_types.specs.Execution.{execute}
-use Rattle.epx_types.specs.LawfulPrefixes.{IsLawfulPrefix}
-use Rattle.epx_types.specs.LawfulOrders.{Before, IsLawful, IsLawfulFor}
-use Rattle.epx_types.specs.Reaching.{Reaches}
-use Rattle.epx_types.specs.Readiness.{IsReady}
-use Rattle.epx_types.proofs.committed.AgreementLemmas.{instance_of_iff}
-use Rattle.epx_types.proofs.commands.ExecutionLemmas.{length-replies}
-use Rattle.epx_types.proofs.commands.RearrangedListLemmas.{IsRearranged}
-use Rattle.epx_types.proofs.commands.RearrangedListLemmas.{execute-rearranged}
-use Rattle.epx_types.proofs.commands.RearrangementLemmas.{Once-from_AllPairs, Precedes-from_Before}
-use Rattle.epx_types.proofs.commands.RearrangementLemmas.{AllPairs-Precedes}
-use Rattle.epx_types.proofs.graph.ReachingLemmas.{IsReady-reached}
-use Rattle.epx_types.proofs.lists.BeforeLemmas.{Before-append_left, Before-from_Precedes}
-use Rattle.epx_types.proofs.lists.BeforeLemmas.{slice_get-append_left}
-use Rattle.epx_types.proofs.lists.ListPositionLemmas.{slice_get-from_Contains, Contains-slice_get}
-use Rattle.epx_types.proofs.lists.ListPositionLemmas.{AllPairs-from_slice_get}
-use Rattle.epx_types.proofs.lists.ListPositionLemmas.{AllPairs-slice_get}
-use Rattle.epx_types.proofs.lists.MembershipLemmas.{map-agree, Contains-from_map}
-use Rattle.epx_types.proofs.orders.LawfulOrderLemmas.{Before-in_first, Before-in_second}
-use Rattle.epx_types.proofs.orders.LawfulOrderLemmas.{Before-alike_reaching, Before-alike_reached}
-use Rattle.epx_types.proofs.orders.LawfulOrderLemmas.{same_position}
-use Rattle.epx_types.proofs.orders.LawfulPartLemmas.{IsLawful-part_and_rest}
-use Rattle.epx_types.proofs.orders.LawfulExecutionLemmas.{reply_function}
+use Rattle.std.proofs.Common.{◌≡◌, ◌≢◌, ◌↔◌, ◌∙◌, ℕ, ◌<◌, List, ◌++◌, length, Contains, AllPairs}
+use Rattle.std.proofs.Common.{Some, slice_get, get_or, append_assoc, sym, ap, subst, inl, inr}
+use Rattle.std.proofs.Common.{arith}
+use Rattle.epx_types.proofs.Common.{length-map, Contains-append_left, slice_get_within}
+use Rattle.epx_types.proofs.Common.{slice_get-get_or, Id, Op, IsRising, Instance, Contents, ids_of}
+use Rattle.epx_types.proofs.Common.{instance_of, commands_in, ops_or_empty, Conflict, IsCovered}
+use Rattle.epx_types.proofs.Common.{remaining_ids, execute, IsLawfulPrefix, Before, IsLawful}
+use Rattle.epx_types.proofs.Common.{Reaches, IsReady, instance_of_iff, length-replies}
+use Rattle.epx_types.proofs.Common.{IsRearranged, execute-rearranged, Once-from_AllPairs}
+use Rattle.epx_types.proofs.Common.{Precedes-from_Before, AllPairs-Precedes, IsReady-reached}
+use Rattle.epx_types.proofs.Common.{Before-append_left, Before-from_Precedes, slice_get-append_left}
+use Rattle.epx_types.proofs.Common.{slice_get-from_Contains, Contains-slice_get}
+use Rattle.epx_types.proofs.Common.{AllPairs-from_slice_get, AllPairs-slice_get}
+use Rattle.epx_types.proofs.Common.{Contains-from_map, Before-in_first, Before-in_second}
+use Rattle.epx_types.proofs.Common.{Before-alike_reaching, Before-alike_reached, same_position}
+use Rattle.epx_types.proofs.Common.{IsLawful-part_and_rest, reply_function}
 use Rattle.epx_laws.specs.GrowthLaws.{IsWithin}
 use Rattle.epx_laws.specs.ReplicaLaws.{HasExecuted}
 use Rattle.epx_laws.proofs.PrefixLemmas.{lawful_order, reply-prefix}

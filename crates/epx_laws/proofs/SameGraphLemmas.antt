@@ -1,23 +1,12 @@
 -- Two maps whose instances differ in their operations alone have the same graph, the same ready
 -- and waiting instances, and the same orders.
-use Rattle.std.proofs.Common.{◌≡◌, ℕ, List, [], ◌∷◌, Contains, is_lt, nat_cmp, sym, ap₂}
-use Rattle.std.proofs.Common.{◌∙◌, subst}
-use Rattle.std.specs.Ordering.{ordering_then}
-use Rattle.epx_types.specs.declared.id.Id.{Id}
-use Rattle.epx_types.specs.Ids.{id_cmp}
-use Rattle.epx_types.specs.Instances.{Instance}
-use Rattle.epx_types.specs.CommittedMap.{IsCommitted}
-use Rattle.epx_types.specs.Reaching.{DependsOn, Reaches}
-use Rattle.epx_types.specs.Readiness.{IsReady, WaitsFor}
-use Rattle.epx_types.specs.WaitingLists.{Waiting, IsWaitingList}
-use Rattle.epx_types.specs.Components.{InOneComponent, IsLeader}
-use Rattle.epx_types.specs.Depth.{Descends, IsDepth}
-use Rattle.epx_types.specs.ExecutionOrder.{Ranked, IsRanked, IsExecutionOrder}
-use Rattle.epx_types.specs.LawfulOrders.{SequenceBefore, IsLawful}
-use Rattle.epx_types.proofs.lists.MembershipLemmas.{Contains-from_map}
-use Rattle.epx_types.proofs.graph.DependencyLemmas.{IsCommitted-from_Contains}
-use Rattle.epx_types.proofs.graph.ReachingLemmas.{Reaches-refl, Reaches-trans, Reaches-dependency}
-use Rattle.epx_types.proofs.graph.ReachingLemmas.{Reaches-passes}
+use Rattle.std.proofs.Common.{◌≡◌, ℕ, List, [], ◌∷◌, Contains, is_lt, nat_cmp, sym, ap₂, ◌∙◌, subst}
+use Rattle.epx_types.proofs.Common.{ordering_then, Id, id_cmp, Instance, IsCommitted, DependsOn}
+use Rattle.epx_types.proofs.Common.{Reaches, IsReady, WaitsFor, Waiting, IsWaitingList}
+use Rattle.epx_types.proofs.Common.{InOneComponent, IsLeader, Descends, IsDepth, Ranked, IsRanked}
+use Rattle.epx_types.proofs.Common.{IsExecutionOrder, SequenceBefore, IsLawful, Contains-from_map}
+use Rattle.epx_types.proofs.Common.{IsCommitted-from_Contains, Reaches-refl, Reaches-trans}
+use Rattle.epx_types.proofs.Common.{Reaches-dependency, Reaches-passes}
 
 -- each instance of m is in n, but for its operations
 abbrev pub IsInGraphOf : List Instance → List Instance → Type 0

@@ -2,35 +2,21 @@
 use Rattle.std.proofs.Common.{◌≡◌, ◌≢◌, ◌<◌, ◌∙◌, ℕ, Bool, true, List, map, filter, Contains}
 use Rattle.std.proofs.Common.{AllPairs, Some, slice_get, sym, ap, ap₂, subst, subst₂, inl, inr}
 use Rattle.std.proofs.Common.{is_lt, nat_cmp, Equal}
-use Rattle.std.specs.Ordering.{is_eq, ordering_then}
-use Rattle.std.specs.Cmp.{Equal-is, nat_cmp_total, tied_itself}
-use Rattle.std.proofs.lemmas.List.Kept.{AllPairs-filter}
-use Rattle.epx_types.specs.declared.id.Id.{Id}
-use Rattle.epx_types.specs.Ids.{id_cmp, IsRising}
-use Rattle.epx_types.specs.Instances.{Instance}
-use Rattle.epx_types.specs.CommittedMap.{ids_of}
-use Rattle.epx_types.specs.Components.{InOneComponent, IsLeader}
-use Rattle.epx_types.specs.ExecutionOrder.{Ranked, RanksBelow, IsExecutionOrder, ranked_ids}
-use Rattle.epx_types.specs.LawfulOrders.{Before, SequenceBefore, IsLawful}
-use Rattle.epx_types.specs.Reaching.{Reaches}
-use Rattle.epx_types.specs.Readiness.{IsReady}
-use Rattle.epx_types.proofs.graph.ReachingDecisionLemmas.{Reaches-cases}
-use Rattle.epx_types.proofs.graph.ReachingLemmas.{IsLeader-along, IsLeader-unique, Reaches-trans}
-use Rattle.epx_types.proofs.graph.ReachingLemmas.{InOneComponent-symm, InOneComponent-trans}
-use Rattle.epx_types.proofs.graph.ReachingLemmas.{IsDepth-along, IsDepth-unique}
-use Rattle.epx_types.proofs.lists.ComparisonLemmas.{id_cmp_total, id_cmp-IsAntisymmetric}
-use Rattle.epx_types.proofs.lists.ListPositionLemmas.{AllPairs-from_slice_get, AllPairs-slice_get}
-use Rattle.epx_types.proofs.lists.ListPositionLemmas.{Contains-slice_get, slice_get-from_map}
-use Rattle.epx_types.proofs.lists.MembershipLemmas.{Contains-filter, Contains-from_filter}
-use Rattle.epx_types.proofs.lists.MembershipLemmas.{Contains-map, Contains-from_map}
-use Rattle.epx_types.proofs.lists.MembershipLemmas.{Contains-flat_map, Contains-from_flat_map}
-use Rattle.epx_types.proofs.lists.MembershipLemmas.{passes-from_filter}
-use Rattle.epx_types.proofs.orders.ExecutionOrderLemmas.{Before-from_rank}
-use Rattle.epx_types.proofs.orders.ExecutionOrderLemmas.{IsExecutionOrder-IsLawful}
-use Rattle.epx_types.proofs.orders.ExecutionOrderLemmas.{IsExecutionOrder-ranked}
-use Rattle.epx_types.proofs.orders.LawfulOrderLemmas.{Before-differ, Before-in_first}
-use Rattle.epx_types.proofs.orders.LawfulOrderLemmas.{Before-not_both}
-use Rattle.epx_types.proofs.orders.OrderExistenceLemmas.{execution_order_exists}
+use Rattle.epx_types.proofs.Common.{is_eq, ordering_then, Equal-is, nat_cmp_total, AllPairs-filter}
+use Rattle.epx_types.proofs.Common.{Id, id_cmp, IsRising, Instance, ids_of, InOneComponent}
+use Rattle.epx_types.proofs.Common.{IsLeader, Ranked, RanksBelow, IsExecutionOrder, ranked_ids}
+use Rattle.epx_types.proofs.Common.{Before, SequenceBefore, IsLawful, Reaches, IsReady}
+use Rattle.epx_types.proofs.Common.{Reaches-cases, IsLeader-along, IsLeader-unique, Reaches-trans}
+use Rattle.epx_types.proofs.Common.{InOneComponent-symm, InOneComponent-trans, IsDepth-along}
+use Rattle.epx_types.proofs.Common.{IsDepth-unique, id_cmp_total, id_cmp-IsAntisymmetric}
+use Rattle.epx_types.proofs.Common.{AllPairs-from_slice_get, AllPairs-slice_get, Contains-slice_get}
+use Rattle.epx_types.proofs.Common.{slice_get-from_map, Contains-filter, Contains-from_filter}
+use Rattle.epx_types.proofs.Common.{Contains-map, Contains-from_map, Contains-flat_map}
+use Rattle.epx_types.proofs.Common.{Contains-from_flat_map, passes-from_filter, Before-from_rank}
+use Rattle.epx_types.proofs.Common.{IsExecutionOrder-IsLawful, IsExecutionOrder-ranked}
+use Rattle.epx_types.proofs.Common.{Before-differ, Before-in_first, Before-not_both}
+use Rattle.epx_types.proofs.Common.{execution_order_exists}
+use Rattle.std.specs.Cmp.{tied_itself}
 use Rattle.epx_laws.specs.AlgorithmLaws.{all_members, AreSortedComponents}
 use Rattle.epx_laws.proofs.ComponentCountLemmas.{leads, leaders_of, leaders_of-lead}
 use Rattle.epx_laws.proofs.ComponentCountLemmas.{Contains-leaders_of}

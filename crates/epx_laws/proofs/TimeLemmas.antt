@@ -1,16 +1,9 @@
 -- Instances with lower sequence numbers come first.
-use Rattle.std.proofs.Common.{◌≡◌, ◌<◌, ◌++◌, Bool, true, List, Contains, Less, nat_cmp, refl}
-use Rattle.std.proofs.Common.{inl, inr}
-use Rattle.std.specs.Cmp.{nat_cmp_is}
-use Rattle.std.proofs.lemmas.List.Elements.{Contains-append_left}
-use Rattle.epx_types.specs.declared.id.Id.{Id}
-use Rattle.epx_types.specs.Instances.{Instance}
-use Rattle.epx_types.specs.Conflicts.{Conflict}
-use Rattle.epx_types.specs.LawfulOrders.{Before, IsLawful}
-use Rattle.epx_types.specs.LawfulPrefixes.{IsLawfulPrefix}
-use Rattle.epx_types.specs.Reaching.{Reaches}
-use Rattle.epx_types.proofs.graph.ReachingDecisionLemmas.{Reaches-cases}
-use Rattle.epx_types.proofs.graph.ReachingLemmas.{IsReady-reached}
+use Rattle.std.proofs.Common.{◌≡◌, ◌<◌, ◌++◌, Bool, true, List, Contains, Less, nat_cmp, refl, inl}
+use Rattle.std.proofs.Common.{inr}
+use Rattle.epx_types.proofs.Common.{nat_cmp_is, Contains-append_left, Id, Instance, Conflict}
+use Rattle.epx_types.proofs.Common.{Before, IsLawful, IsLawfulPrefix, Reaches, Reaches-cases}
+use Rattle.epx_types.proofs.Common.{IsReady-reached}
 use Rattle.epx_laws.specs.TimeLaws.{RespectsTime}
 use Rattle.epx_laws.proofs.ReplicaLemmas.{Before-in_front}
 

@@ -1,22 +1,14 @@
 -- The parts that are read from a line make a well-formed entry.
-use Rattle.std.proofs.Common.{◌≡◌, ℕ, suc, ◌+◌, ◌≤◌, Bool, true, false, cond, not, nat_le}
-use Rattle.std.proofs.Common.{Ordering, Less, Equal, Greater, List, [], ◌∷◌, length, get_or}
-use Rattle.std.proofs.Common.{filter, fold, Contains, Option, Some, None, option_map}
-use Rattle.std.proofs.Common.{option_and_then, refl, sym, ap, ◌∙◌, arith}
-use Rattle.std.proofs.lemmas.Bool.{false≢true}
-use Rattle.std.proofs.lemmas.Bool.Decides.{nat_tests}
+use Rattle.std.proofs.Common.{◌≡◌, ℕ, suc, ◌+◌, ◌≤◌, Bool, true, false, cond, not, nat_le, Ordering}
+use Rattle.std.proofs.Common.{Less, Equal, Greater, List, [], ◌∷◌, length, get_or, filter, fold}
+use Rattle.std.proofs.Common.{Contains, Option, Some, None, option_map, option_and_then, refl, sym}
+use Rattle.std.proofs.Common.{ap, ◌∙◌, arith}
+use Rattle.epx_types.proofs.Common.{false≢true, nat_tests, All-from_recursion, insert_key}
+use Rattle.epx_types.proofs.Common.{AllByRecursion, is_lt, is_eq, match_ordering, ordering_reverse}
+use Rattle.epx_types.proofs.Common.{Id, Op, id_cmp, Below, BelowAll, IsRising, IsWellFormed}
+use Rattle.epx_types.proofs.Common.{id_cmp_total, BelowAll-trans}
 use Rattle.std.proofs.lemmas.Cmp.{tied_itself}
-use Rattle.std.proofs.lemmas.List.Elements.{All-from_recursion}
-use Rattle.std.specs.BTreeSet.{insert_key}
-use Rattle.std.specs.List.{AllByRecursion}
-use Rattle.std.specs.Ordering.{is_lt, is_eq, match_ordering, ordering_reverse}
 use Rattle.serde_json.specs.Data.{Data}
-use Rattle.epx_types.specs.declared.id.Id.{Id}
-use Rattle.epx_types.specs.declared.op.Op.{Op}
-use Rattle.epx_types.specs.Ids.{id_cmp, Below, BelowAll, IsRising}
-use Rattle.epx_types.specs.Instances.{IsWellFormed}
-use Rattle.epx_types.proofs.lists.ComparisonLemmas.{id_cmp_total}
-use Rattle.epx_types.proofs.lists.RisingIdLemmas.{BelowAll-trans}
 use Rattle.epx_lines.specs.Elements.{every, elements, at_most}
 use Rattle.epx_lines.specs.DependencyList.{id_of, is_other, rising_others, deps_of}
 use Rattle.epx_lines.specs.OperationList.{op_of, ops_of}

@@ -1,10 +1,9 @@
 -- The first line of bytes, and the lines of the rest.
-use Rattle.std.proofs.lemmas.Grind.{common_steps}
-use Rattle.std.proofs.lemmas.List.{map-append}
-use Rattle.std.proofs.Common.{Bor, map, append_assoc, append-nil, ◌≡◌, ℕ, zero, suc, ◌-◌, ◌<◌}
-use Rattle.std.proofs.Common.{Bool, true, false, cond, eqb, List, [], ◌∷◌, ◌++◌, length, take}
-use Rattle.std.proofs.Common.{drop, refl, sym, ap, ◌∙◌, arith}
-use Rattle.std.proofs.Math.Seq.{take-length, drop-length}
+use Rattle.epx_types.proofs.Common.{common_steps, map-append, take-length}
+use Rattle.std.proofs.Common.{Bor, map, append_assoc, append-nil, ◌≡◌, ℕ, zero, suc, ◌-◌, ◌<◌, Bool}
+use Rattle.std.proofs.Common.{true, false, cond, eqb, List, [], ◌∷◌, ◌++◌, length, take, drop, refl}
+use Rattle.std.proofs.Common.{sym, ap, ◌∙◌, arith}
+use Rattle.std.proofs.Math.Seq.{drop-length}
 use Rattle.memchr.specs.Find.{Nowhere, Passes, is_byte}
 use Rattle.epx_lines.specs.Lines.{prepend_to_first, lines_of}
 

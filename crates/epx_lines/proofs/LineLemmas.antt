@@ -2,11 +2,9 @@
 use Rattle.std.proofs.Common.{◌≡◌, ℕ, zero, suc, ◌-◌, Bool, true, false, cond, eqb, nat_lt, not}
 use Rattle.std.proofs.Common.{◌&&◌, tests, List, [], ◌∷◌, ◌++◌, length, refl, sym, ap, ap₂, subst}
 use Rattle.std.proofs.Common.{append_assoc, ◌∙◌, arith, rules}
-use Rattle.std.proofs.lemmas.Bool.Decides.{nat_tests}
-use Rattle.std.proofs.lemmas.Bool.{eqb-true}
-use Rattle.std.proofs.lemmas.List.Elements.{All-nil, All-cons}
-use Rattle.std.specs.List.{All, Contains}
-use Rattle.epx_types.proofs.lists.MembershipLemmas.{Contains-head, Contains-cons}
+use Rattle.epx_types.proofs.Common.{nat_tests, eqb-true, All-nil, All-cons, All, Contains-head}
+use Rattle.epx_types.proofs.Common.{Contains-cons}
+use Rattle.std.specs.List.{Contains}
 use Rattle.epx_lines.specs.Lines.{prepend_to_first, lines_of, lacks_line_feed, with_line_feeds}
 use Rattle.epx_lines.specs.Lines.{AreLinesOf}
 

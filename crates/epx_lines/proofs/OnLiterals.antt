@@ -1,6 +1,6 @@
-use Rattle.std.specs.Prelude.{⊤}
+use Rattle.epx_types.proofs.Common.{⊤, is_utf8}
 use Rattle.std.specs.Fmt.{digits}
-use Rattle.std.specs.Str.{is_utf8, chars}
+use Rattle.std.specs.Str.{chars}
 use Rattle.serde_json.proofs.OnLiterals.{serde_json_on_literals}
 use Rattle.epx_lines.specs.Elements.{whole}
 use Rattle.epx_lines.specs.DependencyList.{id_of, deps_of}

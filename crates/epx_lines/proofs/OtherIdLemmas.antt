@@ -1,14 +1,9 @@
 -- `rising_others` leaves a rising list without the instance itself unchanged.
 use Rattle.std.proofs.Common.{◌≡◌, true, not, Ordering, Less, Equal, Greater, List, [], ◌∷◌, ◌++◌}
 use Rattle.std.proofs.Common.{filter, fold, Contains, refl, sym, ap, ◌∙◌, subst, append-nil}
-use Rattle.std.proofs.lemmas.List.{append_assoc}
-use Rattle.std.specs.BTreeSet.{insert_key}
-use Rattle.std.specs.Ordering.{is_eq, ordering_reverse}
-use Rattle.epx_types.specs.declared.id.Id.{Id}
-use Rattle.epx_types.specs.Ids.{id_cmp, Below, BelowAll, IsRising}
-use Rattle.epx_types.proofs.lists.MembershipLemmas.{Contains-head, Contains-cons}
-use Rattle.epx_types.proofs.lists.ComparisonLemmas.{id_cmp_total, id_cmp-IsAntisymmetric}
-use Rattle.epx_types.proofs.lists.TotalOrderLemmas.{Less-is_lt}
+use Rattle.epx_types.proofs.Common.{append_assoc, insert_key, is_eq, ordering_reverse, Id, id_cmp}
+use Rattle.epx_types.proofs.Common.{Below, BelowAll, IsRising, Contains-head, Contains-cons}
+use Rattle.epx_types.proofs.Common.{id_cmp_total, id_cmp-IsAntisymmetric, Less-is_lt}
 use Rattle.epx_lines.specs.DependencyList.{is_other, rising_others}
 
 -- ---- each Id goes last
@@ -58,7 +53,3 @@ rising_others-same self xs rising apart =
     ap (fold (insert_key id_cmp) []) (all_others self xs apart) ∙ fold_rising [] xs rising
 
 -- ---- other Ids inserted one after another
-
--- the Ids so far, into which the Ids of a list are inserted that are not the instance itself
-abbrev pub with_others : Id → List Id → List Id → List Id
-with_others self found ids = fold (insert_key id_cmp) found (filter (is_other self) ids)

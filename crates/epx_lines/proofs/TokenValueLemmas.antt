@@ -3,12 +3,12 @@ use Rattle.std.proofs.Common.{◌≡◌, ℕ, ℤ, suc, ◌-◌, ◌<◌, ◌≤
 use Rattle.std.proofs.Common.{Some, None, IfSome, ltb, option_map, option_and_then, refl, sym, ap}
 use Rattle.std.proofs.Common.{◌∙◌, subst, arith, append-nil, lt-ltb, ◌^◌}
 use Rattle.std.proofs.lemmas.Option.{cond_some}
-use Rattle.std.specs.Int.{w64}
+use Rattle.epx_types.proofs.Common.{w64, Op}
 use Rattle.std.specs.Int.RustNames.{FitsSigned}
 use Rattle.json.specs.Token.{Token}
 use Rattle.json.specs.Json as json
 use Rattle.json.specs.Lex.{tokens}
-use Rattle.json.specs.Json.{Parse, parse_map, after_end_array, read_key, items, members, value}
+use Rattle.json.specs.Json.{parse_map, after_end_array, read_key, items, members, value}
 use Rattle.json.specs.Json.{if_last}
 use Rattle.json.proofs.Grammar.{value_is, value-begin_array, value-begin_object, items_end}
 use Rattle.json.proofs.Grammar.{items_more, members_end, members_more, left, skip_value-shorter}
@@ -20,7 +20,6 @@ use Rattle.serde_json.specs.Read.{number_of, of_json, of_items, of_members, conv
 use Rattle.serde_json.specs.Read.{read}
 use Rattle.serde_json.specs.View.{items_of}
 use Rattle.epx_lines.specs.Tokens.{BeginsWith, ParsesTo, BeginsWithAll, ParsesAllTo}
-use Rattle.epx_types.specs.declared.op.Op.{Op}
 use Rattle.epx_lines.specs.DependencyList.{id_of_pair}
 use Rattle.epx_lines.specs.OperationList.{key_of, op_with_key, op_with_value, op_of_list}
 use Rattle.epx_lines.specs.Elements.{below, whole, signed, list_of, elements, at_most, every}

@@ -1,11 +1,10 @@
 -- A written line is short.
-use Rattle.std.proofs.Common.{ℕ, suc, ◌+◌, ◌*◌, ◌≤◌, Bool, true, false, List, [], ◌∷◌, ◌++◌}
-use Rattle.std.proofs.Common.{length, map, All, codes, arith, length-append, lit<}
-use Rattle.std.proofs.lemmas.Fmt.{length-decimal-le}
+use Rattle.std.proofs.Common.{ℕ, suc, ◌+◌, ◌*◌, ◌≤◌, Bool, true, false, List, [], ◌∷◌, ◌++◌, length}
+use Rattle.std.proofs.Common.{map, All, codes, arith, length-append, lit<}
+use Rattle.epx_types.proofs.Common.{length-decimal-le, Instance}
 use Rattle.serde_json.specs.Data.{Data, number, unsigned, array, Members, member, no_members}
 use Rattle.serde_json.specs.View.{items_of}
 use Rattle.serde_json.specs.Written.{compact_text, items_text, members_text, comma_if}
-use Rattle.epx_types.specs.Instances.{Instance}
 use Rattle.epx_lines.specs.Meaning.{max_line_bytes}
 use Rattle.epx_lines.specs.Text.{data_of_id, data_of_op, line_text}
 use Rattle.epx_lines.specs.inner.WrittenParts.{IsWritableId, IsWritableOp, FitNumbers}

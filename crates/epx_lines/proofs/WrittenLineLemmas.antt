@@ -1,18 +1,12 @@
 -- The line that is written for an entry means that entry.
-use Rattle.std.proofs.Common.{◌≡◌, ℕ, suc, ◌^◌, ◌≤◌, nat_lt, false}
-use Rattle.std.proofs.Common.{List, [], ◌∷◌, length, map, All}
-use Rattle.std.proofs.Common.{Contains, Option, Some, None, Ok, refl, ap, subst}
-use Rattle.std.proofs.Common.{arith}
-use Rattle.std.proofs.lemmas.Bool.Decides.{nat_tests}
+use Rattle.std.proofs.Common.{◌≡◌, ℕ, suc, ◌^◌, ◌≤◌, nat_lt, false, List, [], ◌∷◌, length, map, All}
+use Rattle.std.proofs.Common.{Contains, Option, Some, None, Ok, refl, ap, subst, arith}
+use Rattle.epx_types.proofs.Common.{nat_tests, Id, Op, Get, Put, Del, Add, Is, Floor, Copy}
+use Rattle.epx_types.proofs.Common.{IsRising, Instance, IsWellFormed}
 use Rattle.std.specs.Str.{IsUtf8}
 use Rattle.serde_json.specs.Data.{Data, array, depth, items_depth}
 use Rattle.serde_json.specs.Read.{max_depth, read}
 use Rattle.serde_json.specs.View.{items_of}
-use Rattle.epx_types.specs.declared.id.Id.{Id}
-use Rattle.epx_types.specs.declared.op.Op.{Op}
-use Rattle.epx_types.specs.declared.op.Op.TheVariants.{Get, Put, Del, Add, Is, Floor, Copy}
-use Rattle.epx_types.specs.Ids.{IsRising}
-use Rattle.epx_types.specs.Instances.{Instance, IsWellFormed}
 use Rattle.epx_lines.specs.declared.Line.TheVariants.{Entry}
 use Rattle.epx_lines.specs.Meaning.{is_blank, max_line_bytes, meaning_of_object, meaning_of}
 use Rattle.epx_lines.specs.Elements.{list_of, every}

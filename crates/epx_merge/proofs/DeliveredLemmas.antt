@@ -1,10 +1,8 @@
 -- What the sources delivered that are read one after another.
-use Rattle.std.proofs.Common.{◌≡◌, ◌++◌, ◌<◌, ◌≤◌, ℕ, zero, suc, List, [], ◌∷◌, length}
-use Rattle.std.proofs.Common.{get_or, set, All, Some, ap, ◌∙◌, subst, inr, arith}
-use Rattle.std.proofs.lemmas.List.{length-set, get_or-set_same}
-use Rattle.std.proofs.lemmas.Option.{slice_get_within, slice_get-get_or, get_or_from_slice_get}
-use Rattle.epx_types.specs.declared.fault.Fault.{Fault}
-use Rattle.epx_types.specs.Limits.{max_log_bytes}
+use Rattle.std.proofs.Common.{◌≡◌, ◌++◌, ◌<◌, ◌≤◌, ℕ, zero, suc, List, [], ◌∷◌, length, get_or, set}
+use Rattle.std.proofs.Common.{All, Some, ap, ◌∙◌, subst, inr, arith}
+use Rattle.epx_types.proofs.Common.{length-set, get_or-set_same, slice_get_within, slice_get-get_or}
+use Rattle.epx_types.proofs.Common.{get_or_from_slice_get, Fault, max_log_bytes}
 use Rattle.epx_merge.specs.Refusals.{NoneTooLong}
 use Rattle.epx_devices.specs.Deliveries.{DeliversAll, IsLogStop}
 use Rattle.epx_devices.specs.Models.{SourceModel}

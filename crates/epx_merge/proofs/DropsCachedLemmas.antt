@@ -1,10 +1,8 @@
 -- Lines without some that are redundant in a cache, and lines that go into a cache.
-use Rattle.std.proofs.Common.{◌≡◌, inl, inr, List, [], ◌∷◌, ◌++◌, Contains, Result}
-use Rattle.std.proofs.Common.{refl, sym, ap, subst, ◌∙◌, append_assoc, append-nil}
-use Rattle.std.proofs.lemmas.List.Elements.{Contains-append_left, Contains-append_right}
-use Rattle.epx_types.specs.declared.fault.Why.{Why}
-use Rattle.epx_types.proofs.lists.MembershipLemmas.{Contains-nil, Contains-head}
-use Rattle.epx_types.proofs.lists.MembershipLemmas.{Contains-cons_cases}
+use Rattle.std.proofs.Common.{◌≡◌, inl, inr, List, [], ◌∷◌, ◌++◌, Contains, Result, refl, sym, ap}
+use Rattle.std.proofs.Common.{subst, ◌∙◌, append_assoc, append-nil}
+use Rattle.epx_types.proofs.Common.{Contains-append_left, Contains-append_right, Why, Contains-nil}
+use Rattle.epx_types.proofs.Common.{Contains-head, Contains-cons_cases}
 use Rattle.epx_lines.specs.declared.Line.{Line}
 use Rattle.epx_merge.specs.LogLines.{MeaningAt}
 use Rattle.epx_merge.specs.RedundantLines.{IsRedundant, DropsRedundant, IsRedundantIn}

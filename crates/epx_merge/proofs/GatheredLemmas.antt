@@ -1,25 +1,24 @@
 -- How far the lines of sources are gathered, once one more part of a log is read.
 use Rattle.std.proofs.Common.{◌≡◌, ◌<◌, ◌≤◌, ◌⊎◌, ◌+◌, ◌-◌, ◌*◌, ◌++◌, ◌∷◌, ◌∙◌, [], ℕ, zero, suc}
-use Rattle.std.proofs.Common.{Bool, true, false, List, length, take, drop, get_or, set, All}
-use Rattle.std.proofs.Common.{Result, Ok, Err, MatchResult, Vec, Global, inl, inr, refl, sym, ap}
-use Rattle.std.proofs.Common.{subst, arith, append-nil, append_assoc, length-append}
-use Rattle.std.proofs.Math.Seq.{take-length, drop-length}
-use Rattle.std.proofs.lemmas.List.{get_or_default, get_or-set_same, length-set, length-take-le}
-use Rattle.std.proofs.lemmas.List.{nil_from_length, take-append-drop}
-use Rattle.epx_types.specs.declared.fault.Fault.{Fault}
+use Rattle.std.proofs.Common.{Bool, true, false, List, length, take, drop, get_or, set, All, Result}
+use Rattle.std.proofs.Common.{Ok, Err, MatchResult, Vec, Global, inl, inr, refl, sym, ap, subst}
+use Rattle.std.proofs.Common.{arith, append-nil, append_assoc, length-append}
+use Rattle.epx_types.proofs.Common.{take-length, get_or_default, get_or-set_same, length-set}
+use Rattle.epx_types.proofs.Common.{length-take-le, nil_from_length, take-append-drop, Fault}
+use Rattle.epx_types.proofs.Common.{max_logs, max_log_bytes}
+use Rattle.std.proofs.Math.Seq.{drop-length}
 use Rattle.epx_types.specs.declared.fault.Fault.TheVariants.{Memory}
 use Rattle.epx_lines.specs.Lines.{lines_of}
 use Rattle.epx_devices.specs.Models.{SourceModel}
 use Rattle.epx_devices.specs.LogParts.{EndsLog, EndsPart, IsFrontOfLog, IsReadUpTo}
 use Rattle.epx_devices.specs.declared.transfer.LogPart.{LogPart}
 use Rattle.epx_devices.proofs.TransferLemmas.{IsReadUpTo-none, out_of_memory}
-use Rattle.epx_types.specs.Limits.{max_logs, max_log_bytes}
 use Rattle.epx_merge.specs.LogLines.{MeaningAt, meanings_in, meanings_of}
 use Rattle.epx_merge.specs.RedundantLines.{DropsCached}
 use Rattle.epx_merge.specs.LogParts.{EndsLine, lines_so_far}
 use Rattle.epx_merge.proofs.LogPartLemmas.{few_lines, lines_after_log, lines_after_part}
 use Rattle.epx_merge.proofs.LogPartLemmas.{lines_counted, lines_of_part}
-use Rattle.epx_merge.specs.declared.gathered_lines.Position.{Position}
+use Rattle.epx_merge.specs.declared.gathered_lines.ReadPosition.{ReadPosition}
 use Rattle.epx_merge.specs.inner.Gathered.{AreGathered, AreReadOnward, IsNextBegun, most_unread}
 use Rattle.epx_merge.specs.SourceReadings.{AreDeliveredUpTo, EndsReading}
 use Rattle.epx_merge.proofs.SourceReadingLemmas as reading
@@ -159,7 +158,7 @@ module _ {S : Type 0} (D : SourceModel S) (first now : List S)
 
 -- ---- by the position
 module _ {S : Type 0} (D : SourceModel S) (first now : List S)
-    (few : length now ≤ max_logs) (at : Position) (lines : List MeaningAt)
+    (few : length now ≤ max_logs) (at : ReadPosition) (lines : List MeaningAt)
     (h : AreGathered D first now at lines) (within : at.log < length now) (d : S) where
   pub inside : length h.ended < length now
   inside = omega (arith, h.log, within)
@@ -316,13 +315,13 @@ module _ {S : Type 0} (D : SourceModel S) (first now : List S)
         (all : part.is_last ≡ true → end ≡ length bytes)
         (feeds : part.is_last ≡ false → EndsLine (take end bytes)) (rest : Vec ℕ Global)
         (left : rest.items ≡ drop end bytes) where
-      abbrev pub IsNext : Position → Type 0
+      abbrev pub IsNext : ReadPosition → Type 0
       IsNext p = ((part.is_last ≡ true)
           × (p ≡ record { log = at.log + 1; line = 0; done = 0; rest = rest }))
           ⊎ ((part.is_last ≡ false)
           × (p ≡ record { log = at.log; line = line; done = at.done + end; rest = rest }))
 
-      pub part_gathered : line ≡ at.line + length (lines_of (take end bytes)) → (p : Position)
+      pub part_gathered : line ≡ at.line + length (lines_of (take end bytes)) → (p : ReadPosition)
           → IsNext p
           → AreGathered D first (set now at.log later) p
           (lines ++ lines_of_part h.ended h.begun (take end bytes))
@@ -335,7 +334,7 @@ module _ {S : Type 0} (D : SourceModel S) (first now : List S)
       part_gathered counted p (inr (more, is)) =
           rw is (more_part more end line upto (feeds more) rest left counted)
 
-      pub part_leaves_fewer : length at.rest.items < most → (p : Position) → IsNext p
+      pub part_leaves_fewer : length at.rest.items < most → (p : ReadPosition) → IsNext p
           → most_unread (length (set now at.log later)) p < most_unread (length now) at
       part_leaves_fewer room p (inl (last, is)) =
           let none : rest.items ≡ [] =
@@ -349,7 +348,7 @@ module _ {S : Type 0} (D : SourceModel S) (first now : List S)
 
 module _ {S : Type 0} (D : SourceModel S) (first : List S) where
   -- nothing is read yet
-  pub none_gathered : All (λ s. D.has_failed s ≡ false) first → (at : Position) → at.log ≡ 0
+  pub none_gathered : All (λ s. D.has_failed s ≡ false) first → (at : ReadPosition) → at.log ≡ 0
       → at.line ≡ 0 → at.done ≡ 0 → at.rest.items ≡ []
       → AreGathered D first first at []
   none_gathered well at log line done none = record {
@@ -368,7 +367,7 @@ module _ {S : Type 0} (D : SourceModel S) (first : List S) where
   }
 
   -- no source is left
-  pub all_gathered : (now : List S) → length now ≤ max_logs → (at : Position)
+  pub all_gathered : (now : List S) → length now ≤ max_logs → (at : ReadPosition)
       → (lines : List MeaningAt) → AreGathered D first now at lines
       → length now ≤ at.log → (logs : List (List ℕ))
       × EndsReading D first now (Ok logs) × (lines ≡ meanings_of logs)

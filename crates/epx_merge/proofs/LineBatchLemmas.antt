@@ -1,10 +1,10 @@
 -- Lines that are gathered in one list of bytes, where each has a span.
-use Rattle.std.proofs.Common.{◌≡◌, ◌≤◌, ◌+◌, ◌-◌, ◌++◌, ◌∷◌, ◌∙◌, ℕ, List, [], length, map}
-use Rattle.std.proofs.Common.{take, drop, ap, ap₂, sym, refl, arith}
-use Rattle.std.specs.List.{All}
-use Rattle.std.proofs.lemmas.List.{length-append, length-drop, map-append, take-append-le}
-use Rattle.std.proofs.lemmas.List.{drop-append-le, drop-drop, take_all, take-map, drop-map}
-use Rattle.std.proofs.lemmas.List.Elements.{All-head, All-tail, All-nil, All-cons, All-append}
+use Rattle.std.proofs.Common.{◌≡◌, ◌≤◌, ◌+◌, ◌-◌, ◌++◌, ◌∷◌, ◌∙◌, ℕ, List, [], length, map, take}
+use Rattle.std.proofs.Common.{drop, ap, ap₂, sym, refl, arith}
+use Rattle.epx_types.proofs.Common.{All, length-append, length-drop, map-append, take-append-le}
+use Rattle.epx_types.proofs.Common.{drop-append-le, drop-drop, take_all, All-head, All-tail}
+use Rattle.epx_types.proofs.Common.{All-nil, All-cons, All-append}
+use Rattle.std.proofs.lemmas.List.{take-map, drop-map}
 use Rattle.epx_merge.specs.LogLines.{MeaningAt, meaning_at}
 use Rattle.epx_merge.specs.declared.line_batch.Span.{Span}
 

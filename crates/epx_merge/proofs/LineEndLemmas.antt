@@ -1,7 +1,7 @@
 -- The line that begins at an index, and the lines after it.
-use Rattle.std.proofs.Common.{◌≡◌, ◌<◌, ◌+◌, ◌-◌, ◌∷◌, ◌∙◌, ℕ, List, length, take, drop}
-use Rattle.std.proofs.Common.{ap, ap₂, sym, subst, arith}
-use Rattle.std.proofs.lemmas.List.{drop-drop, drop_all, length-drop, take_all}
+use Rattle.std.proofs.Common.{◌≡◌, ◌<◌, ◌+◌, ◌-◌, ◌∷◌, ◌∙◌, ℕ, List, length, take, drop, ap, ap₂}
+use Rattle.std.proofs.Common.{sym, subst, arith}
+use Rattle.epx_types.proofs.Common.{drop-drop, drop_all, length-drop, take_all}
 use Rattle.memchr.specs.Find.{Nowhere, Passes, is_byte}
 use Rattle.epx_lines.specs.Lines.{lines_of}
 use Rattle.epx_lines.proofs.FirstLineLemmas.{lines_of-first, lines_of-last}

@@ -1,12 +1,9 @@
 -- The pieces of consecutive lines are consecutive.
 use Rattle.std.proofs.Common.{◌≡◌, ℕ, suc, ◌+◌, ◌*◌, ◌<◌, ◌≤◌, List, [], ◌∷◌, ◌++◌, length, take}
-use Rattle.std.proofs.Common.{drop, slice_get, Some, sym, ap, subst, ◌∙◌, inl, inr, suc-mul}
-use Rattle.std.proofs.Common.{arith}
+use Rattle.std.proofs.Common.{drop, slice_get, Some, sym, ap, subst, ◌∙◌, inl, inr, suc-mul, arith}
 use Rattle.std.proofs.Math.ListN.{drop_of_length-le}
-use Rattle.std.proofs.lemmas.Bool.{cases_lt}
-use Rattle.std.proofs.lemmas.List.{take-append-drop, drop-drop}
-use Rattle.epx_types.specs.Pieces.{piece_count}
-use Rattle.epx_types.proofs.lists.PieceLemmas.{piece_count-above}
+use Rattle.epx_types.proofs.Common.{cases_lt, take-append-drop, drop-drop, piece_count}
+use Rattle.epx_types.proofs.Common.{piece_count-above}
 use Rattle.epx_claims.specs.Answered.{AreOrderedAnswers}
 use Rattle.epx_merge.specs.LinePieces.{ArePiecesOf, lines_of_piece}
 use Rattle.epx_merge.specs.LogLines.{MeaningAt}

@@ -1,9 +1,9 @@
 -- The lines of the next part of a log follow those that are read.
-use Rattle.std.proofs.Common.{◌≡◌, ◌+◌, ◌<◌, ◌≤◌, ◌^◌, ◌%◌, ◌∷◌, ◌++◌, ◌∙◌, ℕ, suc, List, []}
-use Rattle.std.proofs.Common.{ap, sym, arith, append-nil, append_assoc, length, length-append}
-use Rattle.std.proofs.Common.{eqb, inl, inr}
+use Rattle.std.proofs.Common.{◌≡◌, ◌+◌, ◌<◌, ◌≤◌, ◌^◌, ◌%◌, ◌∷◌, ◌++◌, ◌∙◌, ℕ, suc, List, [], ap}
+use Rattle.std.proofs.Common.{sym, arith, append-nil, append_assoc, length, length-append, eqb, inl}
+use Rattle.std.proofs.Common.{inr}
 use Rattle.std.proofs.Math.Nat.{mod-eq_of_lt}
-use Rattle.std.proofs.lemmas.Bool.{cases_Bool}
+use Rattle.epx_types.proofs.Common.{cases_Bool}
 use Rattle.epx_lines.specs.Lines.{lines_of, prepend_to_first}
 use Rattle.epx_merge.specs.LogLines.{MeaningAt, meaning_at, meanings_in, meanings_from}
 use Rattle.epx_merge.specs.LogLines.{meanings_of}

@@ -1,13 +1,11 @@
 -- Logs that are read from memory: no read fails.
-use Rattle.std.proofs.Common.{◌≡◌, ◌<◌, ◌≤◌, ℕ, [], List, true, false, Result, Ok, Err, length}
-use Rattle.std.proofs.Common.{inl, inr, refl, subst}
+use Rattle.std.proofs.Common.{◌≡◌, ◌<◌, ◌≤◌, ℕ, [], List, true, false, Result, Ok, Err, length, inl}
+use Rattle.std.proofs.Common.{inr, refl, subst}
 use Rattle.std.proofs.lemmas.List.Elements.{length_all_zip}
-use Rattle.std.proofs.lemmas.Option.{slice_get-get_or}
-use Rattle.epx_types.specs.declared.fault.Fault.{Fault}
-use Rattle.epx_types.specs.declared.fault.Fault.TheVariants.{Memory, TooManyLogs, LogTooLong}
-use Rattle.epx_types.specs.declared.fault.Fault.TheVariants.{BadLine, TooManyInstances, Disagree}
-use Rattle.epx_types.specs.declared.fault.Fault.TheVariants.{Read, Write, BadBase}
-use Rattle.epx_types.specs.Limits.{max_logs}
+use Rattle.epx_types.proofs.Common.{slice_get-get_or, Fault, TooManyLogs, LogTooLong, BadLine}
+use Rattle.epx_types.proofs.Common.{TooManyInstances, Disagree, Read, BadBase, max_logs}
+use Rattle.epx_types.specs.declared.fault.Fault.TheVariants.{Memory}
+use Rattle.epx_types.specs.declared.fault.Fault.TheVariants.{Write}
 use Rattle.epx_devices.specs.MemoryDevices.{memory_source}
 use Rattle.epx_merge.specs.ReadingRefusals.{IsReadingRefusal}
 use Rattle.epx_merge.specs.Refusals.{IsFirstTooLong, IsRefusal}

@@ -1,8 +1,7 @@
 -- The lines of the rest of a log follow its first lines.
-use Rattle.std.proofs.Common.{◌≡◌, ◌+◌, ◌∷◌, ◌++◌, ◌∙◌, ℕ, suc, List, []}
-use Rattle.std.proofs.Common.{length, ap, refl, sym, inl, inr, arith}
-use Rattle.std.proofs.Common.{eqb}
-use Rattle.std.proofs.lemmas.Bool.{cases_Bool}
+use Rattle.std.proofs.Common.{◌≡◌, ◌+◌, ◌∷◌, ◌++◌, ◌∙◌, ℕ, suc, List, [], length, ap, refl, sym}
+use Rattle.std.proofs.Common.{inl, inr, arith, eqb}
+use Rattle.epx_types.proofs.Common.{cases_Bool}
 use Rattle.epx_lines.specs.Lines.{lines_of, prepend_to_first}
 use Rattle.epx_lines.proofs.FirstLineLemmas.{lines_of-feed, lines_of-go_on}
 use Rattle.epx_merge.specs.LogLines.{meaning_at, meanings_in}

@@ -1,13 +1,9 @@
 -- The lines of logs are sorted by place.
 use Rattle.std.proofs.Common.{◌≡◌, ◌⊎◌, inl, inr, ℕ, suc, ◌<◌, ◌≤◌, List, [], ◌∷◌, flat_map}
 use Rattle.std.proofs.Common.{Contains, Result, Ok, Err, sym, ap, subst, subst₂, arith}
-use Rattle.std.proofs.lemmas.Bool.Decides.{nat_tests}
-use Rattle.std.proofs.lemmas.List.Elements.{Contains-append_cases}
-use Rattle.epx_types.specs.declared.place.Place.{Place}
-use Rattle.epx_types.specs.declared.fault.Why.{Why}
-use Rattle.epx_types.specs.PlacedLines.{Placed, Earlier, HaveDistinctPlaces}
-use Rattle.epx_types.proofs.lists.MembershipLemmas.{Contains-nil, Contains-head, Contains-cons}
-use Rattle.epx_types.proofs.lists.MembershipLemmas.{Contains-cons_cases}
+use Rattle.epx_types.proofs.Common.{nat_tests, Contains-append_cases, Place, Why, Placed, Earlier}
+use Rattle.epx_types.proofs.Common.{HaveDistinctPlaces, Contains-nil, Contains-head, Contains-cons}
+use Rattle.epx_types.proofs.Common.{Contains-cons_cases}
 use Rattle.epx_lines.specs.Lines.{lines_of}
 use Rattle.epx_lines.specs.declared.Line.{Line}
 use Rattle.epx_lines.specs.declared.Line.TheVariants.{Blank, Entry}

@@ -1,10 +1,8 @@
 -- Lines read one after another: the instances so far, and the first bad line.
-use Rattle.std.proofs.Common.{◌≡◌, inl, inr, ℕ, ◌+◌, ◌<◌, List, [], ◌∷◌, ◌++◌, length, get_or}
-use Rattle.std.proofs.Common.{drop, Result, Ok, Err, refl, sym, subst, ap, ◌∙◌, add-one}
-use Rattle.std.proofs.Common.{append_assoc, append-nil}
-use Rattle.std.proofs.Math.Seq.{drop-cons}
-use Rattle.epx_types.specs.declared.fault.Why.{Why}
-use Rattle.epx_types.specs.PlacedLines.{Placed}
+use Rattle.std.proofs.Common.{◌≡◌, inl, inr, ℕ, ◌+◌, ◌<◌, List, [], ◌∷◌, ◌++◌, length, get_or, drop}
+use Rattle.std.proofs.Common.{Result, Ok, Err, refl, sym, subst, ap, ◌∙◌, add-one, append_assoc}
+use Rattle.std.proofs.Common.{append-nil}
+use Rattle.epx_types.proofs.Common.{drop-cons, Why, Placed}
 use Rattle.epx_lines.specs.declared.Line.{Line}
 use Rattle.epx_merge.specs.declared.pieces.BadLine.{BadLine}
 use Rattle.epx_merge.specs.LogLines.{MeaningAt, placed_at, placed_among, bad_lines_at}

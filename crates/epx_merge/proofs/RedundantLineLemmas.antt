@@ -1,18 +1,12 @@
 -- The lines that are not redundant have the first bad line and the ledger of all lines.
 use Rattle.std.proofs.Common.{◌≡◌, ◌≢◌, inl, inr, List, [], ◌∷◌, ◌++◌, Contains, Result, Ok, Err}
 use Rattle.std.proofs.Common.{refl, sym, ap, subst, ◌∙◌, append_assoc, append-nil}
-use Rattle.std.proofs.lemmas.List.Elements.{Contains-append_left, Contains-append_cases}
-use Rattle.std.proofs.lemmas.List.Elements.{Contains-append_right}
-use Rattle.epx_types.specs.declared.fault.Fault.{Fault}
-use Rattle.epx_types.specs.declared.fault.Fault.TheVariants.{Memory, TooManyLogs, LogTooLong}
-use Rattle.epx_types.specs.declared.fault.Fault.TheVariants.{BadLine, TooManyInstances, Disagree}
-use Rattle.epx_types.specs.declared.fault.Fault.TheVariants.{Read, Write, BadBase}
-use Rattle.epx_types.specs.declared.fault.Why.{Why}
-use Rattle.epx_types.specs.declared.place.Place.{Place}
-use Rattle.epx_types.specs.PlacedLines.{Placed}
-use Rattle.epx_types.specs.Instances.{Instance}
-use Rattle.epx_types.proofs.lists.MembershipLemmas.{Contains-nil, Contains-head}
-use Rattle.epx_types.proofs.lists.MembershipLemmas.{Contains-cons_cases}
+use Rattle.epx_types.proofs.Common.{Contains-append_left, Contains-append_cases}
+use Rattle.epx_types.proofs.Common.{Contains-append_right, Fault, TooManyLogs, LogTooLong, BadLine}
+use Rattle.epx_types.proofs.Common.{TooManyInstances, Disagree, Read, BadBase, Why, Place, Placed}
+use Rattle.epx_types.proofs.Common.{Instance, Contains-nil, Contains-head, Contains-cons_cases}
+use Rattle.epx_types.specs.declared.fault.Fault.TheVariants.{Memory}
+use Rattle.epx_types.specs.declared.fault.Fault.TheVariants.{Write}
 use Rattle.epx_lines.specs.declared.Line.{Line}
 use Rattle.epx_lines.specs.declared.Line.TheVariants.{Blank, Entry}
 use Rattle.epx_merge.specs.LogLines.{MeaningAt, placed_at, placed_among, BadLineAt, bad_lines_at}
@@ -32,13 +26,6 @@ DropsRedundant-append (x ∷ xs) ys a b c (inl h) k =
     inl (DropsRedundant-append xs ys (a ++ x ∷ []) b c h k)
 DropsRedundant-append (x ∷ xs) ys a b c (inr h) k =
     inr (h.0, DropsRedundant-append xs ys a b c h.1 k)
-
--- no line has to be dropped
-pub DropsRedundant-none : (lines old : List MeaningAt) → DropsRedundant lines old (old ++ lines)
-DropsRedundant-none [] old = sym (append-nil old)
-DropsRedundant-none (l ∷ lines) old =
-    inl (subst (DropsRedundant lines (old ++ l ∷ [])) (append_assoc old (l ∷ []) lines)
-    (DropsRedundant-none lines (old ++ l ∷ [])))
 
 -- ---- one more line, whose instance an earlier line has
 

@@ -2,21 +2,19 @@
 use Rattle.std.proofs.Common.{◌≡◌, ◌↔◌, ◌+◌, ◌++◌, ◌<◌, ◌≤◌, ℕ, Bool, true, false, List, [], ◌∷◌}
 use Rattle.std.proofs.Common.{length, take, drop, get_or, set, All, Option, Some, None, Result, Ok}
 use Rattle.std.proofs.Common.{Err, slice_get, IfSome, IsErrOf, refl, sym, ap, ap₂, ◌∙◌, subst, inl}
-use Rattle.std.proofs.Common.{inr, arith}
-use Rattle.std.proofs.lemmas.Bool.{cases_eq}
-use Rattle.std.proofs.lemmas.List.{length-map, length-set, length-append, length-take-le}
-use Rattle.std.proofs.lemmas.List.{take_more, take_more_set, take_all, drop-set-lt, get_or-drop}
-use Rattle.std.proofs.lemmas.List.{get_or-set_same, get_or-set_other, get_or-take}
+use Rattle.std.proofs.Common.{inr, arith, drop-set-lt}
+use Rattle.epx_types.proofs.Common.{cases_eq, length-map, length-set, length-append, length-take-le}
+use Rattle.epx_types.proofs.Common.{take_more, take_more_set, take_all, get_or-drop}
+use Rattle.epx_types.proofs.Common.{get_or-set_same, get_or-set_other, get_or-take, All-push}
+use Rattle.epx_types.proofs.Common.{slice_get_within, slice_get-get_or, get_or_from_slice_get}
+use Rattle.epx_types.proofs.Common.{Consumes, IsAtEnd, Fault, TooManyLogs, LogTooLong, BadLine}
+use Rattle.epx_types.proofs.Common.{TooManyInstances, Disagree, Read, BadBase, slice_get-from_map}
+use Rattle.epx_types.proofs.Common.{max_logs, max_log_bytes}
 use Rattle.std.proofs.lemmas.Grind.{drop_more_same}
-use Rattle.std.proofs.lemmas.List.Elements.{All-set, All-push}
-use Rattle.std.proofs.lemmas.Option.{slice_get_within, slice_get-get_or, get_or_from_slice_get}
-use Rattle.std.specs.Io.KnownBytes.{Consumes, IsAtEnd}
-use Rattle.epx_types.specs.declared.fault.Fault.{Fault}
-use Rattle.epx_types.specs.declared.fault.Fault.TheVariants.{Memory, TooManyLogs, LogTooLong}
-use Rattle.epx_types.specs.declared.fault.Fault.TheVariants.{BadLine, TooManyInstances, Disagree}
-use Rattle.epx_types.specs.declared.fault.Fault.TheVariants.{Read, Write, BadBase}
-use Rattle.epx_types.proofs.lists.ListPositionLemmas.{slice_get-map, slice_get-from_map}
-use Rattle.epx_types.specs.Limits.{max_logs, max_log_bytes}
+use Rattle.std.proofs.lemmas.List.Elements.{All-set}
+use Rattle.epx_types.specs.declared.fault.Fault.TheVariants.{Memory}
+use Rattle.epx_types.specs.declared.fault.Fault.TheVariants.{Write}
+use Rattle.epx_types.proofs.lists.ListPositionLemmas.{slice_get-map}
 use Rattle.epx_merge.specs.Refusals.{FitLimits}
 use Rattle.epx_devices.specs.Transfers.{IsReadLogFault, ConsumesUpTo, ConsumesExactly}
 use Rattle.epx_merge.specs.ReadingRefusals.{AreBytesOf, NoneTooLongBefore, IsReadingRefusal}

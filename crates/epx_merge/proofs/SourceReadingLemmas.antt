@@ -1,17 +1,15 @@
 -- How reading all sources ends, by how far it is.
-use Rattle.std.proofs.Common.{◌≡◌, ◌↔◌, ◌+◌, ◌++◌, ◌∷◌, [], ◌<◌, ◌≤◌, ℕ, true, false, List}
-use Rattle.std.proofs.Common.{length, drop, get_or, set, All, Result, Ok, Err, IsErrOf}
-use Rattle.std.proofs.Common.{IfSome, IfOk, OnOk, IfErr, MatchResult, Vec, Global, inl, inr, refl}
-use Rattle.std.proofs.Common.{sym, subst}
-use Rattle.std.specs.Io.KnownBytes.{IsAtEnd}
-use Rattle.epx_types.specs.declared.fault.Fault.{Fault}
-use Rattle.epx_types.specs.declared.fault.Fault.TheVariants.{Memory, TooManyLogs, LogTooLong}
-use Rattle.epx_types.specs.declared.fault.Fault.TheVariants.{Read, Write}
+use Rattle.std.proofs.Common.{◌≡◌, ◌↔◌, ◌+◌, ◌++◌, ◌∷◌, [], ◌<◌, ◌≤◌, ℕ, true, false, List, length}
+use Rattle.std.proofs.Common.{drop, get_or, set, All, Result, Ok, Err, IsErrOf, IfSome, IfOk, OnOk}
+use Rattle.std.proofs.Common.{IfErr, MatchResult, Vec, Global, inl, inr, refl, sym, subst}
+use Rattle.epx_types.proofs.Common.{IsAtEnd, Fault, TooManyLogs, LogTooLong, Read, max_logs}
+use Rattle.epx_types.proofs.Common.{max_log_bytes}
+use Rattle.epx_types.specs.declared.fault.Fault.TheVariants.{Memory}
+use Rattle.epx_types.specs.declared.fault.Fault.TheVariants.{Write}
 use Rattle.epx_devices.specs.Deliveries.{DeliversAll, IsLogStop}
 use Rattle.epx_devices.specs.Models.{SourceModel}
 use Rattle.epx_devices.specs.LogParts.{EndsLog}
 use Rattle.epx_devices.specs.Transfers.{IsReadLogFault, ConsumesUpTo, ConsumesExactly}
-use Rattle.epx_types.specs.Limits.{max_logs, max_log_bytes}
 use Rattle.epx_merge.specs.SourceReadings.{AreDeliveredUpTo, EndsReading, EndsMaking}
 use Rattle.epx_merge.proofs.ConsumedLemmas.{none_consumed}
 use Rattle.epx_merge.proofs.DeliveredLemmas.{delivered_step, stops_reading}

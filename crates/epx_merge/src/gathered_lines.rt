@@ -26,7 +26,7 @@ const MOST_BYTES: usize = 16 * 1_024 * 1_024;
 
 /// How far sources are read. They are read in order.
 #[derive(Drop)]
-pub(crate) struct Position {
+pub(crate) struct ReadPosition {
     /// The number of the log that is read now.
     log: usize,
     /// The number of its lines that are gathered.
@@ -65,7 +65,7 @@ fn whole_lines(part: &LogPart) -> usize
 fn gather_part<S: Source>(
     alloc: Global,
     sources: &mut [S],
-    at: &mut Position,
+    at: &mut ReadPosition,
     batch: &mut LineBatch,
 ) -> Result<(), Fault>
     requires within { at.old.log < length sources.old }
@@ -96,14 +96,14 @@ fn gather_part<S: Source>(
     };
     remove_front(&mut bytes, end);
     *at = if is_last {
-        Position {
+        ReadPosition {
             log: at.log + 1,
             line: 0,
             done: 0,
             rest: bytes,
         }
     } else {
-        Position {
+        ReadPosition {
             log: at.log,
             line,
             done: at.done + end,
@@ -113,13 +113,13 @@ fn gather_part<S: Source>(
     Ok(())
 }
 
-impl Position {
+impl ReadPosition {
     /// No source is read yet.
-    pub(crate) fn new(alloc: Global) -> Position
+    pub(crate) fn new(alloc: Global) -> ReadPosition
         ensures { (result.log ≡ 0) × (result.line ≡ 0) × (result.done ≡ 0)
             × (result.rest.items ≡ []) }
     {
-        Position {
+        ReadPosition {
             log: 0,
             line: 0,
             done: 0,
@@ -147,7 +147,7 @@ impl Position {
 pub(crate) fn gather<S: Source>(
     alloc: Global,
     sources: &mut [S],
-    at: &mut Position,
+    at: &mut ReadPosition,
     batch: &mut LineBatch,
     most: usize,
     each: bool,

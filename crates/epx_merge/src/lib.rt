@@ -19,7 +19,7 @@ mod pieces;
 mod split_lines;
 
 pub use batch_lens::batch_len;
-pub use epx_committed::{Guesses, Merged, from_entries};
+pub use epx_committed::{Merged, PositionHints, from_entries};
 pub use epx_types::limits::{MAX_INSTANCES, MAX_LOG_BYTES, MAX_LOGS};
 pub use ledger_notes::empty_ledger;
 pub use limits::first_too_long;

@@ -10,7 +10,7 @@ ghost use Rattle.epx_merge.specs.inner.Gathered.{AreGathered, most_unread};
 ghost use Rattle.epx_merge.specs.SourceReadings.{EndsNoting, EndsReading};
 
 use crate::batch_lens::batch_len;
-use crate::gathered_lines::{Position, gather};
+use crate::gathered_lines::{ReadPosition, gather};
 use crate::line_batch::LineBatch;
 use crate::log_reader::LogReader;
 use crate::notes::Notes;
@@ -48,7 +48,7 @@ fn read_and_gather<'a, R: Threads + Sync, S: Source, N: Notes + Sync + Drop, G: 
     reader: LogReader<'a, N>,
     here: &LineBatch,
     sources: &mut [S],
-    at: &mut Position,
+    at: &mut ReadPosition,
     next: &mut LineBatch,
     plan: Plan,
     gate: &G,
@@ -127,7 +127,7 @@ pub fn note_sources<
     let Ok(mut reader) = LogReader::new(alloc, notes, sources.len()) else {
         return Err(Fault::Memory);
     };
-    let mut at = Position::new(alloc);
+    let mut at = ReadPosition::new(alloc);
     let mut here = LineBatch::new(alloc);
     let mut next = LineBatch::new(alloc);
     while at.logs() < sources.len() {

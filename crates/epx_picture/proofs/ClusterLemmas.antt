@@ -2,16 +2,10 @@
 -- leader of another one.
 use Rattle.std.proofs.Common.{◌≡◌, ℕ, inl, inr, List, Bool, false, length, get_or, slice_get, Some}
 use Rattle.std.proofs.Common.{None, sym, ap, ◌∙◌, subst, arith, IsTrue}
-use Rattle.std.proofs.lemmas.Bool.{cases_eq}
-use Rattle.std.proofs.lemmas.Option.{slice_get_within, slice_get-get_or}
-use Rattle.epx_types.specs.declared.id.Id.{Id}
-use Rattle.epx_types.specs.Instances.{Instance}
-use Rattle.epx_types.specs.Components.{InOneComponent}
-use Rattle.epx_graph.specs.Graphs.{DependencyGraph, edges_of}
-use Rattle.epx_graph.specs.GraphOf.{IsGraphOf}
-use Rattle.epx_graph.specs.NodePaths.{NodeReaches}
-use Rattle.epx_graph.proofs.GraphNodeLemmas.{node_id, node_is_unique}
-use Rattle.epx_graph.proofs.MapPathLemmas.{node_reaches, reached_node}
+use Rattle.epx_types.proofs.Common.{cases_eq, slice_get_within, slice_get-get_or, Id, Instance}
+use Rattle.epx_types.proofs.Common.{InOneComponent}
+use Rattle.epx_graph.proofs.Common.{DependencyGraph, edges_of, IsGraphOf, NodeReaches, node_id}
+use Rattle.epx_graph.proofs.Common.{node_is_unique, node_reaches, reached_node}
 use Rattle.epx_components.specs.declared.node_ranks.NodeRank.{NodeRank}
 use Rattle.epx_components.specs.NodeComponents.{InOneNodeComponent, IsNodeLeader}
 use Rattle.epx_components.specs.NodeRanks.{IsNodeRank}

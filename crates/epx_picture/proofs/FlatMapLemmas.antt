@@ -2,8 +2,7 @@
 use Rattle.std.proofs.Common.{◌≡◌, ℕ, ◌+◌, List, [], ◌∷◌, ◌++◌, take, flat_map, get_or, slice_get}
 use Rattle.std.proofs.Common.{Some, ap, ◌∙◌}
 use Rattle.std.proofs.lemmas.Grind.{flat_map-append}
-use Rattle.std.proofs.lemmas.List.{append-nil, take_more}
-use Rattle.std.proofs.lemmas.Option.{slice_get_within, get_or_from_slice_get}
+use Rattle.epx_types.proofs.Common.{append-nil, take_more, slice_get_within, get_or_from_slice_get}
 
 pub flat_map_next : {X Y : Type 0} (f : X → List Y) (xs : List X) (n : ℕ) (x : X)
     → slice_get xs n ≡ Some x → flat_map f (take (n + 1) xs) ≡ flat_map f (take n xs) ++ f x

@@ -1,9 +1,9 @@
 -- Marks of the nodes that are the leader of another node, with one more rank.
 use Rattle.std.proofs.Common.{◌≡◌, ◌⊎◌, ℕ, ◌+◌, ◌<◌, inl, inr, List, Bool, true, false, length}
 use Rattle.std.proofs.Common.{get_or, set, slice_get, Some, replicate, sym, ◌∙◌, ap, arith}
-use Rattle.std.proofs.lemmas.Bool.{cases_eq, cases_lt, false≢true}
-use Rattle.std.proofs.lemmas.List.{length-set, length-replicate, get_or-replicate, get_or_past}
-use Rattle.std.proofs.lemmas.List.{get_or-set_same, get_or-set_other}
+use Rattle.epx_types.proofs.Common.{cases_eq, cases_lt, false≢true, length-set, length-replicate}
+use Rattle.epx_types.proofs.Common.{get_or-replicate, get_or_past, get_or-set_same}
+use Rattle.epx_types.proofs.Common.{get_or-set_other}
 use Rattle.epx_components.specs.declared.node_ranks.NodeRank.{NodeRank}
 use Rattle.epx_picture.specs.inner.Clusters.{LeadsAmong, AreLeaderMarks}
 

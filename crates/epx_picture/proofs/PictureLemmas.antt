@@ -1,27 +1,15 @@
 -- Every committed map has a picture.
 use Rattle.std.proofs.Common.{◌≡◌, ℕ, List, [], ◌∷◌, map, Bool, true, false, Option, Some, None}
 use Rattle.std.proofs.Common.{Contains, refl, ap, ap₂, subst, inl, inr}
-use Rattle.std.proofs.lemmas.Bool.{false≢true}
-use Rattle.epx_types.specs.declared.id.Id.{Id}
-use Rattle.epx_types.specs.Ids.{IsRising}
-use Rattle.epx_types.specs.Instances.{Instance}
-use Rattle.epx_types.specs.CommittedMap.{ids_of, IsCommitted}
-use Rattle.epx_types.specs.Components.{InOneComponent}
-use Rattle.epx_types.specs.Readiness.{IsReady}
-use Rattle.epx_types.proofs.committed.AgreementLemmas.{IsRising-same}
-use Rattle.epx_types.proofs.graph.DependencyLemmas.{IsCommitted-from_Contains}
-use Rattle.epx_types.proofs.lists.SearchLemmas.{some_or_none}
-use Rattle.epx_types.proofs.lists.MembershipLemmas.{Contains-nil, Contains-head, Contains-cons}
-use Rattle.epx_types.proofs.lists.MembershipLemmas.{Contains-cons_cases}
-use Rattle.epx_types.proofs.orders.RankExistenceLemmas.{leader_exists, depth_exists}
-use Rattle.epx_types.proofs.orders.RankExistenceLemmas.{ready_or_waits}
-use Rattle.epx_types.proofs.graph.ReachingLemmas.{IsReady-not_waiting}
-use Rattle.epx_types.proofs.graph.ReachingDecisionLemmas.{both_cases, not_cases}
-use Rattle.epx_types.proofs.graph.ReachingDecisionLemmas.{InOneComponent-cases, within_reach}
-use Rattle.epx_types.proofs.graph.ReachingDecisionLemmas.{Contains-within_reach}
-use Rattle.epx_types.proofs.graph.WaitingLemmas.{Id-cases}
-use Rattle.epx_graph.specs.Graphs.{missing_ids}
-use Rattle.epx_graph.proofs.GraphExistenceLemmas.{graph_exists}
+use Rattle.epx_types.proofs.Common.{false≢true, Id, IsRising, Instance, ids_of, IsCommitted}
+use Rattle.epx_types.proofs.Common.{InOneComponent, IsReady, IsRising-same}
+use Rattle.epx_types.proofs.Common.{IsCommitted-from_Contains, some_or_none, Contains-nil}
+use Rattle.epx_types.proofs.Common.{Contains-head, Contains-cons, Contains-cons_cases}
+use Rattle.epx_types.proofs.Common.{leader_exists, depth_exists, ready_or_waits}
+use Rattle.epx_types.proofs.Common.{IsReady-not_waiting, both_cases, not_cases}
+use Rattle.epx_types.proofs.Common.{InOneComponent-cases, within_reach, Contains-within_reach}
+use Rattle.epx_types.proofs.Common.{Id-cases}
+use Rattle.epx_graph.proofs.Common.{missing_ids, graph_exists}
 use Rattle.epx_picture.specs.declared.node_box.NodeBox.{NodeBox}
 use Rattle.epx_picture.specs.NodeBoxes.{IsCluster, IsBoxOf}
 use Rattle.epx_picture.specs.PictureText.{picture_text}

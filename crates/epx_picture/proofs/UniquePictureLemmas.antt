@@ -1,15 +1,9 @@
 -- A map has at most one picture.
 use Rattle.std.proofs.Common.{◌≡◌, List, [], ◌∷◌, length, map, Bool, true, false, Option, Some}
 use Rattle.std.proofs.Common.{None, Contains, refl, sym, ap, ap₂, ◌∙◌, subst, arith, IsTrue}
-use Rattle.epx_types.specs.declared.id.Id.{Id}
-use Rattle.epx_types.specs.Instances.{Instance}
-use Rattle.epx_types.specs.CommittedMap.{IsCommitted}
-use Rattle.epx_types.specs.Depth.{IsDepth}
-use Rattle.epx_types.specs.Readiness.{IsReady}
-use Rattle.epx_types.proofs.lists.MembershipLemmas.{Contains-head, Contains-cons, Contains-map}
-use Rattle.epx_types.proofs.lists.MembershipLemmas.{Contains-from_map}
-use Rattle.epx_types.proofs.lists.RisingIdLemmas.{same_ids}
-use Rattle.epx_types.proofs.graph.ReachingLemmas.{IsLeader-unique, IsDepth-unique}
+use Rattle.epx_types.proofs.Common.{Id, Instance, IsCommitted, IsDepth, IsReady, Contains-head}
+use Rattle.epx_types.proofs.Common.{Contains-cons, Contains-map, Contains-from_map, same_ids}
+use Rattle.epx_types.proofs.Common.{IsLeader-unique, IsDepth-unique}
 use Rattle.epx_picture.specs.declared.node_box.NodeBox.{NodeBox}
 use Rattle.epx_picture.specs.NodeBoxes.{IsCluster, IsBoxOf}
 use Rattle.epx_picture.specs.PictureText.{picture_text}

@@ -1,12 +1,9 @@
 -- The outcome of a task, by how the run of what it asks ended.
-use Rattle.std.proofs.Common.{◌≡◌, ◌≢◌, ◌⊎◌, ◌↔◌, ℕ, suc, Bool, true, List, [], ◌∷◌, drop}
-use Rattle.std.proofs.Common.{length, map}
-use Rattle.std.proofs.Common.{Option, Some, Result, Ok, Err, IsErrOf, inl, inr, refl, sym, ap}
-use Rattle.std.proofs.Common.{◌∙◌, subst}
-use Rattle.std.specs.Io.KnownBytes.{Keeps}
-use Rattle.std.specs.Prelude.{IfErr, IfOk, MatchResult, OnOk}
-use Rattle.epx_types.specs.declared.fault.Fault.{Fault}
-use Rattle.epx_types.specs.declared.fault.Fault.TheVariants.{Read, Write}
+use Rattle.std.proofs.Common.{◌≡◌, ◌≢◌, ◌⊎◌, ◌↔◌, ℕ, suc, Bool, true, List, [], ◌∷◌, drop, length}
+use Rattle.std.proofs.Common.{map, Option, Some, Result, Ok, Err, IsErrOf, inl, inr, refl, sym, ap}
+use Rattle.std.proofs.Common.{◌∙◌, subst, IfOk}
+use Rattle.epx_types.proofs.Common.{Keeps, IfErr, MatchResult, OnOk, Fault, Read}
+use Rattle.epx_types.specs.declared.fault.Fault.TheVariants.{Write}
 use Rattle.epx_names.specs.declared.task.Task.{Task}
 use Rattle.epx_devices.specs.Models.{SinkModel, SourceModel}
 use Rattle.epx_merge.specs.DeliveredLogs.{EachDelivers}

@@ -1,6 +1,6 @@
 -- Outputs that are unchanged.
 use Rattle.std.proofs.Common.{◌≡◌, ℕ, List, Option, subst}
-use Rattle.std.specs.Io.KnownBytes.{Keeps}
+use Rattle.epx_types.proofs.Common.{Keeps}
 use Rattle.epx_tool.proofs.ReturnedFaultLemmas.{keeps_itself}
 
 -- an unchanged output has the contents that it had

@@ -1,7 +1,7 @@
 -- Sources that are made for paths, one after another.
 use Rattle.std.proofs.Common.{◌≡◌, ◌<◌, ◌+◌, ◌++◌, ◌∷◌, [], ℕ, List, length, map, take, Option}
 use Rattle.std.proofs.Common.{Some, codes, get_or, sym, refl, subst, inl, inr}
-use Rattle.std.proofs.lemmas.List.{map-append, take_more}
+use Rattle.epx_types.proofs.Common.{map-append, take_more}
 use Rattle.epx_devices.specs.declared.either_source.EitherSource.TheVariants.{First, Second}
 use Rattle.epx_program.specs.inner.SourcesAt.{AreSourcesAt, IsSourceAt, SourceAt}
 

@@ -1,14 +1,11 @@
 -- The exit status of the program.
 use Rattle.std.proofs.Common.{◌≡◌, ◌≢◌, ◌⊎◌, ◌↔◌, ◌∙◌, ℕ, zero, suc, Bool, true, false, List}
-use Rattle.std.proofs.Common.{Option, Result, Ok, Err, IsErrOf, inl, inr, refl, arith, ap}
-use Rattle.std.proofs.Common.{sym, subst}
-use Rattle.std.specs.Prelude.{OnOk, IfErr, IfOk}
-use Rattle.std.specs.Io.KnownBytes.{Keeps}
-use Rattle.epx_types.specs.Faults.{fault_status}
-use Rattle.epx_types.specs.declared.fault.Fault.{Fault}
-use Rattle.epx_types.specs.declared.fault.Fault.TheVariants.{Memory, TooManyLogs, LogTooLong}
-use Rattle.epx_types.specs.declared.fault.Fault.TheVariants.{BadLine, TooManyInstances, Disagree}
-use Rattle.epx_types.specs.declared.fault.Fault.TheVariants.{Read, Write, BadBase}
+use Rattle.std.proofs.Common.{Option, Result, Ok, Err, IsErrOf, inl, inr, refl, arith, ap, sym}
+use Rattle.std.proofs.Common.{subst, IfOk}
+use Rattle.epx_types.proofs.Common.{OnOk, IfErr, Keeps, fault_status, Fault, TooManyLogs}
+use Rattle.epx_types.proofs.Common.{LogTooLong, BadLine, TooManyInstances, Disagree, Read, BadBase}
+use Rattle.epx_types.specs.declared.fault.Fault.TheVariants.{Memory}
+use Rattle.epx_types.specs.declared.fault.Fault.TheVariants.{Write}
 use Rattle.epx_words.specs.Requests.{IfText, IfWork, flags_of}
 use Rattle.epx_names.specs.declared.task.Task.{Task}
 use Rattle.epx_words.specs.declared.words.Words.{Words}

@@ -1,8 +1,8 @@
 -- The greatest end of the components below each.
-use Rattle.std.proofs.Common.{◌≡◌, ◌≢◌, ◌↔◌, ◌⊎◌, inl, inr, ℕ, ◌-◌, ◌<◌, ◌≤◌, List, length}
-use Rattle.std.proofs.Common.{get_or, replicate, arith}
-use Rattle.std.proofs.lemmas.Bool.{cases_lt}
-use Rattle.epx_graph.specs.NodePaths.{NodeReaches}
+use Rattle.std.proofs.Common.{◌≡◌, ◌≢◌, ◌↔◌, ◌⊎◌, inl, inr, ℕ, ◌-◌, ◌<◌, ◌≤◌, List, length, get_or}
+use Rattle.std.proofs.Common.{replicate, arith}
+use Rattle.epx_types.proofs.Common.{cases_lt}
+use Rattle.epx_graph.proofs.Common.{NodeReaches}
 use Rattle.epx_ranking.specs.inner.Ends.{IsEndBelow}
 use Rattle.epx_components.specs.Collections.{AreCollected}
 use Rattle.epx_components.specs.Partitions.{ComponentParts, IsPartition, component_of, number_for}

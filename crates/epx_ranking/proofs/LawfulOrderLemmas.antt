@@ -2,22 +2,11 @@
 -- overtaken.
 use Rattle.std.proofs.Common.{◌≡◌, ◌≢◌, ℕ, inl, inr, List, true, length, slice_get, Some, sym}
 use Rattle.std.proofs.Common.{subst, ◌∙◌, ap, arith, is_lt, nat_cmp, Contains}
-use Rattle.std.specs.Ordering.{ordering_then}
-use Rattle.std.specs.Cmp.{nat_cmp_total, on_total, then_total}
-use Rattle.std.proofs.lemmas.Bool.{cases_lt}
-use Rattle.std.proofs.lemmas.Option.{slice_get_within}
-use Rattle.epx_types.specs.declared.id.Id.{Id}
-use Rattle.epx_types.specs.Ids.{id_cmp, IsRising}
-use Rattle.epx_types.specs.CommittedMap.{ids_of}
-use Rattle.epx_types.specs.Instances.{Instance}
-use Rattle.epx_types.specs.LawfulOrders.{SequenceBefore, IsLawful}
-use Rattle.epx_types.specs.Readiness.{IsReady}
-use Rattle.epx_types.proofs.committed.AgreementLemmas.{IsRising-same}
-use Rattle.epx_types.proofs.lists.ComparisonLemmas.{id_cmp_total}
-use Rattle.epx_types.proofs.lists.ListPositionLemmas.{slice_get-from_Contains}
-use Rattle.epx_types.proofs.lists.ListPositionLemmas.{AllPairs-from_slice_get}
-use Rattle.epx_types.proofs.graph.ReachingLemmas.{IsReady-reached}
-use Rattle.epx_types.proofs.lists.TotalOrderLemmas.{below_irrefl}
+use Rattle.epx_types.proofs.Common.{ordering_then, nat_cmp_total, cases_lt, slice_get_within, Id}
+use Rattle.epx_types.proofs.Common.{id_cmp, IsRising, ids_of, Instance, SequenceBefore, IsLawful}
+use Rattle.epx_types.proofs.Common.{IsReady, IsRising-same, id_cmp_total, slice_get-from_Contains}
+use Rattle.epx_types.proofs.Common.{AllPairs-from_slice_get, IsReady-reached, below_irrefl}
+use Rattle.std.specs.Cmp.{on_total, then_total}
 use Rattle.epx_ranking.specs.OrderFaults.{IsListOfReady, InOrder}
 
 module _ (m : List Instance) (rising : IsRising (ids_of m)) (ids : List Id) where

@@ -1,11 +1,8 @@
 -- The least sequence key of each component, among the nodes that a list leaves out.
-use Rattle.std.proofs.Common.{◌≡◌, ◌≢◌, ℕ, ◌+◌, ◌<◌, ◌⊎◌, inl, inr, List, Bool, length, get_or}
-use Rattle.std.proofs.Common.{set, slice_get, Option, Some, None, true, refl, sym, subst, ◌∙◌, ap}
-use Rattle.std.proofs.Common.{arith, is_lt, IsTrue}
-use Rattle.std.proofs.lemmas.Bool.{cases_lt}
-use Rattle.std.proofs.lemmas.List.{length-set}
-use Rattle.epx_types.specs.Instances.{Instance}
-use Rattle.epx_types.proofs.lists.TotalOrderLemmas.{below_irrefl, below_trans}
+use Rattle.std.proofs.Common.{◌≡◌, ◌≢◌, ℕ, ◌+◌, ◌<◌, ◌⊎◌, inl, inr, List, Bool, length, get_or, set}
+use Rattle.std.proofs.Common.{slice_get, Option, Some, None, true, refl, sym, subst, ◌∙◌, ap, arith}
+use Rattle.std.proofs.Common.{is_lt, IsTrue}
+use Rattle.epx_types.proofs.Common.{cases_lt, length-set, Instance, below_irrefl, below_trans}
 use Rattle.epx_ranking.specs.declared.check.sequence_key.SequenceKey.{SequenceKey}
 use Rattle.epx_ranking.specs.inner.SequenceKeys.{sequence_key_of, sequence_key_cmp, ComesAfter}
 use Rattle.epx_ranking.specs.inner.SequenceKeys.{key_for, AreLeftOut}

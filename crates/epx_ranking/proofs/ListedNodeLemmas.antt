@@ -1,17 +1,10 @@
 -- What the nodes of a list say about its instances.
 use Rattle.std.proofs.Common.{◌≡◌, ℕ, ◌<◌, inl, inr, List, Bool, length, get_or, slice_get, Some}
 use Rattle.std.proofs.Common.{sym, ◌∙◌, ap, arith, IsTrue, Contains, All}
-use Rattle.std.proofs.lemmas.Bool.{cases_lt}
-use Rattle.std.proofs.lemmas.List.Elements.{All-from_get_or}
-use Rattle.std.proofs.lemmas.Option.{slice_get_within, slice_get-get_or}
-use Rattle.epx_types.specs.declared.id.Id.{Id}
-use Rattle.epx_types.specs.Instances.{Instance}
-use Rattle.epx_types.proofs.lists.ListPositionLemmas.{Contains-slice_get, slice_get-from_Contains}
-use Rattle.epx_graph.specs.Graphs.{DependencyGraph}
-use Rattle.epx_graph.specs.GraphOf.{IsGraphOf}
-use Rattle.epx_graph.proofs.GraphNodeLemmas.{node_is_unique}
-use Rattle.epx_graph.proofs.MapPathLemmas.{committed_count, node_committed, node_of_committed}
-use Rattle.epx_graph.proofs.MapPathLemmas.{node_order}
+use Rattle.epx_types.proofs.Common.{cases_lt, All-from_get_or, slice_get_within, slice_get-get_or}
+use Rattle.epx_types.proofs.Common.{Id, Instance, Contains-slice_get, slice_get-from_Contains}
+use Rattle.epx_graph.proofs.Common.{DependencyGraph, IsGraphOf, node_is_unique, committed_count}
+use Rattle.epx_graph.proofs.Common.{node_committed, node_of_committed, node_order}
 use Rattle.epx_ranking.specs.inner.NodeLists.{AreListed, IsListedIfReady, IsListingFault}
 use Rattle.epx_ranking.specs.PrefixFaults.{IsPrefixFault}
 use Rattle.epx_ranking.specs.OrderFaults.{HasAllReady, IsOrderFault, ReadyOnce}

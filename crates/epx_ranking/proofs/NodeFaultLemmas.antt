@@ -3,25 +3,13 @@
 use Rattle.std.proofs.Common.{◌≡◌, ◌≢◌, ℕ, ◌<◌, ◌≤◌, inl, inr, List, Bool, true, length, get_or}
 use Rattle.std.proofs.Common.{slice_get, Option, Some, None, refl, sym, subst, subst₂, ◌∙◌, ap}
 use Rattle.std.proofs.Common.{arith, is_lt, nat_cmp, Contains, IsTrue}
-use Rattle.std.specs.Ordering.{ordering_then}
-use Rattle.std.proofs.lemmas.Bool.{cases_lt, cases_Bool, false≢true}
-use Rattle.std.proofs.lemmas.List.Elements.{All-get_or}
-use Rattle.std.proofs.lemmas.Option.{slice_get_within, slice_get-get_or}
-use Rattle.epx_types.specs.declared.id.Id.{Id}
-use Rattle.epx_types.specs.Ids.{id_cmp, IsRising}
-use Rattle.epx_types.specs.Instances.{Instance}
-use Rattle.epx_types.specs.LawfulPrefixes.{IsLawfulPrefix}
-use Rattle.epx_types.specs.Reaching.{Reaches}
-use Rattle.epx_types.specs.Readiness.{IsReady}
-use Rattle.epx_types.proofs.committed.AgreementLemmas.{IsRising-same}
-use Rattle.epx_types.proofs.graph.ReachingLemmas.{IsReady-reached}
-use Rattle.epx_types.proofs.lists.ListPositionLemmas.{Contains-slice_get}
-use Rattle.epx_graph.specs.Graphs.{DependencyGraph, edges_of}
-use Rattle.epx_graph.specs.GraphOf.{IsGraphOf}
-use Rattle.epx_graph.specs.NodePaths.{NodeReaches}
-use Rattle.epx_graph.proofs.GraphNodeLemmas.{reached_within}
-use Rattle.epx_graph.proofs.MapPathLemmas.{committed_count, node_committed, node_instance}
-use Rattle.epx_graph.proofs.MapPathLemmas.{node_of_committed, node_reaches}
+use Rattle.epx_types.proofs.Common.{ordering_then, cases_lt, cases_Bool, false≢true, All-get_or}
+use Rattle.epx_types.proofs.Common.{slice_get_within, slice_get-get_or, Id, id_cmp, IsRising}
+use Rattle.epx_types.proofs.Common.{Instance, IsLawfulPrefix, Reaches, IsReady, IsRising-same}
+use Rattle.epx_types.proofs.Common.{IsReady-reached, Contains-slice_get}
+use Rattle.epx_graph.proofs.Common.{DependencyGraph, edges_of, IsGraphOf, NodeReaches}
+use Rattle.epx_graph.proofs.Common.{reached_within, committed_count, node_committed, node_instance}
+use Rattle.epx_graph.proofs.Common.{node_of_committed, node_reaches}
 use Rattle.epx_ranking.specs.inner.Ends.{AreEnds, AreRaised, IsEndBelow}
 use Rattle.epx_ranking.specs.inner.NodeLists.{AreListed, AreListedReady}
 use Rattle.epx_ranking.specs.PrefixFaults.{IsTooEarlyAt, IsAfterGapAt, BeginsInOrder}

@@ -1,15 +1,10 @@
 -- One more instance of a list.
 use Rattle.std.proofs.Common.{◌≡◌, ℕ, ◌+◌, ◌<◌, inl, inr, List, [], ◌∷◌, ◌++◌, Bool, true, false}
 use Rattle.std.proofs.Common.{get_or, set, slice_get, Some, sym, subst, ◌∙◌, ap, arith, IsTrue}
-use Rattle.std.proofs.lemmas.Bool.{cases_eq, cases_lt}
-use Rattle.std.proofs.lemmas.List.{length_push, length-set, get_or_push, get_or_append_left}
-use Rattle.std.proofs.lemmas.List.{get_or-set_same, get_or-set_other}
-use Rattle.std.proofs.lemmas.Option.{slice_get_within, slice_get-get_or}
-use Rattle.epx_types.specs.declared.id.Id.{Id}
-use Rattle.epx_types.specs.Instances.{Instance}
-use Rattle.epx_types.specs.Readiness.{IsReady}
-use Rattle.epx_graph.specs.Graphs.{DependencyGraph, IsGraph}
-use Rattle.epx_graph.proofs.GraphNodeLemmas.{node_is_unique}
+use Rattle.epx_types.proofs.Common.{cases_eq, cases_lt, length_push, length-set, get_or_push}
+use Rattle.epx_types.proofs.Common.{get_or_append_left, get_or-set_same, get_or-set_other}
+use Rattle.epx_types.proofs.Common.{slice_get_within, slice_get-get_or, Id, Instance, IsReady}
+use Rattle.epx_graph.proofs.Common.{DependencyGraph, IsGraph, node_is_unique}
 use Rattle.epx_ranking.specs.inner.NodeLists.{AreListed}
 use Rattle.epx_ranking.specs.OrderFaults.{ReadyOnce}
 use Rattle.epx_components.specs.ReadyMarks.{is_marked}

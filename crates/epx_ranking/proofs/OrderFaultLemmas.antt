@@ -1,23 +1,12 @@
 -- A list of instances is a lawful order, or has a fault.
-use Rattle.std.proofs.Common.{◌≡◌, ◌≢◌, ◌⊎◌, ◌<◌, ℕ, zero, suc, Bool, true, List, length}
-use Rattle.std.proofs.Common.{slice_get, Option, Some, None, Contains, refl, sym, ap, ◌∙◌, subst}
-use Rattle.std.proofs.Common.{inl, inr, is_lt, nat_cmp, arith}
-use Rattle.std.specs.Ordering.{ordering_then}
-use Rattle.std.proofs.lemmas.Bool.{cases_lt, cases_Bool}
-use Rattle.std.proofs.lemmas.Option.{slice_get_within}
-use Rattle.epx_types.specs.declared.id.Id.{Id}
-use Rattle.epx_types.specs.Ids.{IsRising, id_cmp}
-use Rattle.epx_types.specs.CommittedMap.{ids_of}
-use Rattle.epx_types.specs.Instances.{Instance}
-use Rattle.epx_types.specs.LawfulOrders.{SequenceBefore, IsLawful}
-use Rattle.epx_types.specs.Reaching.{Reaches}
-use Rattle.epx_types.specs.Readiness.{IsReady}
-use Rattle.epx_types.specs.Components.{InOneComponent}
-use Rattle.epx_types.proofs.lists.SearchLemmas.{some_or_none, least_or_none}
-use Rattle.epx_types.proofs.orders.RankExistenceLemmas.{ready_or_waits}
-use Rattle.epx_types.proofs.graph.ReachingDecisionLemmas.{both_cases, not_cases, Reaches-cases}
-use Rattle.epx_types.proofs.graph.ReachingDecisionLemmas.{InOneComponent-cases}
-use Rattle.epx_types.proofs.graph.WaitingLemmas.{Id-cases, Contains-Id_cases}
+use Rattle.std.proofs.Common.{◌≡◌, ◌≢◌, ◌⊎◌, ◌<◌, ℕ, zero, suc, Bool, true, List, length, slice_get}
+use Rattle.std.proofs.Common.{Option, Some, None, Contains, refl, sym, ap, ◌∙◌, subst, inl, inr}
+use Rattle.std.proofs.Common.{is_lt, nat_cmp, arith}
+use Rattle.epx_types.proofs.Common.{ordering_then, cases_lt, cases_Bool, slice_get_within, Id}
+use Rattle.epx_types.proofs.Common.{IsRising, id_cmp, ids_of, Instance, SequenceBefore, IsLawful}
+use Rattle.epx_types.proofs.Common.{Reaches, IsReady, InOneComponent, some_or_none, least_or_none}
+use Rattle.epx_types.proofs.Common.{ready_or_waits, both_cases, not_cases, Reaches-cases}
+use Rattle.epx_types.proofs.Common.{InOneComponent-cases, Id-cases, Contains-Id_cases}
 use Rattle.epx_ranking.specs.OrderFaults.{IsStrangerAt, IsRepeatAt, IsEarlyAt, IsOvertakenAt}
 use Rattle.epx_ranking.specs.OrderFaults.{ReadyOnce, HasAllReady, InOrder, IsListOfReady}
 use Rattle.epx_ranking.specs.OrderFaults.{IsOrderFault}

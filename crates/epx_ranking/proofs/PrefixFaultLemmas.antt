@@ -1,21 +1,11 @@
 -- A list is a prefix of a lawful order or has a fault, and it has one alone.
-use Rattle.std.proofs.Common.{◌≡◌, ◌≢◌, ◌⊎◌, inl, inr, ℕ, ◌<◌, List, length, Some}
-use Rattle.std.proofs.Common.{Contains, refl, sym, ap, ◌∙◌, subst, arith}
-use Rattle.std.proofs.lemmas.Bool.{cases_lt}
-use Rattle.std.proofs.lemmas.Option.{slice_get_within}
-use Rattle.epx_types.specs.declared.id.Id.{Id}
-use Rattle.epx_types.specs.Ids.{IsRising}
-use Rattle.epx_types.specs.CommittedMap.{ids_of}
-use Rattle.epx_types.specs.Components.{InOneComponent}
-use Rattle.epx_types.specs.Instances.{Instance}
-use Rattle.epx_types.specs.LawfulPrefixes.{IsLawfulPrefix}
-use Rattle.epx_types.specs.LawfulOrders.{SequenceBefore}
-use Rattle.epx_types.specs.Reaching.{Reaches}
-use Rattle.epx_types.proofs.graph.DependencyLemmas.{IsCommitted-from_Contains}
-use Rattle.epx_types.proofs.graph.ReachingDecisionLemmas.{not_cases, Reaches-cases}
-use Rattle.epx_types.proofs.graph.ReachingDecisionLemmas.{InOneComponent-cases}
-use Rattle.epx_types.proofs.graph.ReachingLemmas.{IsReady-reached}
-use Rattle.epx_types.proofs.graph.WaitingLemmas.{Id-cases, Contains-Id_cases}
+use Rattle.std.proofs.Common.{◌≡◌, ◌≢◌, ◌⊎◌, inl, inr, ℕ, ◌<◌, List, length, Some, Contains, refl}
+use Rattle.std.proofs.Common.{sym, ap, ◌∙◌, subst, arith}
+use Rattle.epx_types.proofs.Common.{cases_lt, slice_get_within, Id, IsRising, ids_of}
+use Rattle.epx_types.proofs.Common.{InOneComponent, Instance, IsLawfulPrefix, SequenceBefore}
+use Rattle.epx_types.proofs.Common.{Reaches, IsCommitted-from_Contains, not_cases, Reaches-cases}
+use Rattle.epx_types.proofs.Common.{InOneComponent-cases, IsReady-reached, Id-cases}
+use Rattle.epx_types.proofs.Common.{Contains-Id_cases}
 use Rattle.epx_ranking.specs.PrefixFaults.{IsTooEarlyAt, IsAfterGapAt, IsOutOfSequenceAt}
 use Rattle.epx_ranking.specs.PrefixFaults.{BeginsInOrder, IsPrefixFault}
 use Rattle.epx_ranking.specs.OrderFaults.{IsStrangerAt, ReadyOnce}

@@ -1,40 +1,20 @@
 -- A list is a prefix of a lawful order exactly if it has ready instances, each once, and none
 -- is too early or out of sequence.
 use Rattle.std.proofs.Common.{◌≡◌, ◌≢◌, ℕ, ◌<◌, inl, inr, List, [], ◌∷◌, ◌++◌, length, not}
-use Rattle.std.proofs.Common.{slice_get, Some, refl, sym, subst, ◌∙◌, ap, arith, get_or}
-use Rattle.std.proofs.Common.{Contains, AllPairs}
-use Rattle.std.proofs.lemmas.Bool.{cases_lt}
-use Rattle.std.proofs.lemmas.List.{append-nil}
-use Rattle.std.proofs.lemmas.List.Elements.{Contains-append_left, Contains-append_right}
-use Rattle.std.proofs.lemmas.List.Elements.{Contains-append_cases}
-use Rattle.std.proofs.lemmas.List.Kept.{AllPairs-filter}
-use Rattle.std.proofs.lemmas.Option.{slice_get_within, slice_get-get_or}
-use Rattle.epx_types.specs.declared.id.Id.{Id}
-use Rattle.epx_types.specs.Ids.{IsRising}
-use Rattle.epx_types.specs.CommittedMap.{ids_of}
-use Rattle.epx_types.specs.Components.{InOneComponent}
-use Rattle.epx_types.specs.Done.{is_among, remaining_ids}
-use Rattle.epx_types.specs.ExecutionOrder.{ranked_ids}
-use Rattle.epx_types.specs.Instances.{Instance}
-use Rattle.epx_types.specs.LawfulPrefixes.{IsLawfulPrefix}
-use Rattle.epx_types.specs.LawfulOrders.{Before, SequenceBefore, IsLawful}
-use Rattle.epx_types.specs.Reaching.{Reaches}
-use Rattle.epx_types.specs.Readiness.{IsReady}
-use Rattle.epx_types.proofs.graph.ReachingLemmas.{IsReady-reached}
-use Rattle.epx_types.proofs.graph.WaitingLemmas.{Contains-Id_cases}
-use Rattle.epx_types.proofs.lists.BeforeLemmas.{Before-append_left, Before-append_right}
-use Rattle.epx_types.proofs.lists.BeforeLemmas.{Before-across, Before-filter}
-use Rattle.epx_types.proofs.lists.BeforeLemmas.{slice_get-append_left}
-use Rattle.epx_types.proofs.lists.ListPositionLemmas.{AllPairs-append, AllPairs-from_slice_get}
-use Rattle.epx_types.proofs.lists.ListPositionLemmas.{AllPairs-slice_get, Contains-slice_get}
-use Rattle.epx_types.proofs.lists.ListPositionLemmas.{slice_get-from_Contains}
-use Rattle.epx_types.proofs.lists.MembershipLemmas.{Contains-filter, Contains-from_filter}
-use Rattle.epx_types.proofs.lists.MembershipLemmas.{Contains-head}
-use Rattle.epx_types.proofs.orders.ExecutionOrderLemmas.{IsExecutionOrder-IsLawful}
-use Rattle.epx_types.proofs.orders.LawfulOrderLemmas.{Before-differ, Before-not_both}
-use Rattle.epx_types.proofs.orders.LawfulOrderLemmas.{same_position}
-use Rattle.epx_types.proofs.orders.LawfulPartLemmas.{not_in_part, passes_rest}
-use Rattle.epx_types.proofs.orders.OrderExistenceLemmas.{execution_order_exists}
+use Rattle.std.proofs.Common.{slice_get, Some, refl, sym, subst, ◌∙◌, ap, arith, get_or, Contains}
+use Rattle.std.proofs.Common.{AllPairs}
+use Rattle.epx_types.proofs.Common.{cases_lt, append-nil, Contains-append_left}
+use Rattle.epx_types.proofs.Common.{Contains-append_right, Contains-append_cases, AllPairs-filter}
+use Rattle.epx_types.proofs.Common.{slice_get_within, slice_get-get_or, Id, IsRising, ids_of}
+use Rattle.epx_types.proofs.Common.{InOneComponent, is_among, remaining_ids, ranked_ids, Instance}
+use Rattle.epx_types.proofs.Common.{IsLawfulPrefix, Before, SequenceBefore, IsLawful, Reaches}
+use Rattle.epx_types.proofs.Common.{IsReady, IsReady-reached, Contains-Id_cases, Before-append_left}
+use Rattle.epx_types.proofs.Common.{Before-append_right, Before-across, Before-filter}
+use Rattle.epx_types.proofs.Common.{slice_get-append_left, AllPairs-append, AllPairs-from_slice_get}
+use Rattle.epx_types.proofs.Common.{AllPairs-slice_get, Contains-slice_get, slice_get-from_Contains}
+use Rattle.epx_types.proofs.Common.{Contains-filter, Contains-from_filter, Contains-head}
+use Rattle.epx_types.proofs.Common.{IsExecutionOrder-IsLawful, Before-differ, Before-not_both}
+use Rattle.epx_types.proofs.Common.{same_position, not_in_part, passes_rest, execution_order_exists}
 use Rattle.epx_ranking.specs.PrefixFaults.{IsTooEarlyAt, IsOutOfSequenceAt}
 use Rattle.epx_ranking.specs.PrefixFaults.{BeginsInOrder, IsPrefixFault}
 use Rattle.epx_ranking.specs.OrderFaults.{IsEarlyAt, IsOvertakenAt, ReadyOnce, HasAllReady, InOrder}

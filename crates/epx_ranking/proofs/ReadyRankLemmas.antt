@@ -1,19 +1,11 @@
 -- The ranks of the ready instances of the first nodes.
 use Rattle.std.proofs.Common.{◌≡◌, ◌≢◌, ℕ, ◌+◌, ◌<◌, List, [], ◌∷◌, ◌++◌, get_or, slice_get, Some}
 use Rattle.std.proofs.Common.{Contains, AllPairs, sym, ap, ◌∙◌, subst, inl, inr, arith}
-use Rattle.std.proofs.lemmas.Bool.{cases_lt}
-use Rattle.std.proofs.lemmas.List.Elements.{Contains-append_left, Contains-get_or, Contains-push}
-use Rattle.std.proofs.lemmas.List.Elements.{Contains-push_cases}
-use Rattle.std.proofs.lemmas.List.Quantifiers.{all_pairs_push}
-use Rattle.epx_types.specs.declared.id.Id.{Id}
-use Rattle.epx_types.specs.ExecutionOrder.{IsRanked}
-use Rattle.epx_types.specs.Instances.{Instance}
-use Rattle.epx_types.specs.Readiness.{IsReady}
-use Rattle.epx_types.proofs.lists.MembershipLemmas.{Contains-nil}
-use Rattle.epx_graph.specs.Graphs.{DependencyGraph, IsGraph}
-use Rattle.epx_graph.specs.GraphOf.{IsGraphOf}
-use Rattle.epx_graph.proofs.GraphNodeLemmas.{node_is_unique}
-use Rattle.epx_graph.proofs.MapPathLemmas.{node_of_committed}
+use Rattle.epx_types.proofs.Common.{cases_lt, Contains-append_left, Contains-get_or, Contains-push}
+use Rattle.epx_types.proofs.Common.{Contains-push_cases, all_pairs_push, Id, IsRanked, Instance}
+use Rattle.epx_types.proofs.Common.{IsReady, Contains-nil}
+use Rattle.epx_graph.proofs.Common.{DependencyGraph, IsGraph, IsGraphOf, node_is_unique}
+use Rattle.epx_graph.proofs.Common.{node_of_committed}
 use Rattle.epx_components.specs.Ranks.{ranked}
 use Rattle.epx_ranking.specs.inner.ReadyRanks.{AreReadyRanks}
 use Rattle.epx_components.specs.declared.rank.Rank.{Rank}

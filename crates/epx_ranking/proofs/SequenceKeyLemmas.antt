@@ -1,15 +1,12 @@
 -- The greatest sequence key of each component, among the nodes of a list.
 use Rattle.std.proofs.Common.{◌≡◌, ◌≢◌, ℕ, ◌+◌, ◌<◌, ◌⊎◌, inl, inr, List, length, get_or, set}
-use Rattle.std.proofs.Common.{slice_get, Option, Some, None, true, refl, sym, subst}
-use Rattle.std.proofs.Common.{◌∙◌, ap, arith, is_lt}
-use Rattle.std.specs.Cmp.{IsTotalOrder, nat_cmp_total, on_total, then_total}
+use Rattle.std.proofs.Common.{slice_get, Option, Some, None, true, refl, sym, subst, ◌∙◌, ap, arith}
+use Rattle.std.proofs.Common.{is_lt}
+use Rattle.epx_types.proofs.Common.{nat_cmp_total, cases_lt, length-set, Instance, below_irrefl}
+use Rattle.epx_types.proofs.Common.{below_trans, below_cases, id_cmp_total, id_cmp-IsAntisymmetric}
+use Rattle.epx_types.proofs.Common.{first_is_equal, second_is_equal}
+use Rattle.std.specs.Cmp.{IsTotalOrder, on_total, then_total}
 use Rattle.std.specs.FinMap.{IsAntisymmetric, nat_cmp-IsAntisymmetric}
-use Rattle.std.proofs.lemmas.Bool.{cases_lt}
-use Rattle.std.proofs.lemmas.List.{length-set}
-use Rattle.epx_types.specs.Instances.{Instance}
-use Rattle.epx_types.proofs.lists.TotalOrderLemmas.{below_irrefl, below_trans, below_cases}
-use Rattle.epx_types.proofs.lists.ComparisonLemmas.{id_cmp_total, id_cmp-IsAntisymmetric}
-use Rattle.epx_types.proofs.lists.ComparisonLemmas.{first_is_equal, second_is_equal}
 use Rattle.epx_ranking.specs.declared.check.sequence_key.SequenceKey.{SequenceKey}
 use Rattle.epx_components.specs.Partitions.{ComponentParts, component_of}
 use Rattle.epx_ranking.specs.inner.SequenceKeys.{sequence_key_of, sequence_key_cmp, ComesBefore}

@@ -1,30 +1,19 @@
 -- A sort of the ranks of the ready instances has the execution order as its result.
-use Rattle.std.proofs.Common.{◌≡◌, ◌≢◌, ℕ, ◌<◌, List, Bool, true}
-use Rattle.std.proofs.Common.{map, slice_get, Some, Contains, AllPairs, Less}
-use Rattle.std.proofs.Common.{Equal, Greater, is_lt, nat_cmp, refl, sym, ap, ap₂, ◌∙◌, subst}
-use Rattle.std.proofs.Common.{subst₂, arith, IsPermutation}
-use Rattle.std.specs.Ordering.{ordering_reverse, ordering_then}
+use Rattle.std.proofs.Common.{◌≡◌, ◌≢◌, ℕ, ◌<◌, List, Bool, true, map, slice_get, Some, Contains}
+use Rattle.std.proofs.Common.{AllPairs, Less, Equal, Greater, is_lt, nat_cmp, refl, sym, ap, ap₂}
+use Rattle.std.proofs.Common.{◌∙◌, subst, subst₂, arith, IsPermutation}
+use Rattle.epx_types.proofs.Common.{ordering_reverse, ordering_then, false≢true, ranks_by}
+use Rattle.epx_types.proofs.Common.{sorted_far, Contains-permutation, IsPermutation-sym}
+use Rattle.epx_types.proofs.Common.{slice_get_within, get_or_from_slice_get, IsPermutation-map}
+use Rattle.epx_types.proofs.Common.{IsDistinct-IsPermutation, AllPairs-from_IsDistinct}
+use Rattle.epx_types.proofs.Common.{IsDistinct-from_AllPairs, ids_decide, ids_flip, Id}
+use Rattle.epx_types.proofs.Common.{AllPairs-slice_get, Ranked, rank_cmp, RanksBelow, IsRanked}
+use Rattle.epx_types.proofs.Common.{IsExecutionOrder, id_cmp, Instance, second_is_equal}
+use Rattle.epx_types.proofs.Common.{id_cmp-IsAntisymmetric, rank_cmp_total, Contains-map}
+use Rattle.epx_types.proofs.Common.{Contains-from_map, slice_get-from_map, AllPairs-from_slice_get}
 use Rattle.std.specs.List.Sorted.{IsSortedBy}
-use Rattle.std.proofs.lemmas.Bool.{false≢true}
-use Rattle.std.proofs.lemmas.List.Sorted.{ranks_by, sorted_far, Contains-permutation}
-use Rattle.std.proofs.lemmas.List.Sorted.{IsPermutation-sym}
-use Rattle.std.proofs.lemmas.Option.{slice_get_within, get_or_from_slice_get}
-use Rattle.std.proofs.lemmas.List.Sorted.{IsPermutation-map}
-use Rattle.std.proofs.lemmas.Map.Keys.{IsDistinct-IsPermutation}
-use Rattle.std.proofs.lemmas.Map.Made.{AllPairs-from_IsDistinct, IsDistinct-from_AllPairs}
-use Rattle.epx_types.proofs.commands.EqualityLemmas.{ids_decide, ids_flip}
-use Rattle.epx_types.specs.declared.id.Id.{Id}
 use Rattle.epx_types.specs.contracts.id.IdPartialEq.TheImpl as id_eq
-use Rattle.epx_types.proofs.lists.ListPositionLemmas.{AllPairs-slice_get, slice_get-map}
-use Rattle.epx_types.specs.ExecutionOrder.{Ranked, rank_cmp, RanksBelow, IsRanked}
-use Rattle.epx_types.specs.ExecutionOrder.{IsExecutionOrder}
-use Rattle.epx_types.specs.Ids.{id_cmp}
-use Rattle.epx_types.specs.Instances.{Instance}
-use Rattle.epx_types.proofs.lists.ComparisonLemmas.{second_is_equal, id_cmp-IsAntisymmetric}
-use Rattle.epx_types.proofs.lists.ComparisonLemmas.{rank_cmp_total}
-use Rattle.epx_types.proofs.lists.MembershipLemmas.{Contains-map, Contains-from_map}
-use Rattle.epx_types.proofs.lists.ListPositionLemmas.{slice_get-from_map}
-use Rattle.epx_types.proofs.lists.ListPositionLemmas.{AllPairs-from_slice_get}
+use Rattle.epx_types.proofs.lists.ListPositionLemmas.{slice_get-map}
 use Rattle.epx_components.specs.Ranks.{ranked, ranked_all}
 use Rattle.epx_ranking.specs.inner.ReadyRanks.{AreReadyRanks}
 use Rattle.epx_components.specs.declared.rank.Rank.{Rank}

@@ -1,15 +1,9 @@
 -- A list has at most one fault, and a lawful order has none.
 use Rattle.std.proofs.Common.{◌≡◌, ◌≢◌, ◌⊎◌, inl, inr, ℕ, ◌<◌, List, length, Some, refl, sym, ap}
 use Rattle.std.proofs.Common.{◌∙◌, subst, arith}
-use Rattle.std.proofs.lemmas.Bool.{cases_lt}
-use Rattle.std.proofs.lemmas.Option.{slice_get_within}
-use Rattle.epx_types.specs.declared.id.Id.{Id}
-use Rattle.epx_types.specs.Instances.{Instance}
-use Rattle.epx_types.specs.LawfulOrders.{IsLawful}
-use Rattle.epx_types.specs.Readiness.{IsReady}
-use Rattle.epx_types.proofs.orders.LawfulOrderLemmas.{Before-not_both}
-use Rattle.epx_types.proofs.lists.ListPositionLemmas.{Contains-slice_get, AllPairs-slice_get}
-use Rattle.epx_types.proofs.graph.ReachingLemmas.{UpTo-antisymm}
+use Rattle.epx_types.proofs.Common.{cases_lt, slice_get_within, Id, Instance, IsLawful, IsReady}
+use Rattle.epx_types.proofs.Common.{Before-not_both, Contains-slice_get, AllPairs-slice_get}
+use Rattle.epx_types.proofs.Common.{UpTo-antisymm}
 use Rattle.epx_ranking.specs.OrderFaults.{IsStrangerAt, IsRepeatAt, IsEarlyAt, IsOvertakenAt}
 use Rattle.epx_ranking.specs.OrderFaults.{ReadyOnce, InOrder, IsOrderFault}
 use Rattle.epx_ranking.specs.declared.order_fault.OrderFault.{OrderFault}

@@ -1,12 +1,10 @@
 -- The pairs of two lists of one length, cut at the same places.
-use Rattle.std.proofs.Common.{◌≡◌, zero, suc, ◌-◌, ℕ, List, [], ◌∷◌, length, take, drop, zip}
-use Rattle.std.proofs.Common.{◌≤◌, ℤ, map, slice_range, refl, sym, ap, ◌∙◌, arith}
+use Rattle.std.proofs.Common.{◌≡◌, zero, suc, ◌-◌, ℕ, List, [], ◌∷◌, length, take, drop, zip, ◌≤◌}
+use Rattle.std.proofs.Common.{ℤ, map, slice_range, refl, sym, ap, ◌∙◌, arith}
 use Rattle.std.specs.FinMap as contents
 use Rattle.std.specs.FinMap.{len-entries}
-use Rattle.std.proofs.lemmas.List.{length-map}
+use Rattle.epx_types.proofs.Common.{length-map, Contents, piece_start, piece_end}
 use Rattle.std.proofs.lemmas.Slice.Zip.{length-zip}
-use Rattle.epx_types.specs.Contents.{Contents}
-use Rattle.epx_types.specs.Pieces.{piece_start, piece_end}
 use Rattle.epx_claims.specs.inner.PieceItems.{items_of_piece}
 
 -- a store with few keys has few pairs

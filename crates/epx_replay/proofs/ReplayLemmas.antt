@@ -1,17 +1,11 @@
 -- Commands that are executed batch by batch, each batch written after it.
-use Rattle.std.proofs.Common.{◌≡◌, ◌∙◌, ℕ, List, [], ◌∷◌, ◌++◌, length, flat_map, zip}
-use Rattle.std.proofs.Common.{zero, suc, ◌-◌, refl, sym, ap, ap₂, subst, arith, drop, map, take}
-use Rattle.std.proofs.Common.{slice_range}
+use Rattle.std.proofs.Common.{◌≡◌, ◌∙◌, ℕ, List, [], ◌∷◌, ◌++◌, length, flat_map, zip, zero, suc}
+use Rattle.std.proofs.Common.{◌-◌, refl, sym, ap, ap₂, subst, arith, drop, map, take, slice_range}
+use Rattle.std.proofs.Common.{min}
 use Rattle.std.proofs.lemmas.Grind.{flat_map-append}
-use Rattle.std.specs.Prelude.{min}
-use Rattle.std.proofs.lemmas.List.{append_assoc, length-append, length-drop}
-use Rattle.std.proofs.lemmas.List.{length-take, map-append}
-use Rattle.epx_types.specs.declared.id.Id.{Id}
-use Rattle.epx_types.specs.declared.op.Op.{Op}
-use Rattle.epx_types.specs.declared.reply.Reply.{Reply}
-use Rattle.epx_types.specs.Contents.{Contents}
-use Rattle.epx_types.specs.Execution.{execute}
-use Rattle.epx_types.proofs.commands.ExecutionLemmas.{execute-append, length-replies}
+use Rattle.epx_types.proofs.Common.{append_assoc, length-append, length-drop, length-take}
+use Rattle.epx_types.proofs.Common.{map-append, Id, Op, Reply, Contents, execute, execute-append}
+use Rattle.epx_types.proofs.Common.{length-replies}
 use Rattle.epx_report.specs.ReportLines.{reply_line}
 
 abbrev pub lines_of : List Id → List Reply → List ℕ

@@ -1,6 +1,6 @@
 -- A text has one first bad line at most.
 use Rattle.std.proofs.Common.{◌≡◌, ◌⊎◌, inl, inr, ℕ, ◌-◌, ◌<◌, ◌≤◌, List, take, subst, arith}
-use Rattle.std.proofs.lemmas.List.{take-take}
+use Rattle.std.proofs.Common.{take-take}
 use Rattle.epx_report.specs.BadLines.{IsFirstNotGood}
 
 -- the first lines of good ones are good

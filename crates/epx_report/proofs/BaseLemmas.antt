@@ -2,14 +2,9 @@
 use Rattle.std.proofs.Common.{◌≡◌, ◌⊎◌, inl, inr, ℕ, suc, ◌-◌, ℤ, true, T, List, [], ◌∷◌, ◌++◌}
 use Rattle.std.proofs.Common.{take, drop, Some, Result, Ok, Err, refl, sym, ap, ◌∙◌, subst, arith}
 use Rattle.std.proofs.Common.{append_assoc, append-nil}
-use Rattle.std.proofs.lemmas.List.{take-append-drop}
+use Rattle.epx_types.proofs.Common.{take-append-drop, is_sorted, Id, key_cmp, Contents, write_all}
+use Rattle.epx_types.proofs.Common.{insert_all-from_entries, entries-from_entries}
 use Rattle.std.specs.FinMap as contents
-use Rattle.std.specs.FinMap.{is_sorted}
-use Rattle.epx_types.specs.declared.id.Id.{Id}
-use Rattle.epx_types.specs.Keys.{key_cmp}
-use Rattle.epx_types.specs.Contents.{Contents}
-use Rattle.epx_types.proofs.keys.SortedEntryLemmas.{write_all, insert_all-from_entries}
-use Rattle.epx_types.proofs.keys.SortedEntryLemmas.{entries-from_entries}
 use Rattle.epx_lines.specs.Lines.{lines_of}
 use Rattle.epx_report.specs.declared.form.BaseLine.{BaseLine}
 use Rattle.epx_report.specs.declared.form.Counts.{Counts}
@@ -17,7 +12,7 @@ use Rattle.epx_report.specs.Bases.{Say, lines_in_order, AreBaseParts, AreDoneIn,
 use Rattle.epx_report.specs.Bases.{BeginBase, IsBadBase}
 use Rattle.epx_report.specs.Laws.{BaseOrBadBase, BaseIsNoBadBase, BaseSaysOneThing}
 use Rattle.epx_report.specs.Laws.{BadBaseIsBadAtOneLine}
-use Rattle.epx_report.specs.inner.Seen.{Seen, nothing_seen, is_complete}
+use Rattle.epx_report.specs.inner.Progress.{Progress, nothing_seen, is_complete}
 use Rattle.epx_report.specs.inner.BaseReadings.{after_all, base_reading, put_pairs, IsReadBase}
 use Rattle.epx_report.proofs.BadLineLemmas.{none_bad, one_bad}
 use Rattle.epx_report.proofs.BegunBaseLemmas.{IsAfter, IsReached, reached_all, header_parts}
@@ -113,7 +108,7 @@ reading_of_base bytes done stored h = record {
 }
 
 -- a state that is complete is that after a whole base
-whole_if_complete : (s : Seen) (ls : List BaseLine) → IsReached s ls → is_complete s ≡ true
+whole_if_complete : (s : Progress) (ls : List BaseLine) → IsReached s ls → is_complete s ≡ true
     → (h : IsAfter s ls) × AreBaseParts h.parts
 whole_if_complete s ls (inl none) complete =
     let nothing : is_complete nothing_seen ≡ true = ap is_complete (sym none.0) ∙ complete in
@@ -130,9 +125,9 @@ base_is_read bytes done stored h =
     let whole = whole_if_complete h.seen all.said
     (reached_all nothing_seen [] all.said h.seen (inl (refl, refl)) all.reached) all.complete in
     let same_done : whole.0.done ≡ done =
-    ap (λ (s : Seen). s.done) whole.0.state_is ∙ sym h.done_is in
+    ap (λ (s : Progress). s.done) whole.0.state_is ∙ sym h.done_is in
     let same_stored : put_pairs whole.0.parts.stored contents.empty ≡ stored =
-    ap (λ (s : Seen). put_pairs s.stored contents.empty) whole.0.state_is ∙ sym h.stored_is in
+    ap (λ (s : Progress). put_pairs s.stored contents.empty) whole.0.state_is ∙ sym h.stored_is in
     record {
       parts = whole.0.parts;
       said = subst (Say (lines_of bytes)) (sym whole.0.lines_are) all.are_said;
@@ -185,7 +180,7 @@ bad_base_is_read bytes line e =
 
 -- ---- the laws
 
-one_or_the_other : (bytes : List ℕ) (r : Result Seen ℕ) → base_reading bytes ≡ r
+one_or_the_other : (bytes : List ℕ) (r : Result Progress ℕ) → base_reading bytes ≡ r
     → ((done : List Id) × (stored : Contents) × IsBase bytes done stored)
     ⊎ ((line : ℕ) × IsBadBase bytes line)
 one_or_the_other bytes (Ok s) e =

@@ -1,17 +1,11 @@
 -- The Ids, keys and values of a base are within their limits.
 use Rattle.std.proofs.Common.{◌≡◌, ℕ, ◌+◌, ℤ, w64, List, [], ◌∷◌, ◌++◌, Contains, Option, Some}
 use Rattle.std.proofs.Common.{None, option_map, Result, inl, inr, sym, ◌∙◌, subst, rules}
-use Rattle.std.specs.Prelude.{⊤, FitsSigned, IfSome, IfOk}
-use Rattle.std.specs.List.{AllByRecursion}
+use Rattle.std.proofs.Common.{FitsSigned, IfSome, IfOk}
+use Rattle.epx_types.proofs.Common.{⊤, AllByRecursion, insert_key, Id, id_cmp, Contents, assign}
+use Rattle.epx_types.proofs.Common.{key_cmp, get-assign_cases, Contains-nil}
 use Rattle.std.specs.FinMap as contents
-use Rattle.std.specs.BTreeSet.{insert_key}
 use Rattle.serde_json.specs.Data.{Data}
-use Rattle.epx_types.specs.declared.id.Id.{Id}
-use Rattle.epx_types.specs.Ids.{id_cmp}
-use Rattle.epx_types.specs.Contents.{Contents, assign}
-use Rattle.epx_types.specs.Keys.{key_cmp}
-use Rattle.epx_types.proofs.commands.ContentsLemmas.{get-assign_cases}
-use Rattle.epx_types.proofs.lists.MembershipLemmas.{Contains-nil}
 use Rattle.epx_lines.specs.Lines.{lines_of}
 use Rattle.epx_lines.specs.Elements.{elements, signed}
 use Rattle.epx_lines.specs.OperationList.{key_of}
@@ -21,7 +15,7 @@ use Rattle.epx_report.specs.declared.form.BaseLine.{BaseLine}
 use Rattle.epx_report.specs.declared.form.BaseLine.TheVariants.{Header, Done, Reply, Waiting, Store}
 use Rattle.epx_report.specs.Forms.{id_from, counts_of, header_of, id_line_of, short_line_of}
 use Rattle.epx_report.specs.Forms.{form_of_list, form_of, base_line_of}
-use Rattle.epx_report.specs.inner.Seen.{Seen, nothing_seen, after, after_with}
+use Rattle.epx_report.specs.inner.Progress.{Progress, nothing_seen, after, after_with}
 use Rattle.epx_report.specs.Bases.{IsBase}
 use Rattle.epx_report.specs.inner.BaseReadings.{after_line, or_line_number, reading, put_pairs}
 use Rattle.epx_report.specs.ReportReadings.{FitsNumbers}
@@ -97,11 +91,11 @@ abbrev IsStored : List ℕ × ℤ → Type 0
 IsStored p = IsStoreKey p.0 × FitsSigned w64 p.1
 
 -- the instances that are done, and the entries of the store, are within their limits
-record FitsSeen (s : Seen) : Type 0 where
+record FitsState (s : Progress) : Type 0 where
   done : (x : Id) → Contains s.done x → FitsNumbers x
   stored : AllByRecursion IsStored s.stored
 
-nothing_fits : FitsSeen nothing_seen
+nothing_fits : FitsState nothing_seen
 nothing_fits = record { done = λ x c. absurd (Contains-nil x c); stored = tt }
 
 stored_push : (ps : List (List ℕ × ℤ)) (p : List ℕ × ℤ) → AllByRecursion IsStored ps → IsStored p
@@ -109,45 +103,46 @@ stored_push : (ps : List (List ℕ × ℤ)) (p : List ℕ × ℤ) → AllByRecur
 stored_push [] p h k = (k, tt)
 stored_push (q ∷ ps) p h k = (h.0, stored_push ps p h.1 k)
 
-done_insert : (s : Seen) (x : Id) → FitsSeen s → FitsNumbers x → (y : Id)
+done_insert : (s : Progress) (x : Id) → FitsState s → FitsNumbers x → (y : Id)
     → Contains (insert_key id_cmp s.done x) y → FitsNumbers y
 done_insert s x h k y c =
     elim (Contains-insert_cases s.done x y c)
     [ inl same ↦ subst FitsNumbers same k | inr before ↦ h.done y before ]
 
-after_with_fits : (c : Option Counts) (s : Seen) (l : BaseLine) → FitsSeen s → FitsLine l
-    → IfSome (after_with c s l) FitsSeen
+after_with_fits : (c : Option Counts) (s : Progress) (l : BaseLine) → FitsState s → FitsLine l
+    → IfSome (after_with c s l) FitsState
 after_with_fits None s (Header c) h k = record { done = h.done; stored = h.stored }
 after_with_fits (Some c) s (Done x) h k =
-    IfSome-branch FitsSeen _ (Some (record s { done = insert_key id_cmp s.done x })) None
+    IfSome-branch FitsState _ (Some (record s { done = insert_key id_cmp s.done x })) None
     (record { done = done_insert s x h k; stored = h.stored }) tt
 after_with_fits (Some c) s (Reply x) h k =
-    IfSome-branch FitsSeen _
+    IfSome-branch FitsState _
     (Some (record s { done = insert_key id_cmp s.done x; replies = s.replies + 1 })) None
     (record { done = done_insert s x h k; stored = h.stored }) tt
 after_with_fits (Some c) s (Waiting x) h k =
-    IfSome-branch FitsSeen _ (Some (record s { waiting = s.waiting ++ x ∷ [] })) None
+    IfSome-branch FitsState _ (Some (record s { waiting = s.waiting ++ x ∷ [] })) None
     (record { done = h.done; stored = h.stored }) tt
 after_with_fits (Some c) s (Store key v) h k =
-    IfSome-branch FitsSeen _ (Some (record s { stored = s.stored ++ (key, v) ∷ [] })) None
+    IfSome-branch FitsState _ (Some (record s { stored = s.stored ++ (key, v) ∷ [] })) None
     (record { done = h.done; stored = stored_push s.stored (key, v) h.stored k }) tt
 after_with_fits c s l h k = tt
 
-after_fits : (s : Seen) (l : BaseLine) → FitsSeen s → FitsLine l → IfSome (after s l) FitsSeen
+after_fits : (s : Progress) (l : BaseLine) → FitsState s → FitsLine l → IfSome (after s l) FitsState
 unfolding after
 after_fits s l h k = after_with_fits s.counts s l h k
 
-or_bad_fits : (n : ℕ) (o : Option Seen) (more : Seen → Result Seen ℕ) → IfSome o FitsSeen
-    → ((s : Seen) → FitsSeen s → IfOk (more s) FitsSeen) → IfOk (or_line_number n o more) FitsSeen
+or_bad_fits : (n : ℕ) (o : Option Progress) (more : Progress → Result Progress ℕ)
+    → IfSome o FitsState → ((s : Progress) → FitsState s → IfOk (more s) FitsState)
+    → IfOk (or_line_number n o more) FitsState
 or_bad_fits n None more h rest = tt
 or_bad_fits n (Some s) more h rest = rest s h
 
-reading_fits : (s : Seen) (n : ℕ) (ls : List (List ℕ)) → FitsSeen s
-    → IfOk (reading s n ls) FitsSeen
-reading_fits s n [] h = search (rules, by_branch (λ (r : Result Seen ℕ). IfOk r FitsSeen), h)
+reading_fits : (s : Progress) (n : ℕ) (ls : List (List ℕ)) → FitsState s
+    → IfOk (reading s n ls) FitsState
+reading_fits s n [] h = search (rules, by_branch (λ (r : Result Progress ℕ). IfOk r FitsState), h)
 reading_fits s n (l ∷ ls) h =
     or_bad_fits n (after_line s l) (λ t. reading t (n + 1) ls)
-    (IfSome-and_then FitsLine FitsSeen (after s) (base_line_of l) (base_line_of_fits l)
+    (IfSome-and_then FitsLine FitsState (after s) (base_line_of l) (base_line_of_fits l)
     (λ said fits. after_fits s said h fits))
     (λ t fits. reading_fits t (n + 1) ls fits)
 
@@ -194,8 +189,8 @@ pub base_fits : (bytes : List ℕ) (done : List Id) (stored : Contents) → IsBa
     → FitsBase done stored
 base_fits bytes done stored is =
     let h = reading_of_base bytes done stored is in
-    let seen : FitsSeen h.seen =
-    subst (λ (r : Result Seen ℕ). IfOk r FitsSeen) h.read
+    let seen : FitsState h.seen =
+    subst (λ (r : Result Progress ℕ). IfOk r FitsState) h.read
     (reading_fits nothing_seen 1 (lines_of bytes) nothing_fits) in
     let all = put_pairs_fit h.seen.stored contents.empty seen.stored empty_fits in
     record {

@@ -6,7 +6,7 @@ use Rattle.std.proofs.lemmas.List.{take-map}
 use Rattle.epx_report.specs.declared.form.BaseLine.{BaseLine}
 use Rattle.epx_report.specs.Bases.{Say}
 use Rattle.epx_report.specs.Forms.{base_line_of}
-use Rattle.epx_report.specs.inner.Seen.{Seen, after, is_complete}
+use Rattle.epx_report.specs.inner.Progress.{Progress, after, is_complete}
 use Rattle.epx_report.specs.inner.BaseReadings.{after_line, after_all, or_line_number, reading}
 use Rattle.epx_report.proofs.SaidLineLemmas.{first_some, same_somes}
 
@@ -33,19 +33,20 @@ say_one ls said other p q = same_somes said other (sym p ∙ q)
 
 -- ---- reading all lines
 
-goes : (s : Seen) (l : BaseLine) (ls : List BaseLine) (t : Seen) → after_all s (l ∷ ls) ≡ Some t
-    → (u : Seen) × (after s l ≡ Some u) × (after_all u ls ≡ Some t)
+goes : (s : Progress) (l : BaseLine) (ls : List BaseLine) (t : Progress)
+    → after_all s (l ∷ ls) ≡ Some t
+    → (u : Progress) × (after s l ≡ Some u) × (after_all u ls ≡ Some t)
 goes s l ls t e = next (after s l) refl
   where
-    next : (o : Option Seen) → after s l ≡ o
-        → (u : Seen) × (after s l ≡ Some u) × (after_all u ls ≡ Some t)
+    next : (o : Option Progress) → after s l ≡ o
+        → (u : Progress) × (after s l ≡ Some u) × (after_all u ls ≡ Some t)
     next None none = let stopped : after_all s (l ∷ ls) ≡ None = rw none refl in
         absurd (cc (stopped, e))
     next (Some u) some = (u, some, rw some at e)
 
 -- the first of allowed lines are allowed
-pub goes_first : (s : Seen) (ls more : List BaseLine) (t : Seen) → after_all s (ls ++ more) ≡ Some t
-    → (u : Seen) × (after_all s ls ≡ Some u)
+pub goes_first : (s : Progress) (ls more : List BaseLine) (t : Progress)
+    → after_all s (ls ++ more) ≡ Some t → (u : Progress) × (after_all s ls ≡ Some u)
 goes_first s [] more t e = (s, refl)
 goes_first s (l ∷ ls) more t e =
     let step = goes s l (ls ++ more) t e in
@@ -53,36 +54,36 @@ goes_first s (l ∷ ls) more t e =
     (rest.0, rw step.1 rest.1)
 
 -- the lines are allowed from s on
-pub record AreAllowed (s : Seen) (ls : List (List ℕ)) : Type 0 where
+pub record AreAllowed (s : Progress) (ls : List (List ℕ)) : Type 0 where
   pub said : List BaseLine
-  pub end : Seen
+  pub end : Progress
   pub are_said : Say ls said
   pub reached : after_all s said ≡ Some end
 
 -- the lines are allowed, but some are missing
-pub record AreTooFew (s : Seen) (ls : List (List ℕ)) : Type 0 where
+pub record AreTooFew (s : Progress) (ls : List (List ℕ)) : Type 0 where
   pub said : List BaseLine
-  pub end : Seen
+  pub end : Progress
   pub are_said : Say ls said
   pub reached : after_all s said ≡ Some end
   pub few : is_complete end ≡ false
 
 -- the lines are all lines of a base
-pub record AreAll (s : Seen) (ls : List (List ℕ)) (end : Seen) : Type 0 where
+pub record AreAll (s : Progress) (ls : List (List ℕ)) (end : Progress) : Type 0 where
   pub said : List BaseLine
   pub are_said : Say ls said
   pub reached : after_all s said ≡ Some end
   pub complete : is_complete end ≡ true
 
 -- what reading says of the lines: the first one has the number n
-abbrev pub Reads : Seen → ℕ → List (List ℕ) → Result Seen ℕ → Type 0
+abbrev pub Reads : Progress → ℕ → List (List ℕ) → Result Progress ℕ → Type 0
 Reads s n ls (Ok end) = AreAll s ls end
 Reads s n ls (Err line) =
     (k : ℕ) × (line ≡ n + k)
     × ((AreAllowed s (take k ls) × (¬ AreAllowed s (take (suc k) ls)))
     ⊎ ((k ≡ length ls) × AreTooFew s ls))
 
-allowed_more : (s t : Seen) (l : List ℕ) (ls : List (List ℕ)) (x : BaseLine)
+allowed_more : (s t : Progress) (l : List ℕ) (ls : List (List ℕ)) (x : BaseLine)
     → base_line_of l ≡ Some x → after s x ≡ Some t → AreAllowed t ls → AreAllowed s (l ∷ ls)
 allowed_more s t l ls x e f h = record {
   said = x ∷ h.said;
@@ -91,7 +92,7 @@ allowed_more s t l ls x e f h = record {
   reached = rw f h.reached;
 }
 
-allowed_less : (s t : Seen) (l : List ℕ) (ls : List (List ℕ)) (x : BaseLine)
+allowed_less : (s t : Progress) (l : List ℕ) (ls : List (List ℕ)) (x : BaseLine)
     → base_line_of l ≡ Some x → after s x ≡ Some t → AreAllowed s (l ∷ ls) → AreAllowed t ls
 allowed_less s t l ls x e f h =
     let less = say_less l ls h.said h.are_said in
@@ -106,8 +107,8 @@ allowed_less s t l ls x e f h =
       reached = subst (λ u. after_all u less.1 ≡ Some h.end) next step.2;
     }
 
-reads_more : (s t : Seen) (n : ℕ) (l : List ℕ) (ls : List (List ℕ)) (x : BaseLine)
-    (r : Result Seen ℕ) → base_line_of l ≡ Some x → after s x ≡ Some t → Reads t (n + 1) ls r
+reads_more : (s t : Progress) (n : ℕ) (l : List ℕ) (ls : List (List ℕ)) (x : BaseLine)
+    (r : Result Progress ℕ) → base_line_of l ≡ Some x → after s x ≡ Some t → Reads t (n + 1) ls r
     → Reads s n (l ∷ ls) r
 reads_more s t n l ls x (Ok end) e f h = record {
   said = x ∷ h.said;
@@ -137,16 +138,16 @@ reads_more s t n l ls x (Err line) e f h = (
 )
 
 -- a line that is not allowed
-stops : (s : Seen) (l : List ℕ) → after_line s l ≡ None → ¬ AreAllowed s (l ∷ [])
+stops : (s : Progress) (l : List ℕ) → after_line s l ≡ None → ¬ AreAllowed s (l ∷ [])
 stops s l stopped h =
     let less = say_less l [] h.said h.are_said in
     let step = goes s less.0 less.1 h.end (ap (after_all s) (sym less.4) ∙ h.reached) in
     let on : after_line s l ≡ after s less.0 = rw less.2 refl in
     cc (sym stopped ∙ on ∙ step.1)
 
-reads_on : (s : Seen) (n : ℕ) (l : List ℕ) (ls : List (List ℕ)) (said : Option BaseLine)
-    (next : Option Seen) → base_line_of l ≡ said → after_line s l ≡ next
-    → ((t : Seen) → Reads t (n + 1) ls (reading t (n + 1) ls))
+reads_on : (s : Progress) (n : ℕ) (l : List ℕ) (ls : List (List ℕ)) (said : Option BaseLine)
+    (next : Option Progress) → base_line_of l ≡ said → after_line s l ≡ next
+    → ((t : Progress) → Reads t (n + 1) ls (reading t (n + 1) ls))
     → Reads s n (l ∷ ls) (reading s n (l ∷ ls))
 reads_on s n l ls None (Some t) e f rest =
     let none : after_line s l ≡ None = rw e refl in absurd (cc (none, f))
@@ -166,13 +167,13 @@ reads_on s n l ls said None e f rest =
       inl (record { said = []; end = s; are_said = refl; reached = refl }, stops s l f),
     )
 
-pub reading-complete : (s : Seen) (n : ℕ) → is_complete s ≡ true → reading s n [] ≡ Ok s
+pub reading-complete : (s : Progress) (n : ℕ) → is_complete s ≡ true → reading s n [] ≡ Ok s
 reading-complete s n e = rw e refl
 
-pub reading-early : (s : Seen) (n : ℕ) → is_complete s ≡ false → reading s n [] ≡ Err n
+pub reading-early : (s : Progress) (n : ℕ) → is_complete s ≡ false → reading s n [] ≡ Err n
 reading-early s n e = rw e refl
 
-reads_end : (s : Seen) (n : ℕ) (b : Bool) → is_complete s ≡ b → Reads s n [] (reading s n [])
+reads_end : (s : Progress) (n : ℕ) (b : Bool) → is_complete s ≡ b → Reads s n [] (reading s n [])
 reads_end s n true e = subst (Reads s n []) (sym (reading-complete s n e))
     (record { said = []; are_said = refl; reached = refl; complete = e })
 reads_end s n false e = subst (Reads s n []) (sym (reading-early s n e)) (
@@ -181,13 +182,13 @@ reads_end s n false e = subst (Reads s n []) (sym (reading-early s n e)) (
   inr (refl, record { said = []; end = s; are_said = refl; reached = refl; few = e }),
 )
 
-pub reads_all : (s : Seen) (n : ℕ) (ls : List (List ℕ)) → Reads s n ls (reading s n ls)
+pub reads_all : (s : Progress) (n : ℕ) (ls : List (List ℕ)) → Reads s n ls (reading s n ls)
 reads_all s n [] = reads_end s n (is_complete s) refl
 reads_all s n (l ∷ ls) = reads_on s n l ls (base_line_of l) (after_line s l) refl refl
     (λ t. reads_all t (n + 1) ls)
 
 -- all lines of a base are read
-pub reading-all : (s : Seen) (n : ℕ) (ls : List (List ℕ)) (said : List BaseLine) (t : Seen)
+pub reading-all : (s : Progress) (n : ℕ) (ls : List (List ℕ)) (said : List BaseLine) (t : Progress)
     → Say ls said → after_all s said ≡ Some t → is_complete t ≡ true → reading s n ls ≡ Ok t
 reading-all s n [] [] t e h complete =
     let same : s ≡ t = cc h in

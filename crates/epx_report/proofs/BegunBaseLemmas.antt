@@ -2,31 +2,20 @@
 use Rattle.std.proofs.Common.{◌≡◌, ◌≢◌, ◌⊎◌, inl, inr, ℕ, ◌+◌, ◌<◌, ◌≤◌, ◌==◌, ◌&&◌, nat_lt, not}
 use Rattle.std.proofs.Common.{Bool, true, false, T, ℤ, List, [], ◌∷◌, ◌++◌, length, Contains}
 use Rattle.std.proofs.Common.{AllPairs, Option, Some, None, option_map, refl, sym, ap, ◌∙◌, subst}
-use Rattle.std.proofs.Common.{arith, append-nil, append_assoc, is_lt}
-use Rattle.std.specs.Prelude.{if◌then◌else◌}
-use Rattle.std.proofs.lemmas.Bool.Decides.{nat_tests}
-use Rattle.std.proofs.lemmas.List.{nil_from_length, length_push}
-use Rattle.std.proofs.lemmas.List.Elements.{Contains-append_left, Contains-push_cases}
-use Rattle.std.proofs.lemmas.List.Elements.{Contains-push}
-use Rattle.std.specs.BTreeSet.{insert_key}
-use Rattle.std.specs.FinMap.{is_sorted}
-use Rattle.std.specs.FinMap.Entries.{below_all}
-use Rattle.epx_types.specs.declared.id.Id.{Id}
-use Rattle.epx_types.specs.Ids.{id_cmp}
-use Rattle.epx_types.specs.Keys.{key_cmp}
-use Rattle.epx_types.specs.Done.{is_among}
-use Rattle.epx_types.proofs.keys.SortedEntryLemmas.{first_of, second_of, less_from_is_lt}
-use Rattle.epx_types.proofs.lists.MembershipLemmas.{Contains-nil, Contains-cons_cases}
-use Rattle.epx_types.proofs.lists.ListPositionLemmas.{AllPairs-append, AllPairs-from_parts}
-use Rattle.epx_types.proofs.lists.RisingIdLemmas.{same_ids, IsRising-push}
-use Rattle.epx_types.proofs.remaining.RemainingLemmas.{is_among_cases}
+use Rattle.std.proofs.Common.{arith, append-nil, append_assoc, is_lt, if◌then◌else◌}
+use Rattle.epx_types.proofs.Common.{nat_tests, nil_from_length, length_push, Contains-append_left}
+use Rattle.epx_types.proofs.Common.{Contains-push_cases, Contains-push, insert_key, is_sorted}
+use Rattle.epx_types.proofs.Common.{below_all, Id, id_cmp, key_cmp, is_among, first_of, second_of}
+use Rattle.epx_types.proofs.Common.{less_from_is_lt, Contains-nil, Contains-cons_cases}
+use Rattle.epx_types.proofs.Common.{AllPairs-append, AllPairs-from_parts, same_ids, IsRising-push}
+use Rattle.epx_types.proofs.Common.{is_among_cases}
 use Rattle.epx_lines.proofs.EntryLemmas.{IsRising-insert}
 use Rattle.epx_store.proofs.RisingEntryLemmas.{both_of, below_all_trans}
 use Rattle.epx_report.specs.declared.form.Counts.{Counts}
 use Rattle.epx_report.specs.declared.form.BaseLine.{BaseLine}
 use Rattle.epx_report.specs.declared.form.BaseLine.TheVariants as line
 use Rattle.epx_report.specs.Bases.{BaseParts, lines_in_order, AreDistinctIds, AreDoneIn}
-use Rattle.epx_report.specs.inner.Seen.{Seen, nothing_seen, after, last, is_after_last}
+use Rattle.epx_report.specs.inner.Progress.{Progress, nothing_seen, after, last, is_after_last}
 use Rattle.epx_report.specs.inner.BaseReadings.{after_all}
 use Rattle.epx_report.proofs.IdSetLemmas.{above_each}
 use Rattle.epx_report.proofs.LineOrderLemmas.{done_more, replies_more, waiting_more, stored_more}
@@ -101,11 +90,11 @@ pub record IsBegun (p : BaseParts) : Type 0 where
   pub stored_later : (p.stored ≡ [])
       ⊎ ((length p.replied ≡ p.counts.executed) × (length p.waiting ≡ p.counts.waiting))
 
-abbrev pub state_of : BaseParts → List Id → Seen
+abbrev pub state_of : BaseParts → List Id → Progress
 state_of p done = state p.counts done (length p.replied) p.waiting p.stored
 
 -- the state is that after the lines, which are the first lines of a base
-pub record IsAfter (s : Seen) (ls : List BaseLine) : Type 0 where
+pub record IsAfter (s : Progress) (ls : List BaseLine) : Type 0 where
   pub parts : BaseParts
   pub done : List Id
   pub begun : IsBegun parts
@@ -312,7 +301,7 @@ module _ (p : BaseParts) (done : List Id) (h : IsBegun p)
 
   -- ---- any line that is allowed
 
-  after_line : (l : BaseLine) (t : Seen) → after (state_of p done) l ≡ Some t
+  after_line : (l : BaseLine) (t : Progress) → after (state_of p done) l ≡ Some t
       → IsAfter t (lines_in_order p ++ l ∷ [])
   unfolding after
   after_line (line.Header d) t e = absurd (cc e)
@@ -351,7 +340,7 @@ module _ (p : BaseParts) (done : List Id) (h : IsBegun p)
 -- ---- all lines
 
 -- the state after any lines
-abbrev pub IsReached : Seen → List BaseLine → Type 0
+abbrev pub IsReached : Progress → List BaseLine → Type 0
 IsReached s ls = ((s ≡ nothing_seen) × (ls ≡ [])) ⊎ IsAfter s ls
 
 -- the header alone
@@ -374,7 +363,7 @@ begun_header c = record {
   stored_later = inl refl;
 }
 
-after_header : (l : BaseLine) (t : Seen) → after nothing_seen l ≡ Some t → IsAfter t (l ∷ [])
+after_header : (l : BaseLine) (t : Progress) → after nothing_seen l ≡ Some t → IsAfter t (l ∷ [])
 unfolding after
 after_header (line.Header c) t e = record {
   parts = header_parts c;
@@ -392,8 +381,8 @@ after_header (line.Reply x) t e = absurd (cc e)
 after_header (line.Waiting x) t e = absurd (cc e)
 after_header (line.Store k v) t e = absurd (cc e)
 
-reached_on : (s : Seen) (before : List BaseLine) (l : BaseLine) (t : Seen) → IsReached s before
-    → after s l ≡ Some t → IsAfter t (before ++ l ∷ [])
+reached_on : (s : Progress) (before : List BaseLine) (l : BaseLine) (t : Progress)
+    → IsReached s before → after s l ≡ Some t → IsAfter t (before ++ l ∷ [])
 reached_on s before l t (inl none) e =
     subst (λ ls. IsAfter t (ls ++ l ∷ [])) (sym none.1)
     (after_header l t (ap (λ u. after u l) (sym none.0) ∙ e))
@@ -401,7 +390,7 @@ reached_on s before l t (inr h) e =
     subst (λ ls. IsAfter t (ls ++ l ∷ [])) h.lines_are
     (after_line h.parts h.done h.begun h.are_done l t (ap (λ u. after u l) h.state_is ∙ e))
 
-pub reached_all : (s : Seen) (before ls : List BaseLine) (t : Seen) → IsReached s before
+pub reached_all : (s : Progress) (before ls : List BaseLine) (t : Progress) → IsReached s before
     → after_all s ls ≡ Some t → IsReached t (before ++ ls)
 reached_all s before [] t h e =
     let same : s ≡ t = cc e in
@@ -410,8 +399,8 @@ reached_all s before [] t h e =
 reached_all s before (l ∷ ls) t h e =
     next (after s l) refl (λ u. reached_all u (before ++ l ∷ []) ls t)
   where
-    next : (o : Option Seen) → after s l ≡ o
-        → ((u : Seen) → IsReached u (before ++ l ∷ []) → after_all u ls ≡ Some t
+    next : (o : Option Progress) → after s l ≡ o
+        → ((u : Progress) → IsReached u (before ++ l ∷ []) → after_all u ls ≡ Some t
         → IsReached t ((before ++ l ∷ []) ++ ls))
         → IsReached t (before ++ l ∷ ls)
     next None none rest = let stopped : after_all s (l ∷ ls) ≡ None = rw none refl in

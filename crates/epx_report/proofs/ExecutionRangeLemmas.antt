@@ -1,18 +1,12 @@
 -- The replies of executed commands, and the contents that they leave, are within their limits.
 use Rattle.std.proofs.Common.{◌≡◌, ℕ, suc, ◌+◌, ◌<◌, ◌≤◌, true, ℤ, pos, negsuc, w64, List, [], ◌∷◌}
-use Rattle.std.proofs.Common.{◌++◌, length, Option, Some, None, refl, arith}
-use Rattle.std.specs.Prelude.{FitsSigned, IfSome, ◌+ℤ◌, int_lt}
-use Rattle.std.specs.List.{AllByRecursion}
+use Rattle.std.proofs.Common.{◌++◌, length, Option, Some, None, refl, arith, FitsSigned, IfSome}
+use Rattle.std.proofs.Common.{◌+ℤ◌, int_lt}
+use Rattle.epx_types.proofs.Common.{AllByRecursion, nat_tests, length-append, All-from_recursion}
+use Rattle.epx_types.proofs.Common.{Op, Get, Put, Del, Add, Is, Floor, Copy, Contents, amount_at}
+use Rattle.epx_types.proofs.Common.{fits_i64, same_value, operate, Outcome, unless_aborted}
+use Rattle.epx_types.proofs.Common.{operate_all, command_on, execute, Execution}
 use Rattle.std.specs.FinMap as contents
-use Rattle.std.proofs.lemmas.Bool.Decides.{nat_tests}
-use Rattle.std.proofs.lemmas.List.{length-append}
-use Rattle.std.proofs.lemmas.List.Elements.{All-from_recursion}
-use Rattle.epx_types.specs.declared.op.Op.{Op}
-use Rattle.epx_types.specs.declared.op.Op.TheVariants.{Get, Put, Del, Add, Is, Floor, Copy}
-use Rattle.epx_types.specs.Contents.{Contents, amount_at}
-use Rattle.epx_types.specs.Operations.{fits_i64, same_value, operate}
-use Rattle.epx_types.specs.Commands.{Outcome, unless_aborted, operate_all, command_on}
-use Rattle.epx_types.specs.Execution.{execute, Execution}
 use Rattle.epx_report.specs.ReportReadings.{FitsOptional, FitsReply}
 use Rattle.epx_report.proofs.JsonStringLemmas.{IfSome-test, IfSome-branch}
 use Rattle.epx_report.proofs.LineRangeLemmas.{FitsOp, FitsCommand}

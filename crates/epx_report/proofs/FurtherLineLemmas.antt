@@ -2,18 +2,13 @@
 use Rattle.std.proofs.Common.{◌≡◌, ◌≢◌, ◌⊎◌, inl, inr, ℕ, zero, suc, ◌+◌, ◌-◌, ◌<◌, ◌≤◌, List, []}
 use Rattle.std.proofs.Common.{◌∷◌, ◌++◌, length, map, Contains, AllPairs, is_lt, Less, refl, sym}
 use Rattle.std.proofs.Common.{ap, ◌∙◌, subst, arith, append-nil, append_assoc, length-append}
-use Rattle.std.proofs.lemmas.List.Elements.{Contains-append_cases}
-use Rattle.std.specs.Ordering.{nat_cmp, ordering_then}
-use Rattle.std.specs.Cmp.{nat_cmp_is, nat_cmp_total, tied_itself}
-use Rattle.epx_types.specs.declared.id.Id.{Id}
-use Rattle.epx_types.specs.Ids.{Below, IsRising}
-use Rattle.epx_types.proofs.lists.MembershipLemmas.{Contains-nil, Contains-cons_cases}
-use Rattle.epx_types.proofs.lists.ListPositionLemmas.{AllPairs-append, AllPairs-from_parts}
-use Rattle.epx_types.proofs.lists.ListPositionLemmas.{AllPairs-head, AllPairs-tail}
-use Rattle.epx_types.proofs.lists.ComparisonLemmas.{id_cmp_total}
-use Rattle.epx_types.proofs.lists.TotalOrderLemmas.{below_irrefl}
-use Rattle.epx_types.proofs.lists.RisingIdLemmas.{AllPairs-from_IsRising, BelowAll-from_each}
-use Rattle.epx_types.proofs.lists.RisingIdLemmas.{IsRising-from_AllPairs}
+use Rattle.epx_types.proofs.Common.{Contains-append_cases, nat_cmp, ordering_then, nat_cmp_is}
+use Rattle.epx_types.proofs.Common.{nat_cmp_total, Id, Below, IsRising, Contains-nil}
+use Rattle.epx_types.proofs.Common.{Contains-cons_cases, AllPairs-append, AllPairs-from_parts}
+use Rattle.epx_types.proofs.Common.{AllPairs-head, AllPairs-tail, id_cmp_total, below_irrefl}
+use Rattle.epx_types.proofs.Common.{AllPairs-from_IsRising, BelowAll-from_each}
+use Rattle.epx_types.proofs.Common.{IsRising-from_AllPairs}
+use Rattle.std.specs.Cmp.{tied_itself}
 use Rattle.epx_report.specs.declared.form.BaseLine.{BaseLine}
 use Rattle.epx_report.specs.declared.form.BaseLine.TheVariants as line
 use Rattle.epx_report.specs.Bases.{BaseParts, lines_in_order, AreBaseParts}

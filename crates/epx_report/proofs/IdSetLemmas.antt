@@ -1,38 +1,25 @@
 -- The rising and the late Ids of a set.
-use Rattle.std.proofs.Common.{◌≡◌, ◌⊎◌, inl, inr, ℕ, true, false, cond, nat_lt, not}
-use Rattle.std.proofs.Common.{◌==◌, ◌&&◌, Bool, Ordering, Less, Equal, Greater, is_lt, List, []}
-use Rattle.std.proofs.Common.{◌∷◌, ◌++◌, Contains, Some, refl, sym, ap, ap₂, ◌∙◌}
-use Rattle.std.proofs.Common.{Option, None, MatchOption, is_some, slice_get}
-use Rattle.std.proofs.Common.{subst, arith}
-use Rattle.std.specs.BTreeSet.{insert_key}
+use Rattle.std.proofs.Common.{◌≡◌, ◌⊎◌, inl, inr, ℕ, true, false, cond, nat_lt, not, ◌==◌, ◌&&◌}
+use Rattle.std.proofs.Common.{Bool, Ordering, Less, Equal, Greater, is_lt, List, [], ◌∷◌, ◌++◌}
+use Rattle.std.proofs.Common.{Contains, Some, refl, sym, ap, ap₂, ◌∙◌, Option, None, MatchOption}
+use Rattle.std.proofs.Common.{is_some, slice_get, subst, arith}
+use Rattle.epx_types.proofs.Common.{insert_key, IsSorted, IsPermutation, is_eq, nat_cmp}
+use Rattle.epx_types.proofs.Common.{ordering_then, eq_by_cmp, IsEquivalence, cases_Bool, nat_tests}
+use Rattle.epx_types.proofs.Common.{Contains-append_left, Contains-append_right}
+use Rattle.epx_types.proofs.Common.{Contains-append_cases, Contains-push, Contains-push_cases}
+use Rattle.epx_types.proofs.Common.{Contains-permutation, IsPermutation-sym, slice_get_within}
+use Rattle.epx_types.proofs.Common.{get_or_from_slice_get, Id, id_cmp, Below, IsRising, is_among}
+use Rattle.epx_types.proofs.Common.{Contains-nil, Contains-head, Contains-cons, Contains-cons_cases}
+use Rattle.epx_types.proofs.Common.{id_cmp_total, id_cmp-IsAntisymmetric, below_irrefl, below_trans}
+use Rattle.epx_types.proofs.Common.{same_ids, IsRising-push, rising_from_strict, is_among_cases}
 use Rattle.std.specs.List.{dedup}
 use Rattle.std.specs.List.Retain.{IsFiltered, DiffersFromLast}
-use Rattle.std.specs.List.Sorted.{IsSorted, IsPermutation}
-use Rattle.std.specs.Ordering.{is_eq, nat_cmp, ordering_then, eq_by_cmp}
-use Rattle.std.specs.Cmp.{eq_by_cmp_equiv, IsEquivalence}
-use Rattle.std.proofs.lemmas.Bool.{cases_Bool}
-use Rattle.std.proofs.lemmas.Bool.Decides.{nat_tests}
-use Rattle.std.proofs.lemmas.List.Elements.{Contains-append_left, Contains-append_right}
-use Rattle.std.proofs.lemmas.List.Elements.{Contains-append_cases, Contains-push}
-use Rattle.std.proofs.lemmas.List.Elements.{Contains-push_cases}
+use Rattle.std.specs.Cmp.{eq_by_cmp_equiv}
 use Rattle.std.proofs.lemmas.List.Filters.{dedup_is}
 use Rattle.std.proofs.lemmas.List.Kept.{Contains-dedup, Contains-from_dedup}
 use Rattle.std.proofs.lemmas.List.Kept.{IsStrictlySortedBy-dedup}
-use Rattle.std.proofs.lemmas.List.Sorted.{Contains-permutation}
-use Rattle.std.proofs.lemmas.List.Sorted.{IsPermutation-sym}
-use Rattle.std.proofs.lemmas.Option.{slice_get_within, get_or_from_slice_get}
-use Rattle.epx_types.specs.declared.id.Id.{Id}
-use Rattle.epx_types.specs.Ids.{id_cmp, Below, IsRising}
-use Rattle.epx_types.specs.Done.{is_among}
-use Rattle.epx_types.proofs.lists.MembershipLemmas.{Contains-nil, Contains-head, Contains-cons}
-use Rattle.epx_types.proofs.lists.MembershipLemmas.{Contains-cons_cases}
-use Rattle.epx_types.proofs.lists.ComparisonLemmas.{id_cmp_total, id_cmp-IsAntisymmetric}
-use Rattle.epx_types.proofs.lists.TotalOrderLemmas.{below_irrefl, below_trans}
-use Rattle.epx_types.proofs.lists.RisingIdLemmas.{same_ids, IsRising-push}
-use Rattle.epx_types.proofs.lists.IdListLemmas.{rising_from_strict}
-use Rattle.epx_types.proofs.remaining.RemainingLemmas.{is_among_cases}
 use Rattle.epx_lines.proofs.EntryLemmas.{IsRising-insert, IsRising-fold}
-use Rattle.epx_report.specs.inner.Seen.{last, is_after_last}
+use Rattle.epx_report.specs.inner.Progress.{last, is_after_last}
 use Rattle.epx_report.specs.inner.IdSets.{with_late, AreRisingAndLate}
 use Rattle.epx_report.proofs.RisingListLemmas.{Contains-insert_itself, Contains-insert_other}
 use Rattle.epx_report.proofs.RisingListLemmas.{Contains-insert_cases, last-cons}

@@ -1,18 +1,13 @@
 -- Every string among the tokens of a UTF-8 JSON text is UTF-8.
 use Rattle.std.proofs.Common.{◌≡◌, ℕ, ◌+◌, ◌*◌, ◌<◌, Bool, true, false, ◌&&◌, ◌||◌, ◌==◌, nat_lt}
-use Rattle.std.proofs.Common.{cond, List, [], ◌∷◌, ◌++◌, length, get_or, Option, Some, None}
-use Rattle.std.proofs.Common.{IsUtf8, option_map, option_and_then, Ordering, Less, Equal, Greater}
-use Rattle.std.proofs.Common.{refl, sym, subst, arith, rules, append-nil, append_assoc, ltb-true}
-use Rattle.std.specs.Prelude.{IfSome, ⊤}
-use Rattle.std.specs.List.{AllByRecursion}
-use Rattle.std.specs.Ordering.{match_ordering}
+use Rattle.std.proofs.Common.{cond, List, [], ◌∷◌, ◌++◌, length, get_or, Option, Some, None, IsUtf8}
+use Rattle.std.proofs.Common.{option_map, option_and_then, Ordering, Less, Equal, Greater, refl}
+use Rattle.std.proofs.Common.{sym, subst, arith, rules, append-nil, append_assoc, ltb-true, IfSome}
+use Rattle.epx_types.proofs.Common.{⊤, AllByRecursion, match_ordering, get_or-append_seam}
+use Rattle.epx_types.proofs.Common.{drop-append-add, take-append_seam, eqb-true, and_parts}
+use Rattle.epx_types.proofs.Common.{nat_tests, length-append, IfSome_then}
 use Rattle.std.specs.Char.{is_digit, encode_utf8}
-use Rattle.std.proofs.Math.Seq.{get_or-append_seam, drop-append-add, take-append_seam}
 use Rattle.std.proofs.Math.Utf8.{scalar, low_scalar}
-use Rattle.std.proofs.lemmas.Bool.{eqb-true, and_parts}
-use Rattle.std.proofs.lemmas.Bool.Decides.{nat_tests}
-use Rattle.std.proofs.lemmas.List.{length-append}
-use Rattle.std.proofs.lemmas.Option.{IfSome_then}
 use Rattle.std.proofs.lemmas.Str.{IsUtf8-append, IsUtf8-encode, IsUtf8-take, IsUtf8-drop}
 use Rattle.std.proofs.lemmas.Str.{IsCharBoundary-before_ascii, IsCharBoundary-after_ascii}
 use Rattle.std.proofs.lemmas.Str.{encode_ascii}

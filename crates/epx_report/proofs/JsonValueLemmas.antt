@@ -2,12 +2,11 @@
 -- fits 64 bits.
 use Rattle.std.proofs.Common.{ℕ, zero, suc, ◌^◌, ◌≤◌, ◌&&◌, nat_lt, nat_le, Bool, true, false, pos}
 use Rattle.std.proofs.Common.{w64, List, [], ◌∷◌, length, Option, Some, None, IsUtf8, option_map}
-use Rattle.std.proofs.Common.{option_and_then, arith, rules, ltb-true, leb-true}
-use Rattle.std.specs.Prelude.{⊤, FitsSigned, IfSome, neg_ℤ}
+use Rattle.std.proofs.Common.{option_and_then, arith, rules, ltb-true, leb-true, FitsSigned, IfSome}
+use Rattle.std.proofs.Common.{neg_ℤ}
+use Rattle.epx_types.proofs.Common.{⊤, nat_cmp, and_parts}
 use Rattle.std.specs.Float.Numeral.{Parts, numeral_digits}
-use Rattle.std.specs.Ordering.{nat_cmp}
 use Rattle.std.specs.Cmp.Lexicographic.{slice_cmp}
-use Rattle.std.proofs.lemmas.Bool.{and_parts}
 use Rattle.json.specs.Token.{Token}
 use Rattle.json.specs.Lex.{tokens}
 use Rattle.json.specs.Json as json

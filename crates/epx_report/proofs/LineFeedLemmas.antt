@@ -3,10 +3,9 @@
 use Rattle.std.proofs.Common.{◌≡◌, ℕ, zero, suc, ◌+◌, ◌%◌, ◌^◌, ◌<◌, ◌≤◌, Bool, true, false, not}
 use Rattle.std.proofs.Common.{nat_lt, ◌==◌, ◌&&◌, List, [], ◌∷◌, ◌++◌, map, flat_map, All, decimal}
 use Rattle.std.proofs.Common.{refl, ap, ◌∙◌, arith, append_assoc}
-use Rattle.std.proofs.lemmas.Bool.Decides.{nat_tests}
+use Rattle.epx_types.proofs.Common.{nat_tests, list_all}
 use Rattle.std.proofs.lemmas.Fmt.{decimal_by_steps}
 use Rattle.std.proofs.lemmas.List.Folds.{list_all-append}
-use Rattle.std.specs.List.{list_all}
 use Rattle.json.specs.Print.{escape_byte, escape, quoted}
 use Rattle.epx_lines.specs.Lines.{prepend_to_first, lines_of}
 

@@ -1,9 +1,8 @@
 -- Bytes that are cut after line feeds, and what the lines of the pieces say.
-use Rattle.std.proofs.Common.{Bor, ◌≡◌, ℕ, zero, suc, ◌+◌, ◌<◌, Bool, true, false, eqb, List, []}
-use Rattle.std.proofs.Common.{◌∷◌, ◌++◌, length, map, flat_map, take, drop, slice_get, Option, Some}
-use Rattle.std.proofs.Common.{refl, sym, ap, ap₂, ◌∙◌, subst, arith, append_assoc, append-nil}
-use Rattle.std.proofs.lemmas.Grind.{flat_map-append}
-use Rattle.std.proofs.lemmas.List.{map-append, get_or-drop}
+use Rattle.std.proofs.Common.{◌≡◌, ℕ, zero, suc, ◌+◌, ◌<◌, Bool, true, false, eqb, List, []}
+use Rattle.std.proofs.Common.{◌∷◌, ◌++◌, length, flat_map, take, drop, slice_get, Some}
+use Rattle.std.proofs.Common.{refl, sym, ap, ap₂, ◌∙◌, subst, arith}
+use Rattle.epx_types.proofs.Common.{map-append, get_or-drop}
 use Rattle.memchr.specs.Find.{Passes, is_byte}
 use Rattle.epx_lines.specs.Lines.{prepend_to_first, lines_of}
 use Rattle.epx_lines.proofs.FirstLineLemmas.{lines_of-feed, lines_of-go_on}
@@ -72,51 +71,7 @@ lines_of-split bs tail front back size feed n is_tail l here is_n is_front is_ba
 
 -- ---- the loop that cuts
 
-abbrev piece_lines : Bor (List ℕ) → List (List ℕ)
-piece_lines piece = lines_of piece.now
-
--- one more piece is cut
-pub pieces_more : (pieces after : List (Bor (List ℕ))) (piece : Bor (List ℕ))
-    (rest more : List ℕ) (all : List (List ℕ))
-    → lines_of rest ≡ lines_of piece.now ++ lines_of more
-    → flat_map piece_lines pieces ++ lines_of rest ≡ all → after ≡ pieces ++ piece ∷ []
-    → flat_map piece_lines after ++ lines_of more ≡ all
-pieces_more pieces after piece rest more all first so_far pushed =
-    ap (λ ps. flat_map piece_lines ps ++ lines_of more) pushed
-    ∙ ap (λ ls. ls ++ lines_of more) (flat_map-append piece_lines pieces (piece ∷ [])
-    ∙ ap (λ ls. flat_map piece_lines pieces ++ ls) (append-nil (lines_of piece.now)))
-    ∙ append_assoc (flat_map piece_lines pieces) (lines_of piece.now) (lines_of more)
-    ∙ ap (λ ls. flat_map piece_lines pieces ++ ls) (sym first)
-    ∙ so_far
-
--- no bytes are left
-pub pieces_none : (pieces : List (Bor (List ℕ))) (rest : List ℕ) (all : List (List ℕ))
-    → length rest ≡ 0 → flat_map piece_lines pieces ++ lines_of rest ≡ all
-    → flat_map piece_lines pieces ≡ all
-pieces_none pieces [] all none so_far = sym (append-nil (flat_map piece_lines pieces)) ∙ so_far
-pieces_none pieces (b ∷ rest) all none so_far = absurd (omega (arith, none))
-
 -- ---- the loop that reads
-
--- one more line is read
-pub said_more : (said after : List BaseLine) (l : BaseLine) (line rest more : List ℕ)
-    (all : List (Option BaseLine)) → lines_of rest ≡ line ∷ lines_of more
-    → base_line_of line ≡ Some l → map Some said ++ map base_line_of (lines_of rest) ≡ all
-    → after ≡ said ++ l ∷ [] → map Some after ++ map base_line_of (lines_of more) ≡ all
-said_more said after l line rest more all first is so_far pushed =
-    let back = map base_line_of (lines_of more) in
-    let here : map base_line_of (lines_of rest) ≡ Some l ∷ back =
-    ap (map base_line_of) first ∙ ap (λ o. o ∷ back) is in
-    ap (λ ls. map Some ls ++ back) pushed ∙ ap (λ os. os ++ back) (map-append Some said (l ∷ []))
-    ∙ append_assoc (map Some said) (Some l ∷ []) back ∙ ap (λ os. map Some said ++ os) (sym here)
-    ∙ so_far
-
--- no bytes are left
-pub said_none : (said : List BaseLine) (rest : List ℕ) (all : List (Option BaseLine))
-    → length rest ≡ 0 → map Some said ++ map base_line_of (lines_of rest) ≡ all
-    → all ≡ map Some said
-said_none said [] all none so_far = sym so_far ∙ append-nil (map Some said)
-said_none said (b ∷ rest) all none so_far = absurd (omega (arith, none))
 
 -- ---- what the lines of all pieces say
 

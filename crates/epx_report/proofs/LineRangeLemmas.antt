@@ -2,27 +2,17 @@
 use Rattle.std.proofs.Common.{◌≡◌, ℕ, suc, ◌^◌, ◌<◌, ◌≤◌, ◌&&◌, nat_lt, nat_le, w64, List, [], ◌∷◌}
 use Rattle.std.proofs.Common.{length, filter, codes, Contains, Option, Some, None, IsUtf8}
 use Rattle.std.proofs.Common.{option_map, option_and_then, Result, Ok, Err, inl, inr, refl, ap}
-use Rattle.std.proofs.Common.{arith, rules, ltb-true, leb-true}
-use Rattle.std.specs.Prelude.{⊤, FitsSigned, IfSome, is_some}
-use Rattle.std.specs.List.{AllByRecursion}
+use Rattle.std.proofs.Common.{arith, rules, ltb-true, leb-true, FitsSigned, IfSome, is_some}
+use Rattle.epx_types.proofs.Common.{⊤, AllByRecursion, nat_cmp, is_utf8, and_parts, All-contains}
+use Rattle.epx_types.proofs.Common.{All-from_recursion, IfSome_then, Id, Op, Why, NotJson}
+use Rattle.epx_types.proofs.Common.{NotObject, FitsKey, Instance, Contains-nil}
+use Rattle.epx_types.proofs.Common.{Contains-from_filter}
 use Rattle.std.specs.Cmp.Lexicographic.{slice_cmp}
-use Rattle.std.specs.Ordering.{nat_cmp}
-use Rattle.std.specs.Str.{is_utf8}
-use Rattle.std.proofs.lemmas.Bool.{and_parts}
-use Rattle.std.proofs.lemmas.List.Elements.{All-contains, All-from_recursion}
-use Rattle.std.proofs.lemmas.Option.{IfSome_then}
 use Rattle.std.proofs.lemmas.Str.{IsUtf8-from_is_utf8}
 use Rattle.serde_json.specs.Data.{Data, number, string, array, object, Items, no_items, item}
 use Rattle.serde_json.specs.Data.{Members, no_members, member}
 use Rattle.serde_json.specs.Find.{get, get_member, as_str, as_number, as_u64, as_i64, as_object}
-use Rattle.epx_types.specs.declared.id.Id.{Id}
-use Rattle.epx_types.specs.declared.op.Op.{Op}
 use Rattle.epx_types.specs.declared.op.Op.TheVariants as op
-use Rattle.epx_types.specs.declared.fault.Why.{Why}
-use Rattle.epx_types.specs.declared.fault.Why.TheVariants.{NotJson, NotObject}
-use Rattle.epx_types.specs.Keys.{FitsKey}
-use Rattle.epx_types.specs.Instances.{Instance}
-use Rattle.epx_types.proofs.lists.MembershipLemmas.{Contains-nil, Contains-from_filter}
 use Rattle.epx_lines.specs.declared.Line.{Line}
 use Rattle.epx_lines.specs.declared.Line.TheVariants.{Entry}
 use Rattle.epx_lines.specs.Elements.{below, whole, signed, list_of, elements, at_most, every}

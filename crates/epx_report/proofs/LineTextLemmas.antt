@@ -1,8 +1,8 @@
 -- The text of a report's line is the text of its tokens.
-use Rattle.std.proofs.Common.{◌≡◌, ℕ, ℤ, pos, negsuc, List, [], ◌∷◌, ◌++◌, map, codes, Option}
-use Rattle.std.proofs.Common.{Some, None, Result, OnOk, flat_map, append_assoc, append-nil, refl}
-use Rattle.std.proofs.Common.{sym, ap, ◌∙◌}
-use Rattle.std.proofs.lemmas.Result.{on_ok_weaker}
+use Rattle.std.proofs.Common.{◌≡◌, ℕ, ℤ, pos, negsuc, List, [], ◌∷◌, ◌++◌, map, codes, Option, Some}
+use Rattle.std.proofs.Common.{None, Result, OnOk, flat_map, append_assoc, append-nil, refl, sym, ap}
+use Rattle.std.proofs.Common.{◌∙◌}
+use Rattle.epx_types.proofs.Common.{on_ok_weaker, Id, Reply, Values, Abort}
 use Rattle.std.specs.declared.alloc.AllocError.{AllocError}
 use Rattle.json.specs.Token.{Token, begin_array, end_array, string}
 use Rattle.json.specs.Print.{print}
@@ -13,9 +13,6 @@ use Rattle.serde_json.specs.Find.{of_integer}
 use Rattle.serde_json.specs.View.{items_of}
 use Rattle.serde_json.specs.Written.{outline, items_outline}
 use Rattle.serde_json.proofs.Texts.{print-outline}
-use Rattle.epx_types.specs.declared.id.Id.{Id}
-use Rattle.epx_types.specs.declared.reply.Reply.{Reply}
-use Rattle.epx_types.specs.declared.reply.Reply.TheVariants.{Values, Abort}
 use Rattle.epx_lines.specs.Text.{data_of_value}
 use Rattle.epx_report.specs.inner.LineTokens.{id_tokens, value_token, reply_tokens}
 use Rattle.epx_report.specs.ReportLines.{line_feed, array_of, line_of, reply_data, store_data}

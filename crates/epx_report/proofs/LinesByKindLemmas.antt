@@ -4,24 +4,14 @@ use Rattle.std.proofs.Common.{map, Contains, AllPairs, Option, Some, None, refl,
 use Rattle.std.proofs.Common.{subst, append_assoc, append-nil}
 use Rattle.std.specs.Cmp.{eq_by_cmp_equiv}
 use Rattle.std.specs.FinMap as contents
-use Rattle.std.specs.List.{list_any}
-use Rattle.std.specs.List.Sorted.{IsPermutation}
-use Rattle.std.specs.Ordering.{eq_by_cmp}
-use Rattle.std.proofs.lemmas.List.{nil_from_length}
-use Rattle.std.proofs.lemmas.List.Elements.{Contains-append_left, Contains-append_right}
-use Rattle.std.proofs.lemmas.List.Elements.{Contains-append_cases}
-use Rattle.std.proofs.lemmas.List.Sorted.{Contains-permutation, IsPermutation-sym}
-use Rattle.std.proofs.lemmas.Map.Keys.{IsDistinct-IsPermutation}
-use Rattle.std.proofs.lemmas.Map.Made.{AllPairs-from_IsDistinct, IsDistinct-from_AllPairs}
-use Rattle.epx_types.specs.declared.id.Id.{Id}
-use Rattle.epx_types.specs.Contents.{Contents}
-use Rattle.epx_types.specs.Done.{is_among}
-use Rattle.epx_types.specs.Ids.{id_cmp, IsRising}
-use Rattle.epx_types.proofs.lists.ComparisonLemmas.{id_cmp_total, id_cmp-Decides}
-use Rattle.epx_types.proofs.lists.ListPositionLemmas.{AllPairs-head, AllPairs-tail}
-use Rattle.epx_types.proofs.lists.MembershipLemmas.{Contains-nil, Contains-cons_cases}
-use Rattle.epx_types.proofs.lists.RisingIdLemmas.{IsRising-push, rising_once}
-use Rattle.epx_types.proofs.remaining.RemainingLemmas.{is_among_cases}
+use Rattle.epx_types.proofs.Common.{list_any, IsPermutation, eq_by_cmp, nil_from_length}
+use Rattle.epx_types.proofs.Common.{Contains-append_left, Contains-append_right}
+use Rattle.epx_types.proofs.Common.{Contains-append_cases, Contains-permutation, IsPermutation-sym}
+use Rattle.epx_types.proofs.Common.{IsDistinct-IsPermutation, AllPairs-from_IsDistinct}
+use Rattle.epx_types.proofs.Common.{IsDistinct-from_AllPairs, Id, Contents, is_among, id_cmp}
+use Rattle.epx_types.proofs.Common.{IsRising, id_cmp_total, id_cmp-Decides, AllPairs-head}
+use Rattle.epx_types.proofs.Common.{AllPairs-tail, Contains-nil, Contains-cons_cases, IsRising-push}
+use Rattle.epx_types.proofs.Common.{rising_once, is_among_cases}
 use Rattle.epx_lines.specs.Lines.{lines_of}
 use Rattle.epx_report.specs.declared.form.BaseLine.{BaseLine}
 use Rattle.epx_report.specs.declared.form.BaseLine.TheVariants as line
@@ -118,11 +108,6 @@ all_lead p (l ∷ ls) q h e = next (with_next p l) refl (λ u. all_lead u ls q)
               ∙ append_assoc (lines_in_order p) (l ∷ []) ls;
           rise = more.rise;
         }
-
--- the state after one more line that follows
-pub with_all-next : (p q : BaseParts) (l : BaseLine) (ls : List BaseLine) → with_next p l ≡ Some q
-    → with_all p (l ∷ ls) ≡ with_all q ls
-with_all-next p q l ls e = rw e refl
 
 -- ---- the base
 

@@ -1,10 +1,9 @@
 -- What a line says, by the parts that were read after its name.
 use Rattle.std.proofs.Common.{◌≡◌, ℕ, ℤ, ◌^◌, ◌<◌, ◌≤◌, true, nat_le, codes, List, [], ◌∷◌, ◌++◌}
 use Rattle.std.proofs.Common.{Some, None, option_map, is_some, refl, ap, ◌∙◌, arith, lt-ltb}
-use Rattle.std.proofs.lemmas.Bool.Decides.{nat_tests}
-use Rattle.std.specs.Prelude.{if◌then◌else◌}
+use Rattle.std.proofs.Common.{if◌then◌else◌}
+use Rattle.epx_types.proofs.Common.{nat_tests, Id}
 use Rattle.serde_json.specs.Data.{Data, string}
-use Rattle.epx_types.specs.declared.id.Id.{Id}
 use Rattle.epx_lines.specs.Elements.{whole, signed}
 use Rattle.epx_lines.specs.DependencyList.{id_of_pair}
 use Rattle.epx_lines.specs.OperationList.{key_of}

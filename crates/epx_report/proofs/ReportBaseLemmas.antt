@@ -1,9 +1,7 @@
 -- If the lines of a report are in order, the report is a base.
 use Rattle.std.proofs.Common.{sym, subst, T}
-use Rattle.std.proofs.lemmas.List.{length-map}
+use Rattle.epx_types.proofs.Common.{length-map, is_sorted, key_cmp}
 use Rattle.std.specs.FinMap as contents
-use Rattle.std.specs.FinMap.{is_sorted}
-use Rattle.epx_types.specs.Keys.{key_cmp}
 use Rattle.epx_report.specs.ReportReadings.{replied_ids, parts_of_report}
 use Rattle.epx_report.specs.ReportBases.{DoneAfterExists, ReportIsABase}
 use Rattle.epx_report.proofs.ReportReadingLemmas.{report_is_read_as_it_says}

@@ -1,13 +1,11 @@
 -- Each line of a report is a line of a base.
 use Rattle.std.proofs.Common.{◌≡◌, ℕ, suc, ◌+◌, ◌*◌, ◌^◌, ◌<◌, ◌≤◌, ℤ, Bool, true, false, nat_lt}
-use Rattle.std.proofs.Common.{nat_le, is_some, codes, List, [], ◌∷◌, ◌++◌, length, map, All}
-use Rattle.std.proofs.Common.{Option, Some, None, IsUtf8, option_map, decimal, refl, ap, arith}
+use Rattle.std.proofs.Common.{nat_le, is_some, codes, List, [], ◌∷◌, ◌++◌, length, map, All, Option}
+use Rattle.std.proofs.Common.{Some, None, IsUtf8, option_map, decimal, refl, ap, arith}
 use Rattle.std.proofs.Common.{length-append, lit<}
-use Rattle.std.proofs.lemmas.Bool.Decides.{nat_tests}
-use Rattle.std.proofs.lemmas.Fmt.{length-decimal-le}
-use Rattle.std.specs.Int.{w64}
+use Rattle.epx_types.proofs.Common.{nat_tests, length-decimal-le, w64, list_all, Id, Reply, Values}
+use Rattle.epx_types.proofs.Common.{Abort, Waiting, FitsKey}
 use Rattle.std.specs.Int.RustNames.{FitsSigned}
-use Rattle.std.specs.List.{list_all}
 use Rattle.json.specs.Print.{escape_byte, quoted}
 use Rattle.json.proofs.Printed.Utf8.{are_ascii, IsUtf8-are_ascii}
 use Rattle.serde_json.specs.Data.{Data, null, number, string, depth, items_depth}
@@ -15,11 +13,6 @@ use Rattle.serde_json.specs.Find.{of_integer}
 use Rattle.serde_json.specs.Read.{max_depth}
 use Rattle.serde_json.specs.View.{items_of}
 use Rattle.serde_json.specs.Written.{compact_text, items_text}
-use Rattle.epx_types.specs.declared.id.Id.{Id}
-use Rattle.epx_types.specs.declared.reply.Reply.{Reply}
-use Rattle.epx_types.specs.declared.reply.Reply.TheVariants.{Values, Abort}
-use Rattle.epx_types.specs.WaitingLists.{Waiting}
-use Rattle.epx_types.specs.Keys.{FitsKey}
 use Rattle.epx_lines.specs.Elements.{list_of}
 use Rattle.epx_lines.specs.Meaning.{max_line_bytes}
 use Rattle.epx_lines.specs.OperationList.{value_or_null}

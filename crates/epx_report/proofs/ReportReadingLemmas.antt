@@ -1,16 +1,11 @@
 -- Reading the text of a report yields what its lines say.
-use Rattle.std.proofs.Common.{◌≡◌, ℕ, suc, ℤ, true, List, [], ◌∷◌, ◌++◌, length, map, flat_map}
-use Rattle.std.proofs.Common.{All, IsUtf8, Some, refl, sym, ap, ap₂, ◌∙◌, arith, append_assoc}
+use Rattle.std.proofs.Common.{◌≡◌, ℕ, suc, ℤ, true, List, [], ◌∷◌, ◌++◌, length, map, flat_map, All}
+use Rattle.std.proofs.Common.{IsUtf8, Some, refl, sym, ap, ap₂, ◌∙◌, arith, append_assoc}
 use Rattle.std.proofs.Common.{append-nil}
-use Rattle.std.proofs.lemmas.List.{map-append}
-use Rattle.std.specs.Int.{w64}
+use Rattle.epx_types.proofs.Common.{map-append, w64, Id, Reply, Waiting, FitsKey}
 use Rattle.std.specs.Int.RustNames.{FitsSigned}
 use Rattle.serde_json.specs.Data.{Data}
 use Rattle.serde_json.specs.Written.{compact_text}
-use Rattle.epx_types.specs.declared.id.Id.{Id}
-use Rattle.epx_types.specs.declared.reply.Reply.{Reply}
-use Rattle.epx_types.specs.WaitingLists.{Waiting}
-use Rattle.epx_types.specs.Keys.{FitsKey}
 use Rattle.epx_lines.specs.Lines.{lines_of}
 use Rattle.epx_report.specs.declared.form.Counts.{Counts}
 use Rattle.epx_report.specs.declared.form.BaseLine.{BaseLine}

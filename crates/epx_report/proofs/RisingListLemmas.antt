@@ -2,16 +2,10 @@
 use Rattle.std.proofs.Common.{◌≡◌, ◌⊎◌, inl, inr, ℕ, suc, ◌-◌, true, false, T, Bool, Less, Equal}
 use Rattle.std.proofs.Common.{Greater, is_lt, ℤ, List, [], ◌∷◌, ◌++◌, Contains, length, slice_get}
 use Rattle.std.proofs.Common.{option_map, refl, sym, ap, ◌∙◌, subst, arith}
-use Rattle.std.specs.BTreeSet.{insert_key}
-use Rattle.std.specs.FinMap.{is_sorted}
-use Rattle.epx_types.specs.declared.id.Id.{Id}
-use Rattle.epx_types.specs.Ids.{id_cmp, IsRising}
-use Rattle.epx_types.specs.Keys.{key_cmp}
-use Rattle.epx_types.proofs.lists.MembershipLemmas.{Contains-nil, Contains-head, Contains-cons}
-use Rattle.epx_types.proofs.lists.MembershipLemmas.{Contains-cons_cases}
-use Rattle.epx_types.proofs.lists.ComparisonLemmas.{id_cmp-IsAntisymmetric}
-use Rattle.epx_types.proofs.keys.SortedEntryLemmas.{first_of, second_of}
-use Rattle.epx_report.specs.inner.Seen.{last, is_after_last}
+use Rattle.epx_types.proofs.Common.{insert_key, is_sorted, Id, id_cmp, IsRising, key_cmp}
+use Rattle.epx_types.proofs.Common.{Contains-nil, Contains-head, Contains-cons, Contains-cons_cases}
+use Rattle.epx_types.proofs.Common.{id_cmp-IsAntisymmetric, first_of, second_of}
+use Rattle.epx_report.specs.inner.Progress.{last, is_after_last}
 
 -- ---- an inserted Id
 

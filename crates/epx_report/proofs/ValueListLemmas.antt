@@ -1,9 +1,8 @@
 -- The elements of a parsed array, and what the definitions say about them.
 use Rattle.std.proofs.Common.{◌≡◌, ◌<◌, ◌≤◌, ℤ, Bool, true, false, ◌&&◌, nat_le, List, [], ◌∷◌}
-use Rattle.std.proofs.Common.{length, drop, cond, Option, Some, None, option_map}
-use Rattle.std.proofs.Common.{option_and_then, refl, ap, is_some, arith}
-use Rattle.std.proofs.lemmas.Bool.Decides.{nat_tests}
-use Rattle.std.specs.List.{list_all}
+use Rattle.std.proofs.Common.{length, drop, cond, Option, Some, None, option_map, option_and_then}
+use Rattle.std.proofs.Common.{refl, ap, is_some, arith}
+use Rattle.epx_types.proofs.Common.{nat_tests, list_all}
 use Rattle.serde_json.specs.Data.{Data}
 use Rattle.serde_json.specs.Find.{as_array}
 use Rattle.serde_json.specs.View.{view, items_view}

@@ -1,25 +1,17 @@
 -- The lines of a whole base are read: each is allowed at its position and none is missing.
 use Rattle.std.proofs.Common.{◌≡◌, ◌≢◌, ◌⊎◌, inl, inr, ◌↔◌, ℕ, ◌+◌, ◌<◌, ◌==◌, nat_lt, ℤ, true, T}
-use Rattle.std.proofs.Common.{List, [], ◌∷◌, ◌++◌, length, map, Contains, AllPairs, Some, refl}
-use Rattle.std.proofs.Common.{sym, ap, subst, arith, append-nil, length-append}
-use Rattle.std.proofs.lemmas.Bool.Decides.{nat_tests}
-use Rattle.std.proofs.lemmas.List.{append_assoc}
-use Rattle.std.specs.BTreeSet.{insert_key}
-use Rattle.std.specs.FinMap.{is_sorted}
-use Rattle.epx_types.specs.declared.id.Id.{Id}
-use Rattle.epx_types.specs.Ids.{id_cmp, IsRising}
-use Rattle.epx_types.specs.Keys.{key_cmp}
-use Rattle.epx_types.proofs.lists.MembershipLemmas.{Contains-nil, Contains-head, Contains-cons}
-use Rattle.epx_types.proofs.lists.MembershipLemmas.{Contains-cons_cases}
-use Rattle.epx_types.proofs.lists.ListPositionLemmas.{AllPairs-head, AllPairs-tail}
-use Rattle.epx_types.proofs.lists.RisingIdLemmas.{same_ids}
+use Rattle.std.proofs.Common.{List, [], ◌∷◌, ◌++◌, length, map, Contains, AllPairs, Some, refl, sym}
+use Rattle.std.proofs.Common.{ap, subst, arith, append-nil, length-append}
+use Rattle.epx_types.proofs.Common.{nat_tests, append_assoc, insert_key, is_sorted, Id, id_cmp}
+use Rattle.epx_types.proofs.Common.{IsRising, key_cmp, Contains-nil, Contains-head, Contains-cons}
+use Rattle.epx_types.proofs.Common.{Contains-cons_cases, AllPairs-head, AllPairs-tail, same_ids}
 use Rattle.epx_lines.proofs.EntryLemmas.{IsRising-insert, IsRising-fold}
 use Rattle.epx_lines.proofs.OtherIdLemmas.{insert_last}
 use Rattle.epx_report.specs.declared.form.Counts.{Counts}
 use Rattle.epx_report.specs.declared.form.BaseLine.{BaseLine}
 use Rattle.epx_report.specs.declared.form.BaseLine.TheVariants as line
 use Rattle.epx_report.specs.Bases.{BaseParts, lines_in_order, AreBaseParts, AreDoneIn}
-use Rattle.epx_report.specs.inner.Seen.{Seen, nothing_seen, after, is_complete}
+use Rattle.epx_report.specs.inner.Progress.{Progress, nothing_seen, after, is_complete}
 use Rattle.epx_report.specs.inner.BaseReadings.{after_all}
 use Rattle.epx_report.specs.inner.IdSets.{with_late}
 use Rattle.epx_report.proofs.IdSetLemmas.{Contains-with_rising, Contains-with_late}
@@ -46,10 +38,10 @@ done_exists before replied rising = (
 )
 
 -- the lines lead from s to `end`
-abbrev LeadTo : Seen → List BaseLine → Seen → Type 0
+abbrev LeadTo : Progress → List BaseLine → Progress → Type 0
 LeadTo s ls end = after_all s ls ≡ Some end
 
-leads_on : (s t end : Seen) (l : BaseLine) (ls : List BaseLine) → after s l ≡ Some t
+leads_on : (s t end : Progress) (l : BaseLine) (ls : List BaseLine) → after s l ≡ Some t
     → LeadTo t ls end → LeadTo s (l ∷ ls) end
 leads_on s t end l ls is_allowed more = rw is_allowed more
 
@@ -63,7 +55,7 @@ lower : (m n : ℕ) → m < n → nat_lt m n ≡ true
 lower m n l = grind (arith, nat_tests)
 
 -- the state after these lines
-abbrev pub state : Counts → List Id → ℕ → List Id → List (List ℕ × ℤ) → Seen
+abbrev pub state : Counts → List Id → ℕ → List Id → List (List ℕ × ℤ) → Progress
 state c done replies waiting stored =
     record {
       counts = Some c;
@@ -95,7 +87,7 @@ module _ (c : Counts) where
       let regrouped = append_assoc qs (p ∷ []) ps in
       let rest = stored_lead done waiting (qs ++ p ∷ []) ps all
       (subst (λ es. T (is_sorted key_cmp es)) (sym regrouped) rises) in
-      let end : List (List ℕ × ℤ) → Seen = λ es. state c done c.executed waiting es in
+      let end : List (List ℕ × ℤ) → Progress = λ es. state c done c.executed waiting es in
       leads_on (end qs) (end (qs ++ p ∷ [])) (end (qs ++ p ∷ ps)) (line.Store p.0 p.1)
       (map (λ q. line.Store q.0 q.1) ps) (after-store done waiting qs p ps all rises)
       (subst (λ es. LeadTo (end (qs ++ p ∷ [])) (map (λ q. line.Store q.0 q.1) ps) (end es))
@@ -116,7 +108,7 @@ module _ (c : Counts) where
         not_among done x left,
       ) refl
 
-  waiting_lead : (done vs ws : List Id) (ls : List BaseLine) (end : Seen)
+  waiting_lead : (done vs ws : List Id) (ls : List BaseLine) (end : Progress)
       → length vs + length ws ≡ c.waiting → IsRising (vs ++ ws)
       → ((x : Id) → Contains ws x → ¬ Contains done x)
       → LeadTo (state c done c.executed (vs ++ ws) []) ls end
@@ -142,7 +134,7 @@ module _ (c : Counts) where
   unfolding after
   after-reply done k x few new = rw (lower k c.executed few, not_among done x new) refl
 
-  replies_lead : (before now : List Id) (k : ℕ) (rs : List Id) (ls : List BaseLine) (end : Seen)
+  replies_lead : (before now : List Id) (k : ℕ) (rs : List Id) (ls : List BaseLine) (end : Progress)
       → k + length rs ≡ c.executed → IsRising before → AllPairs (λ x y. x ≢ y) rs
       → ((x : Id) → Contains rs x → ¬ Contains before x) → IsRising now
       → ((x : Id) → Contains now x ↔ Contains before x ⊎ Contains rs x)
@@ -193,7 +185,7 @@ module _ (c : Counts) where
   after-done xs y ys rising = rw (above_last xs y ys rising)
       (ap (λ d. Some (state c d 0 [] [])) (insert_last xs y ys rising))
 
-  done_lead : (xs ys : List Id) (ls : List BaseLine) (end : Seen) → IsRising (xs ++ ys)
+  done_lead : (xs ys : List Id) (ls : List BaseLine) (end : Progress) → IsRising (xs ++ ys)
       → LeadTo (state c (xs ++ ys) 0 [] []) ls end
       → LeadTo (state c xs 0 [] []) (map line.Done ys ++ ls) end
   done_lead xs [] ls end rising more =
@@ -214,7 +206,7 @@ module _ (c : Counts) where
 -- ---- all lines
 
 -- the state after the lines of a whole base
-abbrev pub end_of : BaseParts → List Id → Seen
+abbrev pub end_of : BaseParts → List Id → Progress
 end_of p done = state p.counts done p.counts.executed p.waiting p.stored
 
 pub whole_is_read : (p : BaseParts) (done : List Id) → AreBaseParts p

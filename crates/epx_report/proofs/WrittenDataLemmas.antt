@@ -1,18 +1,17 @@
 -- The text of a value without objects and floats is read back as that value.
 use Rattle.std.proofs.Common.{◌≡◌, ℕ, suc, ◌+◌, ◌-◌, ◌^◌, ◌<◌, ◌≤◌, nat_lt, ℤ, pos, negsuc, Bool}
-use Rattle.std.proofs.Common.{true, false, [], ◌∷◌, ◌++◌, Some, IsUtf8, option_map}
-use Rattle.std.proofs.Common.{option_and_then, decimal, refl, sym, ap, ◌∙◌, arith, append-nil}
+use Rattle.std.proofs.Common.{true, false, [], ◌∷◌, ◌++◌, Some, IsUtf8, option_map, option_and_then}
+use Rattle.std.proofs.Common.{decimal, refl, sym, ap, ◌∙◌, arith, append-nil}
 use Rattle.std.proofs.lemmas.Str.{IsUtf8-append, IsUtf8-from_ascii}
 use Rattle.std.proofs.lemmas.Fmt.{IsAscii-decimal}
 use Rattle.std.proofs.lemmas.Int.{ints}
-use Rattle.std.specs.Int.{w64}
+use Rattle.epx_types.proofs.Common.{w64, nat_tests}
 use Rattle.std.specs.Int.RustNames.{FitsSigned}
 use Rattle.serde_json.specs.Find.{of_integer}
 use Rattle.std.specs.Fmt.{signed_decimal, digits}
 use Rattle.json.specs.Json as json
 use Rattle.json.specs.Print.{IsNumber}
 use Rattle.json.specs.Word.{after_number}
-use Rattle.std.proofs.lemmas.Bool.Decides.{nat_tests}
 use Rattle.json.specs.Tree as tree
 use Rattle.json.specs.Lex.{tokens}
 use Rattle.json.proofs.Printed.Tokens.{tokens-print}

@@ -3,7 +3,7 @@ ghost use Rattle.std.specs.Prelude.{◌≡◌, [], not, IfOk, OnOk, option_copie
 ghost use Rattle.std.specs.BTreeSet.{insert_key};
 ghost use Rattle.epx_types.specs.Ids.{id_cmp, IsRising};
 ghost use Rattle.epx_types.specs.Done.{is_among};
-ghost use Rattle.epx_report.specs.inner.Seen.{last, is_after_last};
+ghost use Rattle.epx_report.specs.inner.Progress.{last, is_after_last};
 
 use epx_types::id_list::find_id;
 use epx_types::{Id, Memory};

@@ -2,7 +2,7 @@
 ghost use Rattle.std.specs.Prelude.{◌≡◌, IfOk, IfErr};
 ghost use Rattle.epx_report.specs.Lists.{IsList, IsListFault, listed_id_of};
 ghost use Rattle.epx_report.specs.inner.ListReadings.{with_line};
-ghost use Rattle.epx_report.specs.inner.Seen.{some_if};
+ghost use Rattle.epx_report.specs.inner.Progress.{some_if};
 
 use crate::base::BaseFault;
 use epx_lines::{MAX_LINE_BYTES, cut_line, is_blank_line, read_id, read_json};

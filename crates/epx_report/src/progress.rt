@@ -1,8 +1,9 @@
 //! The state of reading the lines of a base one after another.
 ghost use Rattle.std.specs.Prelude.{◌≡◌, None, IfOk};
 ghost use Rattle.std.specs.FinMap as contents;
-ghost use Rattle.epx_report.specs.inner.Seen.{nothing_seen, after_done, after_reply, after_waiting};
-ghost use Rattle.epx_report.specs.inner.Seen.{after_store, after_with, after, some_if, is_complete};
+ghost use Rattle.epx_report.specs.inner.Progress.{nothing_seen, after_done, after_reply};
+ghost use Rattle.epx_report.specs.inner.Progress.{after_waiting, after_store, after_with, after};
+ghost use Rattle.epx_report.specs.inner.Progress.{some_if, is_complete};
 ghost use Rattle.epx_report.specs.inner.BaseReadings.{after_line, put_pairs};
 
 use crate::base::Base;
@@ -41,9 +42,9 @@ pub(crate) struct Progress {
 }
 
 impl Model for Progress {
-    ghost use Rattle.epx_report.specs.inner.Seen.{Seen};
+    ghost use Rattle.epx_report.specs.inner.Progress.{Progress};
 
-    ghost Value = { Seen };
+    ghost Value = { Progress };
 
     ghost view = { λ p. record {
       counts = p.counts;
@@ -135,7 +136,7 @@ impl Progress {
     }
 
     /// Takes one more line that was read. False if it is not allowed at its position.
-    #[tactic(auto, unfolding(crate::specs::inner::Seen::after))]
+    #[tactic(auto, unfolding(crate::specs::inner::Progress::after))]
     pub(crate) fn take(&mut self, line: BaseLine) -> Result<bool, Memory>
         ensures { IfOk result (λ is_allowed. after self.old line ≡ some_if is_allowed self.new) }
     {

@@ -1,10 +1,8 @@
 -- The rows of one list of numbers, followed by those of another.
 use Rattle.std.proofs.Common.{◌≡◌, ℕ, ◌+◌, ◌-◌, ◌≤◌, List, [], ◌∷◌, ◌++◌, length, take, drop, map}
 use Rattle.std.proofs.Common.{All, refl, sym, ap, subst, ◌∙◌, arith, slice_range}
-use Rattle.std.proofs.Math.Seq.{drop-append-add}
-use Rattle.std.proofs.lemmas.List.{length-append}
+use Rattle.epx_types.proofs.Common.{drop-append-add, length-append, All-from_get_or}
 use Rattle.epx_rows.specs.inner.RowEnds.{rows_from, AreRowEnds}
-use Rattle.std.proofs.lemmas.List.Elements.{All-from_get_or}
 use Rattle.epx_rows.proofs.RowLemmas.{range_kept, start_within, ends_rise}
 
 -- a part of the second list is in both lists together, moved by the length of the first

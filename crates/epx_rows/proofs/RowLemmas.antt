@@ -1,9 +1,8 @@
 -- Rows of one list: one for each end, each inside the list; appended they are the list.
 use Rattle.std.proofs.Common.{◌≡◌, ℕ, zero, suc, ◌+◌, ◌-◌, ◌<◌, ◌≤◌, List, [], ◌∷◌, ◌++◌, length}
 use Rattle.std.proofs.Common.{take, drop, get_or, refl, sym, ap, ◌∙◌, arith, slice_range}
-use Rattle.std.specs.List.{concat}
-use Rattle.std.proofs.lemmas.List.{length-drop, take_all, drop_all, drop-drop, take-append-drop}
-use Rattle.std.proofs.lemmas.List.{take-append-le, drop-append-le}
+use Rattle.epx_types.proofs.Common.{concat, length-drop, take_all, drop_all, drop-drop}
+use Rattle.epx_types.proofs.Common.{take-append-drop, take-append-le, drop-append-le}
 use Rattle.epx_rows.specs.Rows.{row_of}
 use Rattle.epx_rows.specs.inner.RowEnds.{rows_from, AreRowEnds}
 

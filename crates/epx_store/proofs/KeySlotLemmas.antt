@@ -1,22 +1,21 @@
 -- The linear search for a key among entries by rising key, and the insertion at its slot.
-use Rattle.std.proofs.Common.{◌≡◌, ℕ, ◌+◌, ◌<◌, ◌≤◌, ℤ, T, List, [], ◌∷◌, ◌++◌, length, map}
-use Rattle.std.proofs.Common.{get_or, set, take, drop, Option, Some, None, cond, refl, sym, ap}
-use Rattle.std.proofs.Common.{subst, ◌∙◌, is_eq, append_assoc, add-one, arith}
+use Rattle.std.proofs.Common.{◌≡◌, ℕ, ◌+◌, ◌<◌, ◌≤◌, ℤ, T, List, [], ◌∷◌, ◌++◌, length, map, get_or}
+use Rattle.std.proofs.Common.{set, take, drop, Option, Some, None, cond, refl, sym, ap, subst, ◌∙◌}
+use Rattle.std.proofs.Common.{is_eq, append_assoc, add-one, arith}
 use Rattle.std.specs.List.{insert, take-map, drop-map}
 use Rattle.std.proofs.Math.ListN.{get_or-map}
-use Rattle.std.proofs.lemmas.List.{set_split, take_more, take_all, drop_all, length-map}
-use Rattle.std.proofs.lemmas.List.{map-append, map-set, get_or_default}
-use Rattle.std.specs.declared.cmp.Ordering.TheVariants.{Less, Equal, Greater}
+use Rattle.epx_types.proofs.Common.{take_more, take_all, drop_all, length-map, map-append}
+use Rattle.epx_types.proofs.Common.{get_or_default, Less, Equal, Greater, FinMap, is_sorted}
+use Rattle.epx_types.proofs.Common.{entries_sorted, get-from_entries, below_all, Contents, key_cmp}
+use Rattle.epx_types.proofs.Common.{apply_writes, key_cmp_total, key_cmp-IsAntisymmetric, first_of}
+use Rattle.epx_types.proofs.Common.{find_below, entries-from_entries, write_all}
+use Rattle.epx_types.proofs.Common.{insert_all-from_entries}
+use Rattle.std.proofs.lemmas.List.{set_split}
+use Rattle.std.proofs.lemmas.List.{map-set}
 use Rattle.std.specs.FinMap as contents
-use Rattle.std.specs.FinMap.{FinMap, find, put, is_sorted, entries_sorted, entries-insert}
-use Rattle.std.specs.FinMap.{get-from_entries, same_entries_map}
-use Rattle.std.specs.FinMap.Entries.{below_all, by_order}
-use Rattle.epx_types.specs.Contents.{Contents}
-use Rattle.epx_types.specs.Keys.{key_cmp}
-use Rattle.epx_types.specs.Writes.{apply_writes}
-use Rattle.epx_types.proofs.keys.KeyListLemmas.{key_cmp_total, key_cmp-IsAntisymmetric}
-use Rattle.epx_types.proofs.keys.SortedEntryLemmas.{first_of, find_below, entries-from_entries}
-use Rattle.epx_types.proofs.keys.SortedEntryLemmas.{write_all, insert_all-from_entries}
+use Rattle.std.specs.FinMap.{find, put, entries-insert}
+use Rattle.std.specs.FinMap.{same_entries_map}
+use Rattle.std.specs.FinMap.Entries.{by_order}
 use Rattle.epx_store.specs.inner.KeySlots.{IsAtSlot, IsInsertedAt}
 use Rattle.epx_store.proofs.DropLemmas.{drop_at_index}
 use Rattle.epx_store.proofs.RisingEntryLemmas.{below_all_trans, is_sorted-drop}

@@ -1,13 +1,9 @@
 -- The results of loops over all entries of a map.
 use Rattle.std.proofs.Common.{◌≡◌, ◌∙◌, ℕ, ℤ, Option, sym, ap, append-nil, List, [], ◌++◌}
-use Rattle.std.specs.BTreeMap.{BTreeMap, IsOrdered}
+use Rattle.epx_types.proofs.Common.{BTreeMap, IsOrdered, FinMap, Contents, key_cmp, apply_writes}
+use Rattle.epx_types.proofs.Common.{entries-from_entries, write_all, insert_all-from_entries}
 use Rattle.std.specs.FinMap as contents
-use Rattle.std.specs.FinMap.{FinMap}
-use Rattle.epx_types.specs.Contents.{Contents}
-use Rattle.epx_types.specs.Keys.{key_cmp}
-use Rattle.epx_types.specs.Writes.{Write, apply_writes}
-use Rattle.epx_types.proofs.keys.SortedEntryLemmas.{entries-from_entries, write_all}
-use Rattle.epx_types.proofs.keys.SortedEntryLemmas.{insert_all-from_entries}
+use Rattle.epx_types.specs.Writes.{Write}
 use Rattle.epx_store.proofs.TreeEntryLemmas.{is_sorted-from_order}
 
 module _ {X : Type 0} (tree : BTreeMap (List ℕ) X) (m : FinMap key_cmp X)

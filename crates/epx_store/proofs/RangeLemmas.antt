@@ -2,19 +2,14 @@
 use Rattle.std.proofs.Common.{◌≡◌, ◌∙◌, ◌+◌, ◌-◌, ◌<◌, ◌≤◌, ℕ, suc, T, List, [], ◌∷◌, ◌++◌, Some}
 use Rattle.std.proofs.Common.{take, append_assoc, append-nil, flat_map, refl, subst, sym, ap, ap₂}
 use Rattle.std.proofs.Common.{arith, length, get_or, set, map, option_map, IsPermutation}
-use Rattle.std.specs.FinMap.{is_sorted}
-use Rattle.std.specs.FinMap.Entries.{below_all}
-use Rattle.std.specs.Ordering.{is_lt}
-use Rattle.std.specs.declared.cmp.Ordering.TheVariants.{Less}
+use Rattle.epx_types.proofs.Common.{is_sorted, below_all, is_lt, Less, IsPermutation-append_right}
+use Rattle.epx_types.proofs.Common.{IsPermutation-trans, length-map, take_all, take_more}
+use Rattle.epx_types.proofs.Common.{take_more_set, key_cmp, first_of, second_of, less_from_is_lt}
 use Rattle.std.specs.List.{slice_get}
 use Rattle.std.proofs.lemmas.Grind.{flat_map-append}
 use Rattle.std.proofs.lemmas.List.Sorted.{IsPermutation-append}
 use Rattle.std.proofs.lemmas.List.Sorted.{IsPermutation-append_comm, IsPermutation-append_left}
-use Rattle.std.proofs.lemmas.List.Sorted.{IsPermutation-append_right, IsPermutation-trans}
-use Rattle.std.proofs.lemmas.List.{length-map, take_all, take_more, take_more_set}
 use Rattle.std.proofs.lemmas.Option.{slice_get-map}
-use Rattle.epx_types.specs.Keys.{key_cmp}
-use Rattle.epx_types.proofs.keys.SortedEntryLemmas.{first_of, second_of, less_from_is_lt}
 use Rattle.epx_store.specs.inner.Rises.{AreBelow}
 use Rattle.epx_store.proofs.RisingEntryLemmas.{both_of, below_all_trans}
 

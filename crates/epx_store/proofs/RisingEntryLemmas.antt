@@ -1,14 +1,8 @@
 -- Entries whose keys rise.
 use Rattle.std.proofs.Common.{◌≡◌, ℕ, zero, suc, sym, ap, subst, T, Bool, true, false, ◌&&◌, List}
 use Rattle.std.proofs.Common.{[], ◌∷◌, drop}
-use Rattle.std.specs.Ordering.{is_lt}
-use Rattle.std.specs.declared.cmp.Ordering.TheVariants.{Less}
-use Rattle.std.specs.FinMap.{is_sorted}
-use Rattle.std.specs.FinMap.Entries.{below_all}
-use Rattle.epx_types.specs.Keys.{key_cmp}
-use Rattle.epx_types.proofs.keys.KeyListLemmas.{key_cmp_total}
-use Rattle.epx_types.proofs.lists.TotalOrderLemmas.{below_trans}
-use Rattle.epx_types.proofs.keys.SortedEntryLemmas.{first_of, second_of, less_from_is_lt}
+use Rattle.epx_types.proofs.Common.{is_lt, Less, is_sorted, below_all, key_cmp, key_cmp_total}
+use Rattle.epx_types.proofs.Common.{below_trans, first_of, second_of, less_from_is_lt}
 
 pub both_of : (a b : Bool) → T a → T b → T (a && b)
 both_of true b g h = h

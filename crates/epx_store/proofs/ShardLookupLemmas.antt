@@ -2,15 +2,11 @@
 use Rattle.std.proofs.Common.{◌≡◌, ◌≢◌, ℕ, zero, suc, ◌<◌, ℤ, cond, true, false, List, [], ◌∷◌}
 use Rattle.std.proofs.Common.{◌++◌, length, flat_map, get_or, Some, None, refl, sym, ap, ◌∙◌, inl}
 use Rattle.std.proofs.Common.{inr, All, arith}
-use Rattle.std.specs.Ordering.{eq_by_cmp}
-use Rattle.std.proofs.lemmas.Bool.{cases_lt}
-use Rattle.std.proofs.lemmas.List.{get_or_default, get_or_past}
+use Rattle.epx_types.proofs.Common.{eq_by_cmp, cases_lt, get_or_default, get_or_past}
+use Rattle.epx_types.proofs.Common.{get-from_entries, get-entries, get-empty, key_cmp, Contents}
+use Rattle.epx_types.proofs.Common.{key_cmp_total, same_contents}
 use Rattle.std.specs.FinMap as contents
-use Rattle.std.specs.FinMap.{find, get-from_entries, get-entries, get-empty}
-use Rattle.epx_types.specs.Keys.{key_cmp}
-use Rattle.epx_types.specs.Contents.{Contents}
-use Rattle.epx_types.proofs.keys.KeyListLemmas.{key_cmp_total}
-use Rattle.epx_types.proofs.commands.ContentsLemmas.{same_contents}
+use Rattle.std.specs.FinMap.{find}
 use Rattle.epx_store.specs.inner.Shards.{shard_of, AreShards, all_contents}
 
 -- ---- a key among lists of entries

@@ -1,19 +1,16 @@
 -- Writes to the shards of a store, each to its own shard.
-use Rattle.std.proofs.Common.{◌≡◌, ◌≢◌, ℕ, ◌<◌, ℤ, cond, List, [], ◌∷◌, length, get_or, set}
-use Rattle.std.proofs.Common.{Option, refl, sym, ap, subst, OnOk, OnErr, ◌∙◌, inl, inr, arith}
-use Rattle.std.proofs.lemmas.Bool.{cases_lt}
-use Rattle.std.proofs.lemmas.Bool.Decides.{eqb_tells}
-use Rattle.std.proofs.lemmas.List.{get_or_default, get_or_past, get_or-set_same, get_or-set_other}
-use Rattle.std.proofs.lemmas.List.{set-get_or, length-set}
+use Rattle.std.proofs.Common.{◌≡◌, ◌≢◌, ℕ, ◌<◌, ℤ, cond, List, [], ◌∷◌, length, get_or, set, Option}
+use Rattle.std.proofs.Common.{refl, sym, ap, subst, OnOk, OnErr, ◌∙◌, inl, inr, arith}
+use Rattle.epx_types.proofs.Common.{cases_lt, eqb_tells, get_or_default, get_or_past}
+use Rattle.epx_types.proofs.Common.{get_or-set_same, get_or-set_other, length-set, get-empty}
+use Rattle.epx_types.proofs.Common.{Contents, assign, apply_writes, same_contents, get-assign_cases}
+use Rattle.epx_types.proofs.Common.{get-assign_agree}
+use Rattle.std.proofs.lemmas.List.{set-get_or}
 use Rattle.std.specs.declared.result.Result.{Result}
 use Rattle.std.specs.declared.result.Result.TheVariants.{Ok, Err}
 use Rattle.std.specs.FinMap as contents
-use Rattle.std.specs.FinMap.{get-empty}
 use Rattle.epx_types.specs.declared.memory.Memory.{Memory}
-use Rattle.epx_types.specs.Contents.{Contents, assign}
-use Rattle.epx_types.specs.Writes.{Write, apply_writes}
-use Rattle.epx_types.proofs.commands.ContentsLemmas.{same_contents, get-assign_cases}
-use Rattle.epx_types.proofs.commands.ContentsLemmas.{get-assign_agree}
+use Rattle.epx_types.specs.Writes.{Write}
 use Rattle.epx_store.specs.inner.Shards.{shard_of, AreShards, all_contents, writes_to}
 use Rattle.epx_store.proofs.ShardLookupLemmas.{no_contents, shard_of-below, get-all_contents}
 

@@ -1,21 +1,17 @@
 -- The entries of a tree map are those of a finite map.
 use Rattle.std.proofs.Common.{◌≡◌, ℕ, ◌∙◌, refl, sym, ap, subst, T, cond, List, [], ◌∷◌, Option}
 use Rattle.std.proofs.Common.{Some, None}
-use Rattle.std.specs.Ordering.{eq_by_cmp, is_lt}
+use Rattle.epx_types.proofs.Common.{eq_by_cmp, is_lt, Less, keys_of, lookup, BTreeMap, is_at}
+use Rattle.epx_types.proofs.Common.{AllByRecursion, FinMap, is_sorted, get-from_entries, below_all}
+use Rattle.epx_types.proofs.Common.{key_cmp, key_cmp_total, key_cmp-IsAntisymmetric}
 use Rattle.std.specs.declared.cmp.Ordering.{Ordering}
-use Rattle.std.specs.declared.cmp.Ordering.TheVariants.{Less}
 use Rattle.std.specs.Cmp.{eq_by_cmp_equiv}
-use Rattle.std.specs.Map.{keys_of, lookup}
-use Rattle.std.specs.BTreeMap.{BTreeMap, is_at, Updates}
-use Rattle.std.specs.List.{AllByRecursion}
+use Rattle.std.specs.BTreeMap.{Updates}
 use Rattle.std.specs.List.Sorted.{IsStrictlySortedBy}
 use Rattle.std.proofs.lemmas.Map.Keys.{sorted_head, sorted_tail}
 use Rattle.std.specs.FinMap as contents
-use Rattle.std.specs.FinMap.{FinMap, find, is_sorted, same_map, get-from_entries, get-insert}
+use Rattle.std.specs.FinMap.{find, same_map, get-insert}
 use Rattle.std.specs.FinMap.{get-remove}
-use Rattle.std.specs.FinMap.Entries.{below_all}
-use Rattle.epx_types.specs.Keys.{key_cmp}
-use Rattle.epx_types.proofs.keys.KeyListLemmas.{key_cmp_total, key_cmp-IsAntisymmetric}
 use Rattle.epx_store.proofs.RisingEntryLemmas.{both_of}
 
 module _ {X : Type 0} where

@@ -1,28 +1,23 @@
 -- Entries without two of the same key, in any order.
-use Rattle.std.proofs.Common.{◌≡◌, ◌≢◌, ℕ, zero, suc, ◌+◌, ◌≤◌, ℤ, cond, Bool, true, false, T}
-use Rattle.std.proofs.Common.{List, [], ◌∷◌, ◌++◌, length, length-append, map, flat_map, get_or}
-use Rattle.std.proofs.Common.{drop, sum_by, Contains, Option, Some, None, is_some, is_eq, is_lt}
-use Rattle.std.proofs.Common.{refl, sym, ap, ap₂, subst, ◌∙◌, inl, inr, arith, IsPermutation}
-use Rattle.std.specs.Ordering.{eq_by_cmp, ordering_then, ordering_reverse, int_cmp}
-use Rattle.std.specs.declared.cmp.Ordering.TheVariants.{Less, Equal, Greater}
+use Rattle.std.proofs.Common.{◌≡◌, ◌≢◌, ℕ, zero, suc, ◌+◌, ◌≤◌, ℤ, cond, Bool, true, false, T, List}
+use Rattle.std.proofs.Common.{[], ◌∷◌, ◌++◌, length, length-append, map, flat_map, get_or, drop}
+use Rattle.std.proofs.Common.{sum_by, Contains, Option, Some, None, is_some, is_eq, is_lt, refl}
+use Rattle.std.proofs.Common.{sym, ap, ap₂, subst, ◌∙◌, inl, inr, arith, IsPermutation}
+use Rattle.epx_types.proofs.Common.{eq_by_cmp, ordering_then, ordering_reverse, Less, Equal}
+use Rattle.epx_types.proofs.Common.{Greater, IsPermutation-sym, IsPermutation-map}
+use Rattle.epx_types.proofs.Common.{Contains-permutation, drop_all, map-append, sum_by-cons}
+use Rattle.epx_types.proofs.Common.{is_sorted, entries_sorted, get-entries, get-from_entries}
+use Rattle.epx_types.proofs.Common.{below_all, key_cmp, Contents, key_cmp_total}
+use Rattle.epx_types.proofs.Common.{key_cmp-IsAntisymmetric, key_cases, Contains-nil, Contains-head}
+use Rattle.epx_types.proofs.Common.{Contains-cons, Contains-cons_cases, first_of, second_of}
+use Rattle.epx_types.proofs.Common.{less_from_is_lt, entries-from_entries, same_contents}
+use Rattle.std.specs.Ordering.{int_cmp}
 use Rattle.std.specs.List.Sorted.{IsSortedBy}
 use Rattle.std.specs.Cmp.{tied_itself}
-use Rattle.std.proofs.lemmas.List.Sorted.{IsPermutation-sym, IsPermutation-map}
-use Rattle.std.proofs.lemmas.List.Sorted.{Contains-permutation, sum_by-IsPermutation}
-use Rattle.std.proofs.lemmas.List.{drop_all, map-append}
-use Rattle.std.proofs.lemmas.List.Sums.{sum_by-cons}
+use Rattle.std.proofs.lemmas.List.Sorted.{sum_by-IsPermutation}
 use Rattle.std.specs.FinMap as contents
-use Rattle.std.specs.FinMap.{find, is_sorted, entries_sorted, get-entries, get-from_entries}
+use Rattle.std.specs.FinMap.{find}
 use Rattle.std.specs.FinMap.{len-empty, len-insert, len-entries}
-use Rattle.std.specs.FinMap.Entries.{below_all}
-use Rattle.epx_types.specs.Keys.{key_cmp}
-use Rattle.epx_types.specs.Contents.{Contents}
-use Rattle.epx_types.proofs.keys.KeyListLemmas.{key_cmp_total, key_cmp-IsAntisymmetric, key_cases}
-use Rattle.epx_types.proofs.lists.MembershipLemmas.{Contains-nil, Contains-head, Contains-cons}
-use Rattle.epx_types.proofs.lists.MembershipLemmas.{Contains-cons_cases}
-use Rattle.epx_types.proofs.keys.SortedEntryLemmas.{first_of, second_of, less_from_is_lt}
-use Rattle.epx_types.proofs.keys.SortedEntryLemmas.{entries-from_entries}
-use Rattle.epx_types.proofs.commands.ContentsLemmas.{same_contents}
 use Rattle.epx_store.specs.inner.Shards.{shard_of, AreShards, all_contents}
 use Rattle.epx_store.proofs.ShardLookupLemmas.{no_contents, find-nowhere}
 use Rattle.epx_store.proofs.RisingEntryLemmas.{both_of, below_all_trans}

@@ -1,8 +1,6 @@
 -- What follows for accepted logs.
 use Rattle.std.proofs.Common.{◌≤◌, ℕ, List, length, ap, arith}
-use Rattle.std.proofs.lemmas.List.{length-map}
-use Rattle.epx_types.specs.Instances.{Instance}
-use Rattle.epx_types.specs.Limits.{max_instances}
+use Rattle.epx_types.proofs.Common.{length-map, Instance, max_instances}
 use Rattle.epx_merge.specs.LogLines.{placed_of}
 use Rattle.epx_merge.specs.Acceptance.{IsAccepted}
 use Rattle.epx_committed.proofs.InstanceCountLemmas.{named_ids_are_committed}

@@ -1,10 +1,7 @@
 -- What a list and a committed map are answered with is a verdict on the instances that the list
 -- names. So is what a list and logs are answered with.
 use Rattle.std.proofs.Common.{◌≡◌, ◌⊎◌, ℕ, List, subst, inl, inr}
-use Rattle.epx_types.specs.declared.id.Id.{Id}
-use Rattle.epx_types.specs.Ids.{IsRising}
-use Rattle.epx_types.specs.Instances.{Instance}
-use Rattle.epx_types.specs.CommittedMap.{ids_of}
+use Rattle.epx_types.proofs.Common.{Id, IsRising, Instance, ids_of}
 use Rattle.epx_merge.specs.Acceptance.{IsAccepted}
 use Rattle.epx_merge.proofs.UniquenessLemmas.{accepted_unique}
 use Rattle.epx_report.specs.Lists.{IsList, IsBadList}

@@ -1,9 +1,7 @@
 -- Whether instances wait, by their list.
-use Rattle.std.proofs.Common.{◌≡◌, ◌∙◌, ◌↔◌, ◌==◌, Bool, true, false, not, List, [], ◌∷◌}
-use Rattle.std.proofs.Common.{ap, sym, refl, length, arith, eqb-true, true≢false}
-use Rattle.epx_types.specs.Instances.{Instance}
-use Rattle.epx_types.specs.WaitingLists.{Waiting, IsWaitingList}
-use Rattle.epx_types.proofs.lists.MembershipLemmas.{Contains-head, Contains-nil}
+use Rattle.std.proofs.Common.{◌≡◌, ◌∙◌, ◌↔◌, ◌==◌, Bool, true, false, not, List, [], ◌∷◌, ap, sym}
+use Rattle.std.proofs.Common.{refl, length, arith, eqb-true, true≢false}
+use Rattle.epx_types.proofs.Common.{Instance, Waiting, IsWaitingList, Contains-head, Contains-nil}
 use Rattle.epx_tool.specs.Findings.{SomeWaits}
 
 pub some_wait : (m : List Instance) (waiting : List Waiting) (empty : Bool)

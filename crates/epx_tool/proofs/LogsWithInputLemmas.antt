@@ -1,15 +1,13 @@
 -- Logs and an extra input: which of these texts is the first too long one, and which refusal comes
 -- first.
 use Rattle.std.proofs.Common.{◌≡◌, ◌⊎◌, ◌<◌, ◌≤◌, ◌+◌, ◌++◌, ℕ, zero, suc, List, [], ◌∷◌, length}
-use Rattle.std.proofs.Common.{Some, Option, Err, IsErrOf, slice_get, refl}
-use Rattle.std.proofs.Common.{sym, ap, ◌∙◌, subst, inl, inr, arith}
-use Rattle.std.proofs.lemmas.Option.{slice_get_within}
-use Rattle.epx_types.specs.declared.fault.Fault.{Fault}
-use Rattle.epx_types.specs.declared.fault.Fault.TheVariants.{Memory, TooManyLogs, LogTooLong}
-use Rattle.epx_types.specs.declared.fault.Fault.TheVariants.{BadLine, TooManyInstances, Disagree}
-use Rattle.epx_types.specs.declared.fault.Fault.TheVariants.{Read, Write, BadBase}
-use Rattle.epx_types.specs.Instances.{Instance}
-use Rattle.epx_types.specs.Limits.{max_log_bytes}
+use Rattle.std.proofs.Common.{Some, Option, Err, IsErrOf, slice_get, refl, sym, ap, ◌∙◌, subst, inl}
+use Rattle.std.proofs.Common.{inr, arith}
+use Rattle.epx_types.proofs.Common.{slice_get_within, Fault, TooManyLogs, LogTooLong, BadLine}
+use Rattle.epx_types.proofs.Common.{TooManyInstances, Disagree, Read, BadBase, Instance}
+use Rattle.epx_types.proofs.Common.{max_log_bytes}
+use Rattle.epx_types.specs.declared.fault.Fault.TheVariants.{Memory}
+use Rattle.epx_types.specs.declared.fault.Fault.TheVariants.{Write}
 use Rattle.epx_merge.specs.Refusals.{FitLimits, IsFirstTooLong, NoneTooLong, IsRefusal}
 use Rattle.epx_devices.specs.Transfers.{IsReadLogFault, ConsumesExactly}
 use Rattle.epx_merge.specs.ReadingRefusals.{NoneTooLongBefore, IsReadingRefusal}

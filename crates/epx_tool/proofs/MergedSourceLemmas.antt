@@ -1,9 +1,7 @@
 -- How a run ends, by how reading its sources and merging their logs ended.
 use Rattle.std.proofs.Common.{◌≡◌, ◌↔◌, ℕ, true, false, List, length, Result, Ok, Err, inl, inr}
 use Rattle.std.proofs.Common.{subst, arith}
-use Rattle.std.specs.Io.KnownBytes.{Appends}
-use Rattle.std.specs.Prelude.{OnOk, IfErr, IsErr}
-use Rattle.epx_types.specs.declared.fault.Fault.{Fault}
+use Rattle.epx_types.proofs.Common.{Appends, OnOk, IfErr, IsErr, Fault}
 use Rattle.epx_types.specs.declared.fault.Fault.TheVariants.{Write}
 use Rattle.epx_devices.specs.Models.{SinkModel, SourceModel}
 use Rattle.epx_devices.specs.Transfers.{AppendsPrefix}

@@ -1,7 +1,6 @@
 -- What answers a question about a committed map answers the task that asks it.
-use Rattle.std.proofs.Common.{◌≢◌, ℕ, Bool, List, [], Result, Ok, Err, refl}
-use Rattle.std.proofs.Common.{inl, inr, subst}
-use Rattle.std.specs.Prelude.{MatchResult}
+use Rattle.std.proofs.Common.{◌≢◌, ℕ, Bool, List, [], Result, Ok, Err, refl, inl, inr, subst}
+use Rattle.epx_types.proofs.Common.{MatchResult, Fault, remaining, Instance}
 use Rattle.epx_devices.specs.Models.{SourceModel}
 use Rattle.epx_merge.specs.Refusals.{IsRefusal}
 use Rattle.epx_names.specs.Tasks.{HasInput}
@@ -10,9 +9,6 @@ use Rattle.epx_names.specs.declared.task.Task.TheVariants as about
 use Rattle.epx_report.proofs.BaseLemmas.{base_says_one_thing}
 use Rattle.epx_report.specs.Bases.{IsBase}
 use Rattle.epx_report.specs.DoneAndStored.{DoneAndStored}
-use Rattle.epx_types.specs.declared.fault.Fault.{Fault}
-use Rattle.epx_types.specs.Done.{remaining}
-use Rattle.epx_types.specs.Instances.{Instance}
 use Rattle.epx_tool.specs.declared.ask.Ask.{Ask}
 use Rattle.epx_tool.specs.declared.ask.Ask.TheVariants.{Compare}
 use Rattle.epx_tool.specs.declared.findings.Answer.{Answer}

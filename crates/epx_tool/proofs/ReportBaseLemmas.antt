@@ -2,21 +2,12 @@
 use Rattle.std.proofs.Common.{◌≡◌, ◌≢◌, ◌⊎◌, ◌↔◌, ◌++◌, ℕ, List, [], ◌∷◌, length, zip, flat_map}
 use Rattle.std.proofs.Common.{Contains, AllPairs, refl, sym, ap, ◌∙◌, subst, arith}
 use Rattle.std.specs.FinMap as contents
-use Rattle.std.proofs.lemmas.List.{length-map}
-use Rattle.epx_types.specs.declared.id.Id.{Id}
-use Rattle.epx_types.specs.declared.reply.Reply.{Reply}
-use Rattle.epx_types.specs.Ids.{IsRising}
-use Rattle.epx_types.specs.Contents.{Contents}
-use Rattle.epx_types.specs.Instances.{Instance}
-use Rattle.epx_types.specs.CommittedMap.{instance_of, ops_or_empty, commands_in}
-use Rattle.epx_types.specs.Done.{remaining}
-use Rattle.epx_types.specs.Execution.{execute, Execution}
-use Rattle.epx_types.specs.ExecutionOrder.{Ranked, IsExecutionOrder, ranked_ids, component_count}
-use Rattle.epx_types.specs.WaitingLists.{Waiting, IsWaitingList, waiting_ids}
-use Rattle.epx_types.proofs.remaining.RemainingLemmas.{Contains-remaining_iff, remaining-nil}
-use Rattle.epx_types.proofs.orders.ExecutionOrderLemmas.{IsExecutionOrder-IsLawful}
-use Rattle.epx_types.proofs.commands.ExecutionLemmas.{length-replies}
-use Rattle.epx_types.proofs.lists.MembershipLemmas.{Contains-from_map}
+use Rattle.epx_types.proofs.Common.{length-map, Id, Reply, IsRising, Contents, Instance}
+use Rattle.epx_types.proofs.Common.{instance_of, ops_or_empty, commands_in, remaining, execute}
+use Rattle.epx_types.proofs.Common.{Execution, Ranked, IsExecutionOrder, ranked_ids}
+use Rattle.epx_types.proofs.Common.{component_count, Waiting, IsWaitingList, waiting_ids}
+use Rattle.epx_types.proofs.Common.{Contains-remaining_iff, remaining-nil}
+use Rattle.epx_types.proofs.Common.{IsExecutionOrder-IsLawful, length-replies, Contains-from_map}
 use Rattle.epx_report.specs.Bases.{IsBase}
 use Rattle.epx_report.specs.ReportLines.{header_line, done_line, reply_line, waiting_line}
 use Rattle.epx_report.specs.ReportLines.{store_line}

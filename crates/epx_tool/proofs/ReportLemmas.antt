@@ -1,29 +1,18 @@
 -- The report and the audit of a committed map, from the results of the lower layers.
-use Rattle.std.proofs.Common.{◌≡◌, ◌≤◌, ◌^◌, ℕ, List, [], Option, Some, None, MatchOption, inl}
-use Rattle.std.proofs.Common.{inr, length, sym, ap, ap₂, ◌∙◌, subst, arith, Contains}
+use Rattle.std.proofs.Common.{◌≡◌, ◌≤◌, ◌^◌, ℕ, List, [], Option, Some, None, MatchOption, inl, inr}
+use Rattle.std.proofs.Common.{length, sym, ap, ap₂, ◌∙◌, subst, arith, Contains}
 use Rattle.std.specs.FinMap as contents
-use Rattle.std.proofs.lemmas.List.{length-map}
-use Rattle.epx_types.specs.declared.id.Id.{Id}
-use Rattle.epx_types.specs.declared.op.Op.{Op}
-use Rattle.epx_types.specs.declared.reply.Reply.{Reply}
-use Rattle.epx_types.specs.Contents.{Contents}
-use Rattle.epx_types.specs.Instances.{Instance}
-use Rattle.epx_types.specs.Done.{remaining}
-use Rattle.epx_types.specs.Execution.{execute}
-use Rattle.epx_types.specs.ExecutionOrder.{Ranked, IsExecutionOrder, ranked_ids}
-use Rattle.epx_types.specs.WaitingLists.{Waiting, IsWaitingList}
-use Rattle.epx_types.specs.Limits.{max_instances}
-use Rattle.epx_types.specs.CommittedMap.{commands_in}
+use Rattle.epx_types.proofs.Common.{length-map, Id, Op, Reply, Contents, Instance, remaining}
+use Rattle.epx_types.proofs.Common.{execute, Ranked, IsExecutionOrder, ranked_ids, Waiting}
+use Rattle.epx_types.proofs.Common.{IsWaitingList, max_instances, commands_in, IsCovered}
+use Rattle.epx_types.proofs.Common.{Contains-remaining_iff, remaining-nil}
+use Rattle.epx_types.proofs.Common.{IsExecutionOrder-IsLawful, ordered_are_few, commands-left}
+use Rattle.epx_types.proofs.Common.{length-remaining}
 use Rattle.epx_tool.specs.Report.{IsReport, report_text}
 use Rattle.epx_tool.specs.ResumedReport.{IsReportAfter, resumed_text}
 use Rattle.epx_tool.specs.AuditText.{IsAuditText}
 use Rattle.epx_report.specs.ViewLines.{covered_line, uncovered_line}
 use Rattle.epx_audit.specs.Uncovered.{IsLeastUncovered}
-use Rattle.epx_types.specs.Conflicts.{IsCovered}
-use Rattle.epx_types.proofs.remaining.RemainingLemmas.{Contains-remaining_iff, remaining-nil}
-use Rattle.epx_types.proofs.orders.ExecutionOrderLemmas.{IsExecutionOrder-IsLawful}
-use Rattle.epx_types.proofs.orders.OrderLengthLemmas.{ordered_are_few}
-use Rattle.epx_types.proofs.remaining.RemainingCommandLemmas.{commands-left, length-remaining}
 
 module _ (done : List Id) (m : List Instance) (order : List Ranked)
     (ordered : IsExecutionOrder (remaining done m) order) (ids : List Id)

@@ -1,45 +1,25 @@
 -- The numbers and texts of a report of accepted logs are within their limits.
-use Rattle.std.proofs.Common.{◌≡◌, ℕ, suc, ◌≤◌, ◌++◌, cond, T, ℤ, w64, List, [], ◌∷◌, length}
-use Rattle.std.proofs.Common.{zip, Contains, IsUtf8, Option, Some, None, Result}
-use Rattle.std.proofs.Common.{Ok, Err, inl, inr, ap, ◌∙◌, subst, arith}
-use Rattle.std.specs.Prelude.{FitsSigned}
-use Rattle.std.specs.List.{AllByRecursion}
-use Rattle.std.specs.Ordering.{is_eq}
+use Rattle.std.proofs.Common.{◌≡◌, ℕ, suc, ◌≤◌, ◌++◌, cond, T, ℤ, w64, List, [], ◌∷◌, length, zip}
+use Rattle.std.proofs.Common.{Contains, IsUtf8, Option, Some, None, Result, Ok, Err, inl, inr, ap}
+use Rattle.std.proofs.Common.{◌∙◌, subst, arith, FitsSigned}
+use Rattle.epx_types.proofs.Common.{AllByRecursion, is_eq, is_sorted, length-map}
+use Rattle.epx_types.proofs.Common.{All-from_recursion, count_by-le-length, Id, Reply, Place, Why}
+use Rattle.epx_types.proofs.Common.{id_cmp, FitsKey, key_cmp, Contents, Instance, Placed, ids_of}
+use Rattle.epx_types.proofs.Common.{instance_of, ops_or_empty, IsCommitted, commands_in, DependsOn}
+use Rattle.epx_types.proofs.Common.{IsPath, Reaches, remaining, Ranked, ranked_ids, Waiting}
+use Rattle.epx_types.proofs.Common.{waiting_ids, Contains-remaining_iff, DependsOn-remaining}
+use Rattle.epx_types.proofs.Common.{from_remaining, IsExecutionOrder-IsLawful, key_cmp_total}
+use Rattle.epx_types.proofs.Common.{Contains-nil, Contains-head, Contains-cons, Contains-cons_cases}
+use Rattle.epx_types.proofs.Common.{Contains-from_map, Contains-from_flat_map, rising_once}
+use Rattle.epx_types.proofs.Common.{same_key, find_below, first_of, second_of, max_instances}
+use Rattle.epx_types.proofs.Common.{length-remaining, fewer, ordered_are_few}
 use Rattle.std.specs.Cmp.{tied_itself}
 use Rattle.std.specs.FinMap as contents
-use Rattle.std.specs.FinMap.{find, is_sorted}
-use Rattle.std.proofs.lemmas.List.{length-map}
-use Rattle.std.proofs.lemmas.List.Elements.{All-from_recursion}
-use Rattle.std.proofs.lemmas.List.Sums.{count_by-le-length}
-use Rattle.epx_types.specs.declared.id.Id.{Id}
-use Rattle.epx_types.specs.declared.reply.Reply.{Reply}
-use Rattle.epx_types.specs.declared.place.Place.{Place}
-use Rattle.epx_types.specs.declared.fault.Why.{Why}
-use Rattle.epx_types.specs.Ids.{id_cmp}
-use Rattle.epx_types.specs.Keys.{FitsKey, key_cmp}
-use Rattle.epx_types.specs.Contents.{Contents}
-use Rattle.epx_types.specs.Instances.{Instance}
-use Rattle.epx_types.specs.PlacedLines.{Placed}
-use Rattle.epx_types.specs.CommittedMap.{ids_of, instance_of, ops_or_empty, IsCommitted}
-use Rattle.epx_types.specs.CommittedMap.{commands_in}
-use Rattle.epx_types.specs.Reaching.{DependsOn, IsPath, Reaches}
-use Rattle.epx_types.specs.Done.{remaining}
-use Rattle.epx_types.specs.ExecutionOrder.{Ranked, ranked_ids}
-use Rattle.epx_types.specs.WaitingLists.{Waiting, waiting_ids}
-use Rattle.epx_types.proofs.remaining.RemainingLemmas.{Contains-remaining_iff, DependsOn-remaining}
-use Rattle.epx_types.proofs.remaining.RemainingLemmas.{from_remaining}
-use Rattle.epx_types.proofs.orders.ExecutionOrderLemmas.{IsExecutionOrder-IsLawful}
-use Rattle.epx_types.proofs.keys.KeyListLemmas.{key_cmp_total}
-use Rattle.epx_types.proofs.lists.MembershipLemmas.{Contains-nil, Contains-head, Contains-cons}
-use Rattle.epx_types.proofs.lists.MembershipLemmas.{Contains-cons_cases, Contains-from_map}
-use Rattle.epx_types.proofs.lists.MembershipLemmas.{Contains-from_flat_map}
-use Rattle.epx_types.proofs.lists.RisingIdLemmas.{rising_once}
-use Rattle.epx_types.proofs.keys.SortedEntryLemmas.{same_key, find_below, first_of, second_of}
+use Rattle.std.specs.FinMap.{find}
 use Rattle.epx_lines.specs.Lines.{lines_of}
 use Rattle.epx_lines.specs.Meaning.{meaning_of}
 use Rattle.epx_lines.specs.declared.Line.{Line}
 use Rattle.epx_lines.specs.declared.Line.TheVariants.{Blank, Entry}
-use Rattle.epx_types.specs.Limits.{max_instances}
 use Rattle.epx_merge.specs.LogLines.{MeaningAt, meanings_in, meanings_from, meanings_of, placed_at}
 use Rattle.epx_merge.specs.Acceptance.{IsAccepted}
 use Rattle.epx_report.specs.ReportReadings.{FitsNumbers, FitsReply, FitsReportData}
@@ -50,8 +30,6 @@ use Rattle.epx_report.proofs.BaseRangeLemmas.{FitsBase}
 use Rattle.epx_report.proofs.ExecutionRangeLemmas.{execute_fits}
 use Rattle.epx_tool.specs.ResumedReport.{IsReportAfter}
 use Rattle.epx_tool.specs.ReportedRuns.{reported_of, run_in}
-use Rattle.epx_types.proofs.remaining.RemainingCommandLemmas.{length-remaining}
-use Rattle.epx_types.proofs.orders.OrderLengthLemmas.{fewer, ordered_are_few}
 use Rattle.epx_tool.proofs.ReportBaseLemmas.{count}
 
 pub each_holds : {A : Type 0} (P : A → Type 0) (xs : List A)

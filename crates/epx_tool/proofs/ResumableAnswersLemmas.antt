@@ -1,26 +1,13 @@
 -- Each answer is a base, and resumed runs have the replies and the store of the whole.
-use Rattle.std.proofs.Common.{◌≡◌, ◌⊎◌, ◌↔◌, ℕ, zero, suc, List, [], ◌∷◌, Contains, Some}
-use Rattle.std.proofs.Common.{slice_get, zip, inl, inr, sym, ap, ap₂, ◌∙◌, subst}
+use Rattle.std.proofs.Common.{◌≡◌, ◌⊎◌, ◌↔◌, ℕ, zero, suc, List, [], ◌∷◌, Contains, Some, slice_get}
+use Rattle.std.proofs.Common.{zip, inl, inr, sym, ap, ap₂, ◌∙◌, subst}
 use Rattle.std.specs.FinMap as contents
-use Rattle.epx_types.specs.declared.id.Id.{Id}
-use Rattle.epx_types.specs.Ids.{IsRising}
-use Rattle.epx_types.specs.Contents.{Contents}
-use Rattle.epx_types.specs.Instances.{Instance}
-use Rattle.epx_types.specs.CommittedMap.{ids_of, commands_in}
-use Rattle.epx_types.specs.Done.{remaining}
-use Rattle.epx_types.specs.Execution.{execute}
-use Rattle.epx_types.specs.ExecutionOrder.{ranked_ids}
-use Rattle.epx_types.specs.LawfulOrders.{IsLawful}
-use Rattle.epx_types.specs.Readiness.{IsReady}
-use Rattle.epx_types.specs.Sound.{IsSound, HasRemaining}
-use Rattle.epx_types.proofs.remaining.RemainingLemmas.{remaining-nil}
-use Rattle.epx_types.proofs.orders.ExecutionOrderLemmas.{IsExecutionOrder-IsLawful}
-use Rattle.epx_types.proofs.lists.MembershipLemmas.{Contains-nil, Contains-head, Contains-cons}
-use Rattle.epx_types.proofs.lists.MembershipLemmas.{Contains-cons_cases}
-use Rattle.epx_types.proofs.lists.RisingIdLemmas.{same_ids}
-use Rattle.epx_types.proofs.remaining.ResumedExecutionLemmas.{IsSound-nothing_done}
-use Rattle.epx_types.proofs.remaining.ResumedExecutionLemmas.{IsSound-resumed, IsSound-final}
-use Rattle.epx_types.proofs.remaining.ResumedExecutionLemmas.{reply-resumed}
+use Rattle.epx_types.proofs.Common.{Id, IsRising, Contents, Instance, ids_of, commands_in}
+use Rattle.epx_types.proofs.Common.{remaining, execute, ranked_ids, IsLawful, IsReady, IsSound}
+use Rattle.epx_types.proofs.Common.{HasRemaining, remaining-nil, IsExecutionOrder-IsLawful}
+use Rattle.epx_types.proofs.Common.{Contains-nil, Contains-head, Contains-cons, Contains-cons_cases}
+use Rattle.epx_types.proofs.Common.{same_ids, IsSound-nothing_done, IsSound-resumed, IsSound-final}
+use Rattle.epx_types.proofs.Common.{reply-resumed}
 use Rattle.epx_merge.specs.Acceptance.{IsAccepted}
 use Rattle.epx_merge.proofs.UniquenessLemmas.{accepted_unique}
 use Rattle.epx_report.specs.Bases.{IsBase}

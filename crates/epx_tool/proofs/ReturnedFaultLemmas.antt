@@ -1,16 +1,10 @@
 -- Faults that a run returns after its sources were read, or as reading them returned it.
-use Rattle.std.proofs.Common.{◌≡◌, ◌↔◌, ◌+◌, ◌≤◌, ℕ, List, length, drop}
-use Rattle.std.proofs.Common.{Option, Some, None, Result, Ok, Err, IsErrOf, refl, sym, ap, ◌∙◌}
-use Rattle.std.proofs.Common.{subst, inl, inr}
-use Rattle.std.proofs.Common.{arith}
-use Rattle.std.proofs.lemmas.List.{drop_all}
-use Rattle.std.specs.Prelude.{OnOk, IfErr, IsErr}
-use Rattle.std.specs.Io.KnownBytes.{Keeps}
-use Rattle.epx_types.specs.declared.fault.Fault.{Fault}
-use Rattle.epx_types.specs.declared.fault.Fault.TheVariants.{Memory, TooManyLogs, LogTooLong}
-use Rattle.epx_types.specs.declared.fault.Fault.TheVariants.{BadLine, TooManyInstances, Disagree}
-use Rattle.epx_types.specs.declared.fault.Fault.TheVariants.{Read, Write}
-use Rattle.epx_types.specs.Instances.{Instance}
+use Rattle.std.proofs.Common.{◌≡◌, ◌↔◌, ◌+◌, ◌≤◌, ℕ, List, length, drop, Option, Some, None, Result}
+use Rattle.std.proofs.Common.{Ok, Err, IsErrOf, refl, sym, ap, ◌∙◌, subst, inl, inr, arith}
+use Rattle.epx_types.proofs.Common.{drop_all, OnOk, IfErr, IsErr, Keeps, Fault, TooManyLogs}
+use Rattle.epx_types.proofs.Common.{LogTooLong, BadLine, TooManyInstances, Disagree, Read, Instance}
+use Rattle.epx_types.specs.declared.fault.Fault.TheVariants.{Memory}
+use Rattle.epx_types.specs.declared.fault.Fault.TheVariants.{Write}
 use Rattle.epx_compare.specs.ComparisonAnswers.{IsComparisonRefusal}
 use Rattle.epx_merge.specs.Refusals.{FitLimits, IsRefusal}
 use Rattle.epx_devices.specs.Transfers.{IsReadLogFault}

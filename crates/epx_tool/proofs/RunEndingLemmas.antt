@@ -1,12 +1,10 @@
 -- How a run ends, by how reading its sources ended and by what it wrote.
-use Rattle.std.proofs.Common.{◌≡◌, ◌↔◌, ◌<◌, ◌≤◌, ◌||◌, ℕ, Bool, true, false, List, length}
-use Rattle.std.proofs.Common.{Result, Ok, Err, IsErrOf, refl, sym, subst, inr, arith}
-use Rattle.std.proofs.lemmas.Option.{slice_get_within}
-use Rattle.std.proofs.lemmas.Result.{on_ok_weaker, IfErr-weaker}
-use Rattle.std.specs.Io.KnownBytes.{Appends}
-use Rattle.std.specs.Prelude.{OnOk, IfErr, IsErr}
-use Rattle.epx_types.specs.declared.fault.Fault.{Fault}
-use Rattle.epx_types.specs.declared.fault.Fault.TheVariants.{TooManyLogs, Read, Write}
+use Rattle.std.proofs.Common.{◌≡◌, ◌↔◌, ◌<◌, ◌≤◌, ◌||◌, ℕ, Bool, true, false, List, length, Result}
+use Rattle.std.proofs.Common.{Ok, Err, IsErrOf, refl, sym, subst, inr, arith}
+use Rattle.epx_types.proofs.Common.{slice_get_within, on_ok_weaker, Appends, OnOk, IfErr, IsErr}
+use Rattle.epx_types.proofs.Common.{Fault, TooManyLogs, Read}
+use Rattle.std.proofs.lemmas.Result.{IfErr-weaker}
+use Rattle.epx_types.specs.declared.fault.Fault.TheVariants.{Write}
 use Rattle.epx_devices.specs.Devices.{failed_after}
 use Rattle.epx_devices.specs.Transfers.{AppendsPrefix}
 use Rattle.epx_tool.specs.RunEndings.{WritesAnswer}

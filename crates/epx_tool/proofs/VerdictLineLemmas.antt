@@ -1,6 +1,6 @@
 -- The line of a verdict says what was found of the list.
 use Rattle.std.proofs.Common.{◌≡◌, ◌≢◌, ◌⊎◌, ℕ, List, Result, Ok, Err, inl, inr}
-use Rattle.std.specs.Prelude.{MatchResult}
+use Rattle.epx_types.proofs.Common.{MatchResult}
 use Rattle.epx_ranking.specs.declared.order_fault.OrderFault.{OrderFault}
 use Rattle.epx_ranking.specs.declared.order_fault.OrderFault.TheVariants.{Memory}
 use Rattle.epx_report.specs.ViewLines.{lawful_line}

@@ -1,26 +1,17 @@
 -- Whether a key is among keys, and among those that operations touch or write.
-use Rattle.std.proofs.Common.{◌≡◌, inl, inr, ℕ, true, false, ◌||◌, List, [], ◌∷◌, flat_map}
-use Rattle.std.proofs.Common.{ℤ, Option, map, Contains, refl, sym, ap, ◌∙◌}
-use Rattle.std.specs.List.{list_any}
-use Rattle.std.specs.Ordering.{eq_by_cmp}
+use Rattle.std.proofs.Common.{◌≡◌, inl, inr, ℕ, true, false, ◌||◌, List, [], ◌∷◌, flat_map, ℤ}
+use Rattle.std.proofs.Common.{Option, map, Contains, refl, sym, ap, ◌∙◌, true≢false}
+use Rattle.epx_types.proofs.Common.{list_any, eq_by_cmp, cases_Bool, Contains-from_any}
+use Rattle.epx_types.proofs.Common.{list_any-from_Contains, Op, Reply, Values, Abort, key_cmp}
+use Rattle.epx_types.proofs.Common.{rising_keys, touched_by, written_by, touched_keys, written_keys}
+use Rattle.epx_types.proofs.Common.{command_on, Contents, writes_by, written_or_same}
+use Rattle.epx_types.proofs.Common.{written_keys-touched, after-abort, Contains-rising_keys}
+use Rattle.epx_types.proofs.Common.{Contains-from_rising_keys, key_cmp_total, same_key}
 use Rattle.std.specs.FinMap as contents
-use Rattle.std.proofs.lemmas.Bool.{cases_Bool, false_from_ne_true, true≢false}
+use Rattle.std.proofs.lemmas.Bool.{false_from_ne_true}
 use Rattle.std.proofs.lemmas.List.Folds.{list_any-append}
 use Rattle.std.proofs.lemmas.Cmp.{eq_by_cmp_equiv}
-use Rattle.std.proofs.lemmas.Map.Views.{Contains-from_any, list_any-from_Contains}
-use Rattle.epx_types.specs.declared.op.Op.{Op}
-use Rattle.epx_types.specs.declared.reply.Reply.{Reply}
-use Rattle.epx_types.specs.declared.reply.Reply.TheVariants.{Values, Abort}
-use Rattle.epx_types.specs.Keys.{key_cmp, rising_keys}
-use Rattle.epx_types.specs.CommandKeys.{touched_by, written_by, touched_keys, written_keys}
-use Rattle.epx_types.specs.Commands.{command_on}
-use Rattle.epx_types.specs.Contents.{Contents}
-use Rattle.epx_types.specs.Writes.{Write, writes_by}
-use Rattle.epx_types.proofs.commands.CommandLemmas.{written_or_same, written_keys-touched}
-use Rattle.epx_types.proofs.commands.CommandLemmas.{after-abort}
-use Rattle.epx_types.proofs.keys.KeyListLemmas.{Contains-rising_keys, Contains-from_rising_keys}
-use Rattle.epx_types.proofs.keys.KeyListLemmas.{key_cmp_total}
-use Rattle.epx_types.proofs.keys.SortedEntryLemmas.{same_key}
+use Rattle.epx_types.specs.Writes.{Write}
 use Rattle.epx_trace.specs.Traces.{has_key, writes_key}
 
 Contains-from_has_key : (ks : List (List ℕ)) (k : List ℕ) → has_key ks k ≡ true → Contains ks k

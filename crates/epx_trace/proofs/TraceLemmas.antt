@@ -1,14 +1,9 @@
 -- Traces: what the laws say of them.
-use Rattle.std.proofs.Common.{◌≡◌, inl, inr, ℕ, ℤ, List, [], ◌∷◌}
-use Rattle.std.proofs.Common.{Option, flat_map, fold, refl, sym, ap, subst, ◌∙◌}
+use Rattle.std.proofs.Common.{◌≡◌, inl, inr, ℕ, ℤ, List, [], ◌∷◌, Option, flat_map, fold, refl, sym}
+use Rattle.std.proofs.Common.{ap, subst, ◌∙◌}
 use Rattle.std.specs.FinMap as contents
-use Rattle.std.proofs.lemmas.Bool.{cases_Bool}
-use Rattle.epx_types.specs.Commands.{command_on}
-use Rattle.epx_types.specs.CommandKeys.{touched_keys}
-use Rattle.epx_types.specs.Contents.{Contents}
-use Rattle.epx_types.specs.ExecutionOrder.{Ranked}
-use Rattle.epx_types.proofs.orders.ExecutionOrderLemmas.{IsExecutionOrder-unique}
-use Rattle.epx_types.proofs.orders.OrderExistenceLemmas.{execution_order_exists}
+use Rattle.epx_types.proofs.Common.{cases_Bool, command_on, touched_keys, Contents, Ranked}
+use Rattle.epx_types.proofs.Common.{IsExecutionOrder-unique, execution_order_exists}
 use Rattle.epx_trace.specs.Traces.{IdCommand, has_key, writes_key, touch_of, trace_of}
 use Rattle.epx_trace.specs.TraceLaws.{value_before, value_left, FindLastWrites}
 use Rattle.epx_trace.specs.TraceLaws.{TraceTextExists, TraceTextIsUnique}

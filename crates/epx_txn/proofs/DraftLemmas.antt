@@ -1,16 +1,10 @@
 -- Reading through a draft, and writing to it.
-use Rattle.std.proofs.Common.{◌≡◌, ℕ, ℤ, ◌∙◌, sym, ap, List, [], ◌∷◌, Option, Some, None}
-use Rattle.std.proofs.Common.{unwrap_or, map, subst}
+use Rattle.std.proofs.Common.{◌≡◌, ℕ, ℤ, ◌∙◌, sym, ap, List, [], ◌∷◌, Option, Some, None, unwrap_or}
+use Rattle.std.proofs.Common.{map, subst}
 use Rattle.std.specs.FinMap as contents
 use Rattle.std.specs.FinMap.{entries-insert}
-use Rattle.epx_types.specs.Keys.{add_keys}
-use Rattle.epx_types.specs.Contents.{Contents, assign}
-use Rattle.epx_types.specs.Operations.{operate}
-use Rattle.epx_types.specs.CommandKeys.{written_by}
-use Rattle.epx_types.specs.declared.op.Op.{Op}
-use Rattle.epx_types.proofs.keys.KeyListLemmas.{key_cmp_total}
-use Rattle.epx_types.proofs.keys.SortedEntryLemmas.{keys_of-put}
-use Rattle.epx_types.proofs.commands.WriteLemmas.{get-put_entries, put_entries-insert}
+use Rattle.epx_types.proofs.Common.{add_keys, Contents, assign, operate, written_by, Op}
+use Rattle.epx_types.proofs.Common.{key_cmp_total, keys_of-put, get-put_entries, put_entries-insert}
 use Rattle.epx_txn.specs.declared.draft.Step.TheVariants.{Done}
 use Rattle.epx_txn.specs.inner.Drafts.{Draft, contents_through, IsStepOf, AddsKeys}
 

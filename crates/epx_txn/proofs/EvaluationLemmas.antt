@@ -3,20 +3,12 @@ use Rattle.std.proofs.Common.{◌≡◌, ℕ, suc, ℤ, ◌+◌, ◌<◌, ◌≤
 use Rattle.std.proofs.Common.{length, map, flat_map, get_or, drop, append-nil, add-one, Option}
 use Rattle.std.proofs.Common.{Some, subst}
 use Rattle.std.specs.FinMap as contents
-use Rattle.std.specs.FinMap.{entries_sorted}
-use Rattle.epx_types.specs.Keys.{add_keys}
-use Rattle.epx_types.specs.Contents.{Contents}
-use Rattle.epx_types.specs.Commands.{Outcome, unless_aborted, operate_all, command_on}
-use Rattle.epx_types.specs.Operations.{operate}
-use Rattle.epx_types.specs.CommandKeys.{written_by, written_keys}
-use Rattle.epx_types.specs.Writes.{writes_by, writes_of, apply_writes}
-use Rattle.epx_types.specs.declared.op.Op.{Op}
+use Rattle.epx_types.proofs.Common.{entries_sorted, add_keys, Contents, Outcome, unless_aborted}
+use Rattle.epx_types.proofs.Common.{operate_all, command_on, operate, written_by, written_keys}
+use Rattle.epx_types.proofs.Common.{writes_by, writes_of, apply_writes, Op, entries-empty}
+use Rattle.epx_types.proofs.Common.{add_keys-append, read_after_writes, drop_all}
 use Rattle.epx_types.specs.declared.reply.Reply.TheVariants as reply
-use Rattle.epx_types.proofs.keys.SortedEntryLemmas.{entries-empty}
-use Rattle.epx_types.proofs.keys.KeyListLemmas.{add_keys-append}
-use Rattle.epx_types.proofs.commands.WriteLemmas.{read_after_writes}
 use Rattle.epx_store.proofs.DropLemmas.{drop_at_index}
-use Rattle.std.proofs.lemmas.List.{drop_all}
 use Rattle.epx_txn.specs.declared.draft.Step.TheVariants.{Read, Done, Abort}
 use Rattle.epx_txn.specs.inner.Drafts.{Draft, contents_through, IsStepOf, AddsKeys}
 

@@ -1,6 +1,6 @@
 -- A batch has all lines but some blank ones, which commit nothing and are not bad.
 use Rattle.std.proofs.Common.{◌≡◌, ◌∙◌, ◌++◌, ◌∷◌, List, [], Ok, inl, inr, flat_map, sym, ap}
-use Rattle.epx_types.proofs.lists.MembershipLemmas.{Contains-nil}
+use Rattle.epx_types.proofs.Common.{Contains-nil}
 use Rattle.epx_lines.specs.declared.Line.TheVariants.{Blank}
 use Rattle.epx_merge.specs.LogLines.{MeaningAt, bad_lines_among, bad_lines_at}
 use Rattle.epx_merge.specs.LogLines.{placed_among, placed_at}

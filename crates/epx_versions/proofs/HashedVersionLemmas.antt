@@ -1,12 +1,9 @@
 -- Versions that are found by their hashes.
 use Rattle.std.proofs.Common.{◌≡◌, ◌∙◌, ◌==◌, ◌&&◌, ◌||◌, ℕ, Bool, true, false, cond, List, [], ◌∷◌}
 use Rattle.std.proofs.Common.{◌++◌, map, refl, sym, ap, arith}
-use Rattle.std.specs.List.{list_any}
-use Rattle.std.proofs.lemmas.Bool.Decides.{nat_tests}
-use Rattle.std.proofs.lemmas.List.{map_push}
+use Rattle.epx_types.proofs.Common.{list_any, nat_tests, map_push, Instance}
 use Rattle.indexmap.specs.IndexSet.{insert_key}
 use Rattle.epx_seed.specs.declared.Seed.{Seed}
-use Rattle.epx_types.specs.Instances.{Instance}
 use Rattle.epx_versions.specs.declared.hashed_version.HashedVersion.{HashedVersion}
 use Rattle.epx_versions.specs.SameInstances.{same_instance}
 use Rattle.epx_versions.specs.inner.EqualVersions.{instances_decide}

@@ -2,24 +2,16 @@
 use Rattle.std.proofs.Common.{◌≡◌, ◌∙◌, ◌∷◌, ◌++◌, ℕ, List, [], Option, None, Some, Result, Ok}
 use Rattle.std.proofs.Common.{slice_get, refl, sym, ap, option_map, ◌==◌, Bool, true, false, cond}
 use Rattle.std.proofs.Common.{◌<◌, length, map, arith}
-use Rattle.std.proofs.lemmas.Bool.Decides.{nat_tests}
-use Rattle.std.proofs.lemmas.List.{length-map}
-use Rattle.std.proofs.lemmas.Option.{slice_get_within}
+use Rattle.epx_types.proofs.Common.{nat_tests, length-map, slice_get_within, Why, Instance}
 use Rattle.epx_seed.specs.declared.Seed.{Seed}
 use Rattle.epx_types.proofs.lists.ListPositionLemmas.{slice_get-map}
-use Rattle.epx_types.specs.declared.fault.Why.{Why}
-use Rattle.epx_types.specs.Instances.{Instance}
 use Rattle.epx_lines.specs.declared.Line.{Line}
 use Rattle.epx_lines.specs.declared.Line.TheVariants.{Entry}
-use Rattle.epx_versions.specs.declared.hashed_version.HashedVersion.{HashedVersion}
 use Rattle.epx_versions.specs.declared.read_line.ReadLine.{ReadLine}
 use Rattle.epx_versions.specs.declared.read_line.ReadLine.TheVariants as read
 use Rattle.epx_versions.specs.inner.BatchNotes.{KeepsNumbers}
-use Rattle.epx_versions.specs.inner.HashedVersions.{IsHashed}
-use Rattle.epx_versions.specs.VersionLists.{hash_by}
 use Rattle.epx_versions.specs.KnownLines.{AreKnown, meaning_of_version}
 use Rattle.epx_versions.specs.ReadMeanings.{meaning_in}
-use Rattle.epx_versions.proofs.VersionLemmas.{slice_get-grown}
 
 abbrev pub line_of : Instance → Result Line Why
 line_of e = Ok (Entry e)
@@ -88,12 +80,6 @@ module _ (old new : List Instance)
 
 -- ---- more lines in the cache
 
--- the lines of a cache keep their numbers when a line is added, or not
-pub numbers_kept_by : (added : Bool) (old : List (Result Line Why)) (m : Result Line Why)
-    → KeepsNumbers old (cond added (old ++ m ∷ []) old)
-numbers_kept_by true old m n line h = slice_get-grown old (m ∷ []) n line h
-numbers_kept_by false old m n line h = h
-
 -- a line that was read beside the old cache means the same beside the new one
 pub meaning_grown : (seed : Seed) (old new : List (Result Line Why)) → KeepsNumbers old new
     → (r : ReadLine) (m : Result Line Why) → meaning_in seed old r ≡ Some m
@@ -112,11 +98,3 @@ module _ (hash own : ℕ) (line m : Result Line Why) where
       let same : hash ≡ own = grind (arith, nat_tests) in
       let means : m ≡ line = cc h in (same, means)
   fresh false test h = absurd (cc h)
-
--- a line that the cache lacks has a version with its own hash
-pub fresh_read : (seed : Seed) (cache : List (Result Line Why)) (v : HashedVersion) (bytes : ℕ)
-    (m : Result Line Why) → meaning_in seed cache (read.Fresh v bytes) ≡ Some m
-    → IsHashed seed v × (m ≡ Ok (Entry v.version))
-fresh_read seed cache v bytes m h =
-    fresh v.hash (hash_by seed v.version) (line_of v.version) m
-    (v.hash == hash_by seed v.version) refl h

@@ -1,13 +1,10 @@
 -- Lines that are noted one after another.
-use Rattle.std.proofs.Common.{◌≡◌, ◌∙◌, ◌∷◌, ◌++◌, List, [], Result, Ok, Err, sym, ap, subst}
-use Rattle.std.proofs.Common.{refl, append-nil}
+use Rattle.std.proofs.Common.{◌≡◌, ◌∙◌, ◌∷◌, ◌++◌, List, [], Result, Ok, Err, sym, ap, subst, refl}
+use Rattle.std.proofs.Common.{append-nil}
 use Rattle.std.proofs.lemmas.List.Concat.{flat_map-append}
-use Rattle.epx_types.specs.declared.fault.Why.{Why}
-use Rattle.epx_types.specs.declared.place.Place.{Place}
-use Rattle.epx_types.specs.Instances.{Instance}
-use Rattle.epx_types.specs.PlacedLines.{Placed}
+use Rattle.epx_types.proofs.Common.{Why, Place, Instance, Placed}
 use Rattle.epx_lines.specs.declared.Line.{Line}
-use Rattle.epx_lines.specs.declared.Line.TheVariants.{Blank, Entry}
+use Rattle.epx_lines.specs.declared.Line.TheVariants.{Entry}
 use Rattle.epx_merge.specs.LogLines.{BadLineAt, MeaningAt, bad_lines_among, bad_lines_at}
 use Rattle.epx_merge.specs.LogLines.{placed_among, placed_at}
 use Rattle.epx_merge.specs.RedundantLines.{DropsCached}
@@ -63,14 +60,6 @@ module _ (notes : VersionNotes) (cache : List (Result Line Why)) where
         (sym (bad_lines_among-append lines (line ∷ [])
         ∙ ap (λ bs. bad_lines_among lines ++ bs)
         (append-nil (bad_lines_at line.place line.meaning)))) here
-
-    pub noted_blank : line.meaning ≡ Ok Blank → AreNotedLines lines notes cache []
-        → AreNotedLines (lines ++ line ∷ []) notes cache []
-    noted_blank means h = noted_with (Ok Blank) means
-        (subst (λ ps. AreNotedAs ps (bad_lines_among lines ++ []))
-        (sym (append-nil (placed_among lines)))
-        (subst (AreNotedAs (placed_among lines)) (sym (append-nil (bad_lines_among lines)))
-        (h.rows, h.hashed, h.texts)))
 
     pub noted_entry : (e : Instance) (at : Place) → at ≡ line.place → line.meaning ≡ Ok (Entry e)
         → AreNotedAs (placed_among lines ++ record { place = at; instance = e } ∷ [])

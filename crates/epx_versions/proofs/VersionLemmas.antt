@@ -1,14 +1,13 @@
 -- What lines commit, after one more line.
-use Rattle.std.proofs.Common.{◌≡◌, ◌∙◌, ℕ, zero, suc, Bool, true, false, cond, not, ◌||◌}
-use Rattle.std.proofs.Common.{◌&&◌, List, [], ◌∷◌, ◌++◌, Some, refl, sym, ap}
-use Rattle.std.proofs.Common.{slice_get, filter, append-nil, append_assoc}
-use Rattle.std.specs.List.{list_any, AllZip, Contains}
-use Rattle.std.proofs.lemmas.List.Elements.{filter-append}
-use Rattle.std.proofs.lemmas.Map.Views.{any-filter_same, list_any-from_Contains}
+use Rattle.std.proofs.Common.{◌≡◌, ◌∙◌, ℕ, zero, suc, Bool, true, false, cond, not, ◌||◌, ◌&&◌}
+use Rattle.std.proofs.Common.{List, [], ◌∷◌, ◌++◌, Some, refl, sym, ap, slice_get, filter}
+use Rattle.std.proofs.Common.{append-nil, append_assoc}
+use Rattle.epx_types.proofs.Common.{list_any, AllZip, filter-append, list_any-from_Contains}
+use Rattle.epx_types.proofs.Common.{Instance, Placed}
+use Rattle.std.specs.List.{Contains}
+use Rattle.std.proofs.lemmas.Map.Views.{any-filter_same}
 use Rattle.indexmap.specs.IndexSet.{insert_key}
 use Rattle.indexmap.proofs.SetLemmas.{AllZip-push}
-use Rattle.epx_types.specs.Instances.{Instance}
-use Rattle.epx_types.specs.PlacedLines.{Placed}
 use Rattle.epx_versions.specs.LineVersions.{versions_of}
 use Rattle.epx_versions.specs.SameInstances.{same_instance}
 use Rattle.epx_versions.specs.inner.EqualVersions.{same_by_test, same_instance_equiv}

@@ -1,12 +1,8 @@
 -- The text of the conflict levels of a map, put together from its parts.
 use Rattle.std.proofs.Common.{◌≡◌, ◌++◌, ◌∙◌, ℕ, List, length, flat_map, zip, ap, subst}
-use Rattle.std.proofs.lemmas.List.{append_assoc}
-use Rattle.epx_types.specs.declared.id.Id.{Id}
-use Rattle.epx_types.specs.Instances.{Instance}
-use Rattle.epx_types.specs.CommittedMap.{commands_in}
-use Rattle.epx_types.specs.ExecutionOrder.{Ranked, IsExecutionOrder, ranked_ids, component_count}
-use Rattle.epx_types.specs.Levels.{AreLevels}
-use Rattle.epx_types.specs.WaitingLists.{Waiting, IsWaitingList}
+use Rattle.epx_types.proofs.Common.{append_assoc, Id, Instance, commands_in, Ranked}
+use Rattle.epx_types.proofs.Common.{IsExecutionOrder, ranked_ids, component_count, AreLevels}
+use Rattle.epx_types.proofs.Common.{Waiting, IsWaitingList}
 use Rattle.epx_report.specs.ReportLines.{header_line, waiting_line}
 use Rattle.epx_report.specs.ViewLines.{level_line}
 use Rattle.epx_views.specs.LevelText.{IsLevelText}

@@ -1,22 +1,14 @@
 -- Paths over the nodes of the graph of a map are paths of dependencies.
-use Rattle.std.proofs.Common.{◌≡◌, ◌≢◌, ℕ, zero, suc, ◌+◌, ◌<◌, ◌≤◌, List, [], ◌∷◌, ◌++◌}
-use Rattle.std.proofs.Common.{length, map, Contains, Option, Some, slice_get, refl, sym, ap, ap₂}
-use Rattle.std.proofs.Common.{subst, ◌∙◌, arith}
-use Rattle.std.proofs.lemmas.Option.{slice_get-get_or, get_or_from_slice_get}
-use Rattle.epx_types.specs.declared.id.Id.{Id}
-use Rattle.epx_types.specs.Instances.{Instance}
-use Rattle.epx_types.specs.CommittedMap.{IsCommitted}
-use Rattle.epx_types.specs.Reaching.{DependsOn, IsPath}
-use Rattle.epx_types.proofs.graph.DependencyLemmas.{DependsOn-committed}
-use Rattle.epx_graph.specs.Graphs.{DependencyGraph, edges_of}
-use Rattle.epx_graph.specs.GraphOf.{IsGraphOf}
-use Rattle.epx_graph.specs.NodePaths.{IsNodePath}
-use Rattle.epx_graph.proofs.GraphNodeLemmas.{edge_within}
-use Rattle.epx_graph.proofs.MapPathLemmas.{node_of_dependency}
+use Rattle.std.proofs.Common.{◌≡◌, ◌≢◌, ℕ, zero, suc, ◌+◌, ◌<◌, ◌≤◌, List, [], ◌∷◌, ◌++◌, length}
+use Rattle.std.proofs.Common.{map, Contains, Option, Some, slice_get, refl, sym, ap, ap₂, subst}
+use Rattle.std.proofs.Common.{◌∙◌, arith}
+use Rattle.epx_types.proofs.Common.{slice_get-get_or, get_or_from_slice_get, Id, Instance}
+use Rattle.epx_types.proofs.Common.{IsCommitted, DependsOn, IsPath, DependsOn-committed}
+use Rattle.epx_graph.proofs.Common.{DependencyGraph, edges_of, IsGraphOf, IsNodePath, edge_within}
+use Rattle.epx_graph.proofs.Common.{node_of_dependency, LeadsTo, AreLeast, distance_at}
+use Rattle.epx_graph.proofs.Common.{LeadsTo-node_path}
 use Rattle.epx_why.specs.Distances.{IsDistance}
-use Rattle.epx_graph.specs.NodeSteps.{LeadsTo, AreLeast, distance_at}
 use Rattle.epx_why.specs.inner.NodeWalks.{id_at}
-use Rattle.epx_graph.proofs.NodeStepLemmas.{LeadsTo-node_path}
 
 pub id_at-is : (g : DependencyGraph) (k : ℕ) (x : Id) → slice_get g.ids k ≡ Some x → id_at g k ≡ x
 id_at-is g k x at = get_or_from_slice_get g.ids k x (record { replica = 0; number = 0 }) at

@@ -1,19 +1,9 @@
 -- What waiting instances need, and which instances need a missing one.
-use Rattle.std.proofs.Common.{◌≡◌, List, [], ◌∷◌, map, Contains, refl, sym, ap, subst}
-use Rattle.std.proofs.Common.{inl, inr}
-use Rattle.epx_types.specs.declared.id.Id.{Id}
-use Rattle.epx_types.specs.Ids.{Below, IsRising, UpTo}
-use Rattle.epx_types.specs.Instances.{Instance}
-use Rattle.epx_types.specs.CommittedMap.{IsCommitted}
-use Rattle.epx_types.specs.Reaching.{IsPath}
-use Rattle.epx_types.proofs.graph.DependencyLemmas.{DependsOn-committed}
-use Rattle.epx_types.proofs.lists.ComparisonLemmas.{id_cmp_total}
-use Rattle.epx_types.proofs.lists.ListPositionLemmas.{AllPairs-head}
-use Rattle.epx_types.proofs.lists.MembershipLemmas.{Contains-nil, Contains-head, Contains-map}
-use Rattle.epx_types.proofs.lists.MembershipLemmas.{Contains-cons_cases}
-use Rattle.epx_types.proofs.lists.RisingIdLemmas.{AllPairs-from_IsRising}
-use Rattle.epx_types.proofs.lists.TotalOrderLemmas.{below_asymm}
-use Rattle.epx_types.proofs.orders.RankExistenceLemmas.{ready_or_waits}
+use Rattle.std.proofs.Common.{◌≡◌, List, [], ◌∷◌, map, Contains, refl, sym, ap, subst, inl, inr}
+use Rattle.epx_types.proofs.Common.{Id, Below, IsRising, UpTo, Instance, IsCommitted, IsPath}
+use Rattle.epx_types.proofs.Common.{DependsOn-committed, id_cmp_total, AllPairs-head, Contains-nil}
+use Rattle.epx_types.proofs.Common.{Contains-head, Contains-map, Contains-cons_cases}
+use Rattle.epx_types.proofs.Common.{AllPairs-from_IsRising, below_asymm, ready_or_waits}
 use Rattle.epx_why.specs.declared.need.Need.{Need}
 use Rattle.epx_why.specs.WhyLaws.{NeedsBeginWithTheMissing, NeedingInstancesWait}
 use Rattle.epx_why.proofs.TextExistenceLemmas.{distance_of_path}

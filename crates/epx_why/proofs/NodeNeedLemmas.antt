@@ -1,29 +1,17 @@
 -- The needs of a range of nodes, node by node; and what they are over the map.
 use Rattle.std.proofs.Common.{◌≡◌, ◌≢◌, ◌⊎◌, inl, inr, ℕ, ◌+◌, ◌<◌, ◌≤◌, List, [], ◌∷◌, ◌++◌, map}
 use Rattle.std.proofs.Common.{length, Contains, Option, Some, None, slice_get, sym, ap, subst}
-use Rattle.std.proofs.Common.{subst₂}
-use Rattle.std.proofs.Common.{◌∙◌, arith}
-use Rattle.std.proofs.lemmas.Bool.{cases_lt}
-use Rattle.std.proofs.lemmas.List.{map_push}
-use Rattle.std.proofs.lemmas.List.Elements.{Contains-append_left, Contains-push}
-use Rattle.std.proofs.lemmas.List.Elements.{Contains-push_cases}
-use Rattle.std.proofs.lemmas.Option.{slice_get_within}
-use Rattle.epx_types.specs.declared.id.Id.{Id}
-use Rattle.epx_types.specs.Ids.{Below, IsRising}
-use Rattle.epx_types.specs.Instances.{Instance}
-use Rattle.epx_types.specs.CommittedMap.{IsCommitted}
-use Rattle.epx_types.proofs.lists.MembershipLemmas.{Contains-from_map}
-use Rattle.epx_types.proofs.lists.RisingIdLemmas.{IsRising-push}
-use Rattle.epx_graph.specs.Graphs.{DependencyGraph, edges_of, IsGraph}
-use Rattle.epx_graph.specs.GraphOf.{IsGraphOf}
-use Rattle.epx_graph.proofs.GraphNodeLemmas.{committed_order, missing_order}
-use Rattle.epx_graph.proofs.MapPathLemmas.{reached_node, node_of_committed}
-use Rattle.epx_graph.proofs.MapPathLemmas.{missing_number, missing_id}
+use Rattle.std.proofs.Common.{subst₂, ◌∙◌, arith}
+use Rattle.epx_types.proofs.Common.{cases_lt, map_push, Contains-append_left, Contains-push}
+use Rattle.epx_types.proofs.Common.{Contains-push_cases, slice_get_within, Id, Below, IsRising}
+use Rattle.epx_types.proofs.Common.{Instance, IsCommitted, Contains-from_map, IsRising-push}
+use Rattle.epx_graph.proofs.Common.{DependencyGraph, edges_of, IsGraph, IsGraphOf, committed_order}
+use Rattle.epx_graph.proofs.Common.{missing_order, reached_node, node_of_committed, missing_number}
+use Rattle.epx_graph.proofs.Common.{missing_id, LeadsTo, AreDistancesFrom, AreDistancesTo}
+use Rattle.epx_graph.proofs.Common.{distance_at}
 use Rattle.epx_why.specs.declared.need.Need.{Need}
 use Rattle.epx_why.specs.Distances.{IsDistance}
 use Rattle.epx_why.specs.Needs.{AreNeedsOf, AreNeeding}
-use Rattle.epx_graph.specs.NodeSteps.{LeadsTo, AreDistancesFrom, AreDistancesTo}
-use Rattle.epx_graph.specs.NodeSteps.{distance_at}
 use Rattle.epx_why.specs.inner.NodeNeeds.{IsNeedAt, AreNeedsIn}
 use Rattle.epx_why.proofs.MapStepLemmas.{distance_is, distance_leads, AreLeast-fewest}
 use Rattle.epx_why.proofs.MapStepLemmas.{AreLeast-known, IsPath-start_committed}

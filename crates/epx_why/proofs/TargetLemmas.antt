@@ -2,15 +2,10 @@
 use Rattle.std.proofs.Common.{◌≡◌, ◌⊎◌, inl, inr, ℕ, ◌+◌, ◌<◌, min, List, [], ◌∷◌, ◌++◌, take}
 use Rattle.std.proofs.Common.{length, get_or, Contains, Option, Some, None, MatchOption, sym, ap}
 use Rattle.std.proofs.Common.{subst, ◌∙◌, arith}
-use Rattle.std.proofs.lemmas.Bool.{cases_lt}
-use Rattle.std.proofs.lemmas.List.{take_more}
-use Rattle.std.proofs.lemmas.List.Elements.{Contains-append_left, Contains-push}
-use Rattle.std.proofs.lemmas.List.Elements.{Contains-push_cases}
-use Rattle.epx_types.specs.Ids.{Below, UpTo}
-use Rattle.epx_types.proofs.lists.ComparisonLemmas.{id_cmp_total, id_cmp-IsAntisymmetric}
-use Rattle.epx_types.proofs.lists.TotalOrderLemmas.{below_cases, below_trans}
-use Rattle.epx_graph.specs.Graphs.{DependencyGraph}
-use Rattle.epx_graph.specs.NodeSteps.{distance_at}
+use Rattle.epx_types.proofs.Common.{cases_lt, take_more, Contains-append_left, Contains-push}
+use Rattle.epx_types.proofs.Common.{Contains-push_cases, Below, UpTo, id_cmp_total}
+use Rattle.epx_types.proofs.Common.{id_cmp-IsAntisymmetric, below_cases, below_trans}
+use Rattle.epx_graph.proofs.Common.{DependencyGraph, distance_at}
 use Rattle.epx_why.specs.inner.NodeWalks.{id_at, AreFewest, AreNext}
 
 module _ (distances : List (Option ℕ)) (targets : List ℕ) (x : ℕ) where

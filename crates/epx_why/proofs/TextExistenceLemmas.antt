@@ -1,28 +1,15 @@
 -- Each instance has a text that says why, and each two have a text of a path.
 use Rattle.std.proofs.Common.{◌≡◌, ◌⊎◌, inl, inr, ℕ, zero, suc, ◌+◌, ◌<◌, ◌≤◌, List, [], ◌∷◌, ◌++◌}
-use Rattle.std.proofs.Common.{length, map, flat_map, codes, Contains, refl, sym, ap, subst}
-use Rattle.std.proofs.Common.{◌∙◌, arith}
-use Rattle.std.proofs.lemmas.Bool.{cases_lt}
-use Rattle.epx_types.specs.declared.id.Id.{Id}
-use Rattle.epx_types.specs.Ids.{IsRising, UpTo}
-use Rattle.epx_types.specs.Instances.{Instance}
-use Rattle.epx_types.specs.CommittedMap.{ids_of, IsCommitted}
-use Rattle.epx_types.specs.Reaching.{DependsOn, IsPath, Reaches}
-use Rattle.epx_types.specs.Readiness.{IsReady, WaitsFor}
-use Rattle.epx_types.proofs.lists.ComparisonLemmas.{id_cmp_total, id_cmp-IsAntisymmetric}
-use Rattle.epx_types.proofs.lists.ListPositionLemmas.{slice_get-from_Contains}
-use Rattle.epx_types.proofs.lists.MembershipLemmas.{Contains-nil, Contains-head, Contains-cons}
-use Rattle.epx_types.proofs.lists.MembershipLemmas.{Contains-cons_cases, Contains-flat_map}
-use Rattle.epx_types.proofs.lists.MembershipLemmas.{Contains-from_map}
-use Rattle.epx_types.proofs.lists.RisingIdLemmas.{IsRising-from_AllPairs}
-use Rattle.epx_types.proofs.lists.RisingListLemmas.{rising_list}
-use Rattle.epx_types.proofs.lists.SearchLemmas.{some_or_none, least_or_none}
-use Rattle.epx_types.proofs.graph.ReachingDecisionLemmas.{both_cases, Reaches-cases}
-use Rattle.epx_types.proofs.graph.ReachingDecisionLemmas.{DependsOn-cases}
-use Rattle.epx_types.proofs.graph.WaitingLemmas.{Contains-Id_cases}
-use Rattle.epx_types.proofs.orders.ExecutionOrderLemmas.{IsExecutionOrder-ranked}
-use Rattle.epx_types.proofs.orders.OrderExistenceLemmas.{execution_order_exists}
-use Rattle.epx_types.proofs.orders.RankExistenceLemmas.{ready_or_waits}
+use Rattle.std.proofs.Common.{length, map, flat_map, codes, Contains, refl, sym, ap, subst, ◌∙◌}
+use Rattle.std.proofs.Common.{arith}
+use Rattle.epx_types.proofs.Common.{cases_lt, Id, IsRising, UpTo, Instance, ids_of, IsCommitted}
+use Rattle.epx_types.proofs.Common.{DependsOn, IsPath, Reaches, IsReady, WaitsFor, id_cmp_total}
+use Rattle.epx_types.proofs.Common.{id_cmp-IsAntisymmetric, slice_get-from_Contains, Contains-nil}
+use Rattle.epx_types.proofs.Common.{Contains-head, Contains-cons, Contains-cons_cases}
+use Rattle.epx_types.proofs.Common.{Contains-flat_map, Contains-from_map, IsRising-from_AllPairs}
+use Rattle.epx_types.proofs.Common.{rising_list, some_or_none, least_or_none, both_cases}
+use Rattle.epx_types.proofs.Common.{Reaches-cases, DependsOn-cases, Contains-Id_cases}
+use Rattle.epx_types.proofs.Common.{IsExecutionOrder-ranked, execution_order_exists, ready_or_waits}
 use Rattle.epx_report.specs.ReportLines.{waiting_line}
 use Rattle.epx_report.specs.ViewLines.{missing_line}
 use Rattle.epx_why.specs.declared.need.Need.{Need}

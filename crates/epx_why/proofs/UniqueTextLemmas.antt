@@ -1,20 +1,11 @@
 -- There is at most one text about an instance, and one of a path.
-use Rattle.std.proofs.Common.{◌≡◌, inl, inr, ℕ, List, [], ◌∷◌, ◌++◌}
-use Rattle.std.proofs.Common.{flat_map, codes, Some, slice_get, refl, sym, ap, ap₂, subst, ◌∙◌}
-use Rattle.std.proofs.Common.{arith}
-use Rattle.std.proofs.lemmas.Bool.{cases_lt}
-use Rattle.epx_types.specs.declared.id.Id.{Id}
-use Rattle.epx_types.specs.Ids.{Below}
-use Rattle.epx_types.specs.Instances.{Instance}
-use Rattle.epx_types.specs.ExecutionOrder.{Ranked, RanksBelow}
-use Rattle.epx_types.specs.Readiness.{IsReady}
-use Rattle.epx_types.proofs.lists.ComparisonLemmas.{id_cmp_total, rank_cmp_total}
-use Rattle.epx_types.proofs.lists.ListPositionLemmas.{AllPairs-slice_get, Contains-slice_get}
-use Rattle.epx_types.proofs.lists.RisingIdLemmas.{AllPairs-from_rising_ids}
-use Rattle.epx_types.proofs.lists.TotalOrderLemmas.{below_irrefl, below_trans, below_asymm}
-use Rattle.epx_types.proofs.lists.TotalOrderLemmas.{same_rising}
-use Rattle.epx_types.proofs.graph.ReachingLemmas.{WaitsFor-unique, IsReady-not_waiting}
-use Rattle.epx_types.proofs.orders.ExecutionOrderLemmas.{IsRanked-unique, IsExecutionOrder-unique}
+use Rattle.std.proofs.Common.{◌≡◌, inl, inr, ℕ, List, [], ◌∷◌, ◌++◌, flat_map, codes, Some}
+use Rattle.std.proofs.Common.{slice_get, refl, sym, ap, ap₂, subst, ◌∙◌, arith}
+use Rattle.epx_types.proofs.Common.{cases_lt, Id, Below, Instance, Ranked, RanksBelow, IsReady}
+use Rattle.epx_types.proofs.Common.{id_cmp_total, rank_cmp_total, AllPairs-slice_get}
+use Rattle.epx_types.proofs.Common.{Contains-slice_get, AllPairs-from_rising_ids, below_irrefl}
+use Rattle.epx_types.proofs.Common.{below_trans, below_asymm, same_rising, WaitsFor-unique}
+use Rattle.epx_types.proofs.Common.{IsReady-not_waiting, IsRanked-unique, IsExecutionOrder-unique}
 use Rattle.epx_report.specs.ReportLines.{waiting_line}
 use Rattle.epx_report.specs.ViewLines.{missing_line}
 use Rattle.epx_why.specs.declared.need.Need.{Need}

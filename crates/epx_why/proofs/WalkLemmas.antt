@@ -1,24 +1,15 @@
 -- The walk by next nodes is the first of the shortest paths.
-use Rattle.std.proofs.Common.{◌≡◌, inl, inr, ℕ, suc, ◌<◌, ◌≤◌, List, [], ◌∷◌, ◌++◌}
-use Rattle.std.proofs.Common.{length, map, Contains, Option, Some, slice_get, refl, sym, ap}
-use Rattle.std.proofs.Common.{subst, subst₂, ◌∙◌, arith, All}
-use Rattle.std.proofs.lemmas.List.{append_assoc, append-nil}
-use Rattle.std.proofs.lemmas.List.Elements.{All-nil, All-cons}
-use Rattle.epx_types.specs.declared.id.Id.{Id}
-use Rattle.epx_types.specs.Ids.{UpTo}
-use Rattle.epx_types.specs.Instances.{Instance}
-use Rattle.epx_types.specs.Reaching.{IsPath}
-use Rattle.epx_graph.specs.Graphs.{DependencyGraph, edges_of, IsGraph}
-use Rattle.epx_graph.specs.GraphOf.{IsGraphOf}
-use Rattle.epx_graph.specs.NodePaths.{IsNodePath}
-use Rattle.epx_graph.proofs.GraphNodeLemmas.{edge_within, node_is_unique}
-use Rattle.epx_graph.proofs.MapPathLemmas.{node_of_committed, reached_node}
-use Rattle.epx_types.proofs.lists.ListPositionLemmas.{Contains-slice_get}
+use Rattle.std.proofs.Common.{◌≡◌, inl, inr, ℕ, suc, ◌<◌, ◌≤◌, List, [], ◌∷◌, ◌++◌, length, map}
+use Rattle.std.proofs.Common.{Contains, Option, Some, slice_get, refl, sym, ap, subst, subst₂, ◌∙◌}
+use Rattle.std.proofs.Common.{arith, All}
+use Rattle.epx_types.proofs.Common.{append_assoc, append-nil, All-nil, All-cons, Id, UpTo, Instance}
+use Rattle.epx_types.proofs.Common.{IsPath, Contains-slice_get}
+use Rattle.epx_graph.proofs.Common.{DependencyGraph, edges_of, IsGraph, IsGraphOf, IsNodePath}
+use Rattle.epx_graph.proofs.Common.{edge_within, node_is_unique, node_of_committed, reached_node}
+use Rattle.epx_graph.proofs.Common.{LeadsTo, AreDistancesTo, distance_at, LeadsTo-node_path}
 use Rattle.epx_why.specs.FirstPaths.{ComesUpTo, path_ids, IsFirstPath, HasNoPath}
-use Rattle.epx_graph.specs.NodeSteps.{LeadsTo, AreDistancesTo, distance_at}
 use Rattle.epx_why.specs.inner.NodeWalks.{id_at, IsFewest, IsNext, IsFirstWalk}
 use Rattle.epx_why.specs.inner.NodeWalks.{IsFirstNodePath, IsWalkBegun}
-use Rattle.epx_graph.proofs.NodeStepLemmas.{LeadsTo-node_path}
 use Rattle.epx_why.proofs.MapStepLemmas.{slice_get-id_at, map_path, node_path}
 use Rattle.epx_why.proofs.MapStepLemmas.{steps_over_nodes, AreLeast-fewest}
 use Rattle.epx_why.proofs.MapStepLemmas.{IsPath-start_committed}

@@ -1,13 +1,12 @@
 -- The line of a path, and lines that are appended one after another.
-use Rattle.std.proofs.Common.{◌≡◌, ◌<◌, ◌+◌, ℕ, false, List, [], ◌∷◌, ◌++◌, map, take}
-use Rattle.std.proofs.Common.{length, get_or, codes, refl, sym, ap, ap₂, ◌∙◌}
-use Rattle.std.proofs.lemmas.List.{take_more, map_push}
+use Rattle.std.proofs.Common.{◌≡◌, ◌<◌, ◌+◌, ℕ, false, List, [], ◌∷◌, ◌++◌, map, take, length}
+use Rattle.std.proofs.Common.{get_or, codes, refl, sym, ap, ap₂, ◌∙◌}
+use Rattle.epx_types.proofs.Common.{take_more, map_push, Id}
 use Rattle.serde_json.specs.Data.{Data, string}
 use Rattle.serde_json.specs.Written.{has_float}
 use Rattle.epx_lines.proofs.FloatLemmas.{no_float-items}
 use Rattle.epx_report.specs.ReportLines.{array_of}
-use Rattle.epx_types.specs.declared.id.Id.{Id}
-use Rattle.epx_graph.specs.Graphs.{DependencyGraph}
+use Rattle.epx_graph.proofs.Common.{DependencyGraph}
 use Rattle.epx_why.specs.inner.NodeWalks.{id_at}
 use Rattle.epx_why.specs.WhyLines.{id_data, path_data}
 

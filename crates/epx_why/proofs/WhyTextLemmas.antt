@@ -1,24 +1,12 @@
 -- The texts about one instance: where it has no node, where it is missing, waits or is ready.
 use Rattle.std.proofs.Common.{◌≡◌, inl, inr, ℕ, ◌<◌, ◌≤◌, List, [], ◌∷◌, ◌++◌, flat_map, codes}
-use Rattle.std.proofs.Common.{length}
-use Rattle.std.proofs.Common.{map, Contains, Some, None, slice_get, ap, subst, ◌∙◌, arith}
-use Rattle.std.proofs.lemmas.Option.{slice_get_within}
-use Rattle.epx_types.specs.declared.id.Id.{Id}
-use Rattle.epx_types.specs.Ids.{Below}
-use Rattle.epx_types.specs.Instances.{Instance}
-use Rattle.epx_types.specs.CommittedMap.{IsCommitted}
-use Rattle.epx_types.specs.ExecutionOrder.{Ranked, ranked_ids, IsExecutionOrder}
-use Rattle.epx_types.specs.Reaching.{Reaches}
-use Rattle.epx_types.specs.Readiness.{IsReady}
-use Rattle.epx_types.proofs.lists.ListPositionLemmas.{Contains-slice_get, AllPairs-head}
-use Rattle.epx_types.proofs.lists.ListPositionLemmas.{slice_get-from_map}
-use Rattle.epx_types.proofs.lists.MembershipLemmas.{Contains-nil, Contains-head}
-use Rattle.epx_types.proofs.lists.MembershipLemmas.{Contains-cons_cases, Contains-map}
-use Rattle.epx_types.proofs.lists.RisingIdLemmas.{AllPairs-from_IsRising}
-use Rattle.epx_types.proofs.orders.RankExistenceLemmas.{ready_or_waits}
-use Rattle.epx_graph.specs.Graphs.{DependencyGraph}
-use Rattle.epx_graph.specs.GraphOf.{IsGraphOf}
-use Rattle.epx_graph.proofs.MapPathLemmas.{node_committed, node_of_committed}
+use Rattle.std.proofs.Common.{length, map, Contains, Some, None, slice_get, ap, subst, ◌∙◌, arith}
+use Rattle.epx_types.proofs.Common.{slice_get_within, Id, Below, Instance, IsCommitted, Ranked}
+use Rattle.epx_types.proofs.Common.{ranked_ids, IsExecutionOrder, Reaches, IsReady}
+use Rattle.epx_types.proofs.Common.{Contains-slice_get, AllPairs-head, slice_get-from_map}
+use Rattle.epx_types.proofs.Common.{Contains-nil, Contains-head, Contains-cons_cases, Contains-map}
+use Rattle.epx_types.proofs.Common.{AllPairs-from_IsRising, ready_or_waits}
+use Rattle.epx_graph.proofs.Common.{DependencyGraph, IsGraphOf, node_committed, node_of_committed}
 use Rattle.epx_report.specs.ReportLines.{waiting_line}
 use Rattle.epx_report.specs.ViewLines.{missing_line}
 use Rattle.epx_why.specs.declared.need.Need.{Need}

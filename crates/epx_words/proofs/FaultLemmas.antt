@@ -1,10 +1,8 @@
 -- Words in which clap finds no fault name a task, with both numbers in their ranges and with its
 -- required first argument.
-use Rattle.std.proofs.Common.{◌≡◌, ◌∙◌, Bool, true, false, codes, List, [], ◌∷◌, Option, Some}
-use Rattle.std.proofs.Common.{None, refl, sym, subst, inl, inr, is_some, true≢false}
-use Rattle.std.proofs.lemmas.Slice.Eq.{bytes_eq-Decides}
-use Rattle.std.specs.List.{AllByRecursion}
-use Rattle.std.specs.Str.{bytes_eq}
+use Rattle.std.proofs.Common.{◌≡◌, ◌∙◌, Bool, true, false, codes, List, [], ◌∷◌, Option, Some, None}
+use Rattle.std.proofs.Common.{refl, sym, subst, inl, inr, is_some, true≢false}
+use Rattle.epx_types.proofs.Common.{bytes_eq-Decides, AllByRecursion, bytes_eq}
 use Rattle.clap.specs.Faults.{check_fault, defaults_fault, entered_fault, fault_of}
 use Rattle.clap.specs.Faults.{is_simple_and_free, level_fault, settle_fault, walk_fault}
 use Rattle.clap.specs.Simple.{App, Shape, argument_words, built, built_leaf, entered, inherited}

@@ -1,6 +1,6 @@
 -- A number in its range is read as the value of its text.
 use Rattle.std.proofs.Common.{◌≡◌, ◌≤◌, ℕ, List, Option, Some, None, Result, Ok, Err, refl}
-use Rattle.std.specs.Str.Parse.{ParsesUnsigned}
+use Rattle.epx_types.proofs.Common.{ParsesUnsigned}
 use Rattle.clap.specs.Matches.{ReadsOne, one_text}
 use Rattle.clap.specs.Values.{IsUnsignedIn}
 use Rattle.clap.specs.Walk.{Text, one_of, rows_of}

@@ -1,10 +1,8 @@
 -- Each argument of a subcommand keeps the rows sound. After the defaults both numbers have rows,
 -- and so has a required first argument.
-use Rattle.std.proofs.Common.{◌≡◌, ◌==◌, ◌||◌, ℕ, Bool, cond, true, false, not, codes, List}
-use Rattle.std.proofs.Common.{[], ◌∷◌, ◌∙◌, length, refl, sym, subst, true≢false, eqb-true, arith}
-use Rattle.std.specs.List.{AllByRecursion, fold}
-use Rattle.std.specs.Option.{IsSome}
-use Rattle.std.specs.Str.{bytes_eq}
+use Rattle.std.proofs.Common.{◌≡◌, ◌==◌, ◌||◌, ℕ, Bool, cond, true, false, not, codes, List, []}
+use Rattle.std.proofs.Common.{◌∷◌, ◌∙◌, length, refl, sym, subst, true≢false, eqb-true, arith}
+use Rattle.epx_types.proofs.Common.{AllByRecursion, fold, IsSome, bytes_eq}
 use Rattle.clap.specs.Kinds.{range_kinds, value_kinds}
 use Rattle.clap.specs.Faults.{action_fault, level_fault, repeat_fault, settle_fault, walk_fault}
 use Rattle.clap.specs.Simple.{Shape, filled, help_rule, with_index}

@@ -1,11 +1,10 @@
 -- Sound rows: the numbers are in their ranges and the first argument has a value. Which steps keep
 -- rows sound.
 use Rattle.std.proofs.Common.{◌≡◌, ℕ, Bool, cond, true, false, ◌||◌, codes, List, [], ◌∷◌, ◌++◌}
-use Rattle.std.proofs.Common.{Some, None, refl, sym, subst, true≢false}
-use Rattle.std.specs.List.{AllByRecursion, find}
-use Rattle.std.specs.Option.{IsSome, option_map_or}
-use Rattle.std.specs.Prelude.{⊤, option_and_then, option_map, slice_get}
-use Rattle.std.specs.Str.{bytes_eq}
+use Rattle.std.proofs.Common.{Some, None, refl, sym, subst, true≢false, option_and_then, option_map}
+use Rattle.std.proofs.Common.{slice_get}
+use Rattle.epx_types.proofs.Common.{AllByRecursion, IsSome, option_map_or, ⊤, bytes_eq}
+use Rattle.std.specs.List.{find}
 use Rattle.clap.specs.Facts.{explicit_source}
 use Rattle.clap.specs.Takes.{is_given}
 use Rattle.clap.specs.Values.{IsUnsignedIn, read_as}

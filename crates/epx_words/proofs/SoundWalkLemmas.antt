@@ -1,10 +1,10 @@
 -- A walk in which clap finds no fault keeps the rows sound, if each use of an argument does.
 use Rattle.std.proofs.Common.{◌≡◌, ◌&&◌, ℕ, Bool, zero, suc, cond, true, false, List, [], ◌∷◌}
-use Rattle.std.proofs.Common.{length, drop, Option, Some, None, is_some}
-use Rattle.std.specs.List.{AllByRecursion, find, fold}
-use Rattle.std.specs.Option.{IfSome, option_map_or}
-use Rattle.std.specs.Prelude.{encode_utf8, slice_get}
-use Rattle.std.specs.Str.{bytes_eq, chars}
+use Rattle.std.proofs.Common.{length, drop, Option, Some, None, is_some, encode_utf8, slice_get}
+use Rattle.epx_types.proofs.Common.{AllByRecursion, fold, option_map_or, bytes_eq}
+use Rattle.std.specs.List.{find}
+use Rattle.std.specs.Option.{IfSome}
+use Rattle.std.specs.Str.{chars}
 use Rattle.clap.specs.Lexer.{long_of, short_of}
 use Rattle.clap.specs.Kinds.{Kinds, or_else}
 use Rattle.clap.specs.Faults.{bundle_step_fault, flag_word_fault, flags_fault, long_fault}

@@ -1,9 +1,9 @@
 -- A walk in which clap finds no fault stops only at a task, and not at the subcommand `help`.
 use Rattle.std.proofs.Common.{◌≡◌, ◌⊎◌, ℕ, Bool, cond, true, false, codes, List, [], ◌∷◌, Option}
 use Rattle.std.proofs.Common.{Some, None, is_some, inl, inr}
-use Rattle.std.specs.List.{AllByRecursion, find, fold}
+use Rattle.epx_types.proofs.Common.{AllByRecursion, fold, bytes_eq}
+use Rattle.std.specs.List.{find}
 use Rattle.std.specs.Option.{IfSome, option_map}
-use Rattle.std.specs.Str.{bytes_eq}
 use Rattle.clap.specs.Lexer.{long_of, short_of}
 use Rattle.clap.specs.Kinds.{or_else}
 use Rattle.clap.specs.Faults.{other_fault, step_fault, turn_fault, walk_fault, word_fault}

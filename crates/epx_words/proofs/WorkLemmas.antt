@@ -1,14 +1,9 @@
 -- What clap's matches ask for is what the words ask for, by the shape of the program.
 use Rattle.std.proofs.Common.{◌≡◌, ◌↔◌, ◌∙◌, ℕ, Bool, true, false, List, [], ap, refl, subst, sym}
-use Rattle.std.proofs.Common.{true≢false, codes, Option, Some, None}
-use Rattle.std.proofs.lemmas.Slice.Eq.{bytes_eq-Decides}
+use Rattle.std.proofs.Common.{true≢false, codes, Option, Some, None, MatchOption}
+use Rattle.epx_types.proofs.Common.{bytes_eq-Decides, bytes_eq, Id, FitsKey, PlanNumbers}
 use Rattle.std.specs.Option.{IfSome}
-use Rattle.std.specs.Prelude.{MatchOption}
-use Rattle.std.specs.Str.{bytes_eq}
 use Rattle.clap.specs.Words.{App, Kinds, Row, Text, is_simple, subcommand_of}
-use Rattle.epx_types.specs.declared.id.Id.{Id}
-use Rattle.epx_types.specs.Keys.{FitsKey}
-use Rattle.epx_types.specs.Pieces.{PlanNumbers}
 use Rattle.epx_words.specs.App.{epx_app}
 use Rattle.epx_words.specs.ExitStatus.{IsTaken}
 use Rattle.epx_words.specs.Requests.{AsksFor, FitFlags, FitsRows, IfText, IfWork}

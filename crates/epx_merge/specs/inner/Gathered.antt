@@ -7,7 +7,7 @@ use Rattle.epx_lines.specs.Lines.{lines_of}
 use Rattle.epx_types.specs.Limits.{max_log_bytes}
 use Rattle.epx_merge.specs.LogLines.{MeaningAt}
 use Rattle.epx_merge.specs.LogParts.{EndsLine, lines_so_far}
-use Rattle.epx_merge.specs.declared.gathered_lines.Position.{Position}
+use Rattle.epx_merge.specs.declared.gathered_lines.ReadPosition.{ReadPosition}
 use Rattle.epx_merge.specs.SourceReadings.{AreDeliveredUpTo}
 
 -- the source after these logs is as it was, or these bytes of it are read
@@ -25,7 +25,7 @@ pub record AreReadOnward {S : Type 0} (D : SourceModel S) (first now : List S)
   pub begun : IsNextBegun D before now (length ended) bytes
 
 -- the lines up to this position are gathered
-pub record AreGathered {S : Type 0} (D : SourceModel S) (first now : List S) (at : Position)
+pub record AreGathered {S : Type 0} (D : SourceModel S) (first now : List S) (at : ReadPosition)
     (lines : List MeaningAt) : Type 0 where
   pub ended : List (List ℕ)
   pub begun : List ℕ
@@ -37,5 +37,5 @@ pub record AreGathered {S : Type 0} (D : SourceModel S) (first now : List S) (at
   pub read : AreReadOnward D first now ended (begun ++ at.rest.items)
 
 -- a number that falls as so many sources are read
-abbrev pub most_unread : ℕ → Position → ℕ
+abbrev pub most_unread : ℕ → ReadPosition → ℕ
 most_unread count at = (count - at.log) * (max_log_bytes + 2) - (at.done + length at.rest.items)

@@ -7,14 +7,14 @@ use Rattle.epx_types.specs.Contents.{Contents}
 use Rattle.epx_lines.specs.Lines.{lines_of}
 use Rattle.epx_report.specs.declared.form.BaseLine.{BaseLine}
 use Rattle.epx_report.specs.Forms.{base_line_of}
-use Rattle.epx_report.specs.inner.Seen.{Seen, nothing_seen, after, is_complete}
+use Rattle.epx_report.specs.inner.Progress.{Progress, nothing_seen, after, is_complete}
 
 -- the state after one more line, if the line is allowed at its position
-abbrev pub after_line : Seen → List ℕ → Option Seen
+abbrev pub after_line : Progress → List ℕ → Option Progress
 after_line s bytes = option_and_then (after s) (base_line_of bytes)
 
 -- the state after all lines, if each is allowed at its position
-abbrev pub after_all : Seen → List BaseLine → Option Seen
+abbrev pub after_all : Progress → List BaseLine → Option Progress
 after_all s [] = Some s
 after_all s (l ∷ ls) = option_and_then (λ t. after_all t ls) (after s l)
 
@@ -25,12 +25,12 @@ or_line_number n (Some s) next = next s
 
 -- what all lines say, or the number of the first line that is not allowed at its position; if the
 -- text ends too early, this is the number of the missing line; the first line has the number n
-abbrev pub reading : Seen → ℕ → List (List ℕ) → Result Seen ℕ
+abbrev pub reading : Progress → ℕ → List (List ℕ) → Result Progress ℕ
 reading s n [] = if is_complete s then Ok s else Err n
 reading s n (l ∷ ls) = or_line_number n (after_line s l) (λ t. reading t (n + 1) ls)
 
 -- what all lines of the bytes say; the first line has the number 1
-abbrev pub base_reading : List ℕ → Result Seen ℕ
+abbrev pub base_reading : List ℕ → Result Progress ℕ
 base_reading bytes = reading nothing_seen 1 (lines_of bytes)
 
 -- the contents after values are put under keys, one after another
@@ -40,7 +40,7 @@ put_pairs (p ∷ ps) c = put_pairs ps (contents.insert c p.0 p.1)
 
 -- the bytes read as a base of these instances and contents
 pub record IsReadBase (bytes : List ℕ) (done : List Id) (stored : Contents) : Type 0 where
-  pub seen : Seen
+  pub seen : Progress
   pub read : base_reading bytes ≡ Ok seen
   pub done_is : done ≡ seen.done
   pub stored_is : stored ≡ put_pairs seen.stored contents.empty

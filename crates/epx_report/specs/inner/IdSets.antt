@@ -3,7 +3,7 @@ use Rattle.std.specs.Prelude.{◌≡◌, false, List, Contains, fold}
 use Rattle.std.specs.BTreeSet.{insert_key}
 use Rattle.epx_types.specs.declared.id.Id.{Id}
 use Rattle.epx_types.specs.Ids.{id_cmp, IsRising}
-use Rattle.epx_report.specs.inner.Seen.{last, is_after_last}
+use Rattle.epx_report.specs.inner.Progress.{last, is_after_last}
 
 -- the rising Ids, with the late ones inserted
 abbrev pub with_late : List Id → List Id → List Id

@@ -10,7 +10,7 @@ use Rattle.epx_types.specs.Keys.{key_cmp}
 use Rattle.epx_report.specs.declared.form.BaseLine.{BaseLine}
 use Rattle.epx_report.specs.declared.form.BaseLine.TheVariants.{Header, Done, Reply, Waiting, Store}
 use Rattle.epx_report.specs.Bases.{BaseParts, AreBaseParts, AreDoneIn}
-use Rattle.epx_report.specs.inner.Seen.{last, is_after_last}
+use Rattle.epx_report.specs.inner.Progress.{last, is_after_last}
 
 -- with one more line of each kind, if lines of the kind may follow, and rise
 abbrev pub with_done : BaseParts → Id → Option BaseParts

@@ -1,9 +1,9 @@
 -- Short texts, each in 22 bytes, of which those after the text are zeros.
-use Rattle.std.proofs.Common.{◌≡◌, ℕ, zero, suc, ◌+◌, ◌*◌, ◌≤◌, ◌∙◌, List, [], ◌∷◌, ◌++◌, refl}
-use Rattle.std.proofs.Common.{sym, ap, ap₂, subst, arith}
+use Rattle.std.proofs.Common.{◌≡◌, ℕ, zero, suc, ◌+◌, ◌*◌, ◌≤◌, ◌∙◌, List, [], ◌∷◌, ◌++◌, refl, sym}
+use Rattle.std.proofs.Common.{ap, ap₂, subst, arith, IsUtf8, drop, length, replicate}
+use Rattle.std.proofs.Common.{slice_index_or, take}
 use Rattle.std.proofs.Math.Seq.{take-append_seam}
 use Rattle.std.proofs.lemmas.List.{drop-replicate}
-use Rattle.std.specs.Prelude.{IsUtf8, drop, length, replicate, slice_index_or, take}
 use Rattle.std.specs.Int.{from_be_bytes, w64}
 use Rattle.epx_types.specs.KeyHeads.{AreBytes, followed_by, head_of}
 use Rattle.epx_types.specs.inner.ShortTexts.{IsShortText}

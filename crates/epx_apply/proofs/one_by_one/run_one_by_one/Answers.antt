@@ -1,12 +1,7 @@
 use Rattle.std.proofs.Common.{◌≡◌, ℕ, ◌+◌, ◌≤◌, ◌∙◌, sym, ap, ap₂, List, ◌++◌, append_assoc, drop}
 use Rattle.std.proofs.Common.{slice_range, arith}
-use Rattle.std.proofs.lemmas.List.{map-append}
-use Rattle.std.proofs.lemmas.List.Folds.{drop_split}
-use Rattle.epx_types.specs.declared.command.Command.{Command}
-use Rattle.epx_types.specs.declared.reply.Reply.{Reply}
-use Rattle.epx_types.specs.Contents.{Contents}
-use Rattle.epx_types.specs.Execution.{execute, Execution}
-use Rattle.epx_types.proofs.commands.ExecutionLemmas.{execute-append}
+use Rattle.epx_types.proofs.Common.{map-append, drop_split, Command, Reply, Contents, execute}
+use Rattle.epx_types.proofs.Common.{Execution, execute-append}
 use Rattle.epx_apply.specs.inner.Effects.{op_lists_of}
 use Rattle.epx_apply.proofs.one_by_one.run_one_by_one.Goals as goal
 

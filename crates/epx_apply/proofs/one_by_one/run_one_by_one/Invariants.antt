@@ -1,5 +1,5 @@
 use Rattle.std.proofs.Common.{◌≡◌, ◌++◌, ◌-◌, ◌≤◌, drop, length}
-use Rattle.epx_types.specs.Execution.{execute}
+use Rattle.epx_types.proofs.Common.{execute}
 use Rattle.epx_apply.specs.inner.Effects.{op_lists_of}
 use Rattle.epx_apply.proofs.one_by_one.run_one_by_one.Given as goal
 

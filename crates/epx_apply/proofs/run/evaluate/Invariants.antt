@@ -1,5 +1,5 @@
 use Rattle.std.proofs.Common.{◌≡◌, ◌++◌, drop}
-use Rattle.epx_types.specs.Rearrangements.{commands_at}
+use Rattle.epx_types.proofs.Common.{commands_at}
 use Rattle.epx_apply.specs.inner.Effects.{op_lists_of, effects_over}
 use Rattle.epx_apply.proofs.run.evaluate.Given as goal
 

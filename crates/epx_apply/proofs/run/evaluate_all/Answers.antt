@@ -1,6 +1,5 @@
 use Rattle.std.proofs.Common.{◌≡◌, ◌∙◌, ◌++◌, map, flat_map, refl, sym, ap, rules}
-use Rattle.std.proofs.lemmas.List.{map-append}
-use Rattle.epx_types.specs.Rearrangements.{commands_at}
+use Rattle.epx_types.proofs.Common.{map-append, commands_at}
 use Rattle.epx_claims.specs.inner.PieceItems.{items_of_piece}
 use Rattle.epx_claims.proofs.JoinedPieceLemmas.{parts_joined}
 use Rattle.epx_apply.specs.inner.Effects.{op_lists_of, effects_over}

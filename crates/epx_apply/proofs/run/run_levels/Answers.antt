@@ -1,10 +1,6 @@
 use Rattle.std.proofs.Common.{◌<◌, ◌+◌, List, ℕ, length, sym, ap, subst, arith}
-use Rattle.std.proofs.lemmas.List.{length-map}
-use Rattle.std.proofs.lemmas.List.Elements.{All-weaker}
-use Rattle.epx_types.specs.Conflicts.{NoneConflict}
-use Rattle.epx_types.specs.Levels.{AreLevels}
-use Rattle.epx_types.specs.Rearrangements.{commands_at}
-use Rattle.epx_types.proofs.levels.LevelOrderLemmas.{length-level_positions, level-no_conflict}
+use Rattle.epx_types.proofs.Common.{length-map, All-weaker, NoneConflict, AreLevels, commands_at}
+use Rattle.epx_types.proofs.Common.{length-level_positions, level-no_conflict}
 use Rattle.epx_apply.specs.inner.Effects.{op_lists_of}
 use Rattle.epx_apply.proofs.LevelRunLemmas.{members-within, one_level_more, final-at_end}
 use Rattle.epx_apply.proofs.LevelRunLemmas.{replies-at_end}

@@ -1,6 +1,6 @@
 use Rattle.std.proofs.Common.{length, sym, subst, ap, ◌∙◌, arith}
-use Rattle.std.proofs.lemmas.List.{length-map}
-use Rattle.epx_graph.specs.Graphs.{edges_of}
+use Rattle.epx_types.proofs.Common.{length-map}
+use Rattle.epx_graph.proofs.Common.{edges_of}
 use Rattle.epx_audit.specs.inner.NodeConflicts.{keys_of}
 use Rattle.epx_components.specs.ReadyMarks.{AreReadyMarks}
 use Rattle.epx_audit.specs.inner.Sources.{IsLeastPair}

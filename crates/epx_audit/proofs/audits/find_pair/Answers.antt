@@ -1,6 +1,6 @@
 use Rattle.std.proofs.Common.{◌≡◌, ◌+◌, ◌-◌, ◌*◌, ◌<◌, All, Contains, length, length-take}
 use Rattle.std.proofs.Common.{length-drop, take, drop, min, IsTrue, sym, subst, arith}
-use Rattle.epx_graph.specs.Graphs.{edges_of}
+use Rattle.epx_graph.proofs.Common.{edges_of}
 use Rattle.epx_components.specs.ReadyMarks.{is_marked}
 use Rattle.epx_audit.specs.inner.Sources.{AreSources, AreSettled}
 use Rattle.epx_audit.proofs.SourceLemmas.{part_ready, part_in_range, part_at, settled_below}

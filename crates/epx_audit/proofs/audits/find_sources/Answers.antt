@@ -1,8 +1,6 @@
 use Rattle.std.proofs.Common.{◌≡◌, ◌+◌, ◌<◌, ◌++◌, ◌∷◌, [], false, List, length, length-set}
 use Rattle.std.proofs.Common.{Contains, IsTrue, sym, subst, ap, ◌∙◌, arith}
-use Rattle.std.proofs.lemmas.Bool.{false≢true}
-use Rattle.std.proofs.lemmas.List.{get_or_read}
-use Rattle.std.proofs.lemmas.List.Elements.{Contains-get_or}
+use Rattle.epx_types.proofs.Common.{false≢true, get_or_read, Contains-get_or}
 use Rattle.epx_audit.specs.declared.doubtful_touches.DoubtfulTouch.{DoubtfulTouch}
 use Rattle.epx_components.specs.ReadyMarks.{is_marked}
 use Rattle.epx_audit.proofs.SharingMarkLemmas.{doubtful_at, doubtful_at_index}

@@ -1,6 +1,6 @@
 use Rattle.std.proofs.Common.{◌≡◌, List, map}
-use Rattle.epx_types.specs.Instances.{Instance}
-use Rattle.epx_graph.specs.Graphs.{edges_of}
+use Rattle.epx_types.proofs.Common.{Instance}
+use Rattle.epx_graph.proofs.Common.{edges_of}
 use Rattle.epx_audit.specs.inner.DoubtfulKeys.{HoldAllConflicts}
 use Rattle.epx_audit.specs.inner.NodeConflicts.{keys_of}
 use Rattle.epx_audit.specs.inner.Sources.{AreSettled}

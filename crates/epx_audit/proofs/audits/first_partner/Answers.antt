@@ -1,7 +1,6 @@
 use Rattle.std.proofs.Common.{◌≡◌, Some, IsTrue, slice_get, sym, subst, ap, ◌∙◌, arith}
-use Rattle.std.proofs.lemmas.Bool.{false≢true}
-use Rattle.std.proofs.lemmas.Option.{slice_get-get_or}
-use Rattle.epx_graph.specs.Graphs.{edges_of}
+use Rattle.epx_types.proofs.Common.{false≢true, slice_get-get_or}
+use Rattle.epx_graph.proofs.Common.{edges_of}
 use Rattle.epx_audit.specs.inner.Batches.{IsReadyApart}
 use Rattle.epx_audit.specs.inner.DoubtfulKeys.{IsRelatedOrFree}
 use Rattle.epx_audit.specs.inner.NodeConflicts.{IsSettled}

@@ -1,7 +1,6 @@
 use Rattle.std.proofs.Common.{◌≡◌, ◌++◌, ◌∷◌, [], map, take, sym, ap, ◌∙◌}
-use Rattle.std.proofs.lemmas.List.{take_more, map_push}
-use Rattle.std.proofs.lemmas.Option.{slice_get_within, get_or_from_slice_get}
-use Rattle.epx_types.specs.CommandKeys.{touched_keys, written_keys}
+use Rattle.epx_types.proofs.Common.{take_more, map_push, slice_get_within, get_or_from_slice_get}
+use Rattle.epx_types.proofs.Common.{touched_keys, written_keys}
 use Rattle.epx_audit.specs.inner.NodeConflicts.{KeyLists, keys_of}
 use Rattle.epx_audit.proofs.conflicts.all_keys.Goals as goal
 

@@ -1,9 +1,7 @@
 use Rattle.std.proofs.Common.{◌≡◌, Some, inl, inr, map, slice_get, refl, sym, ap, ◌∙◌, arith}
-use Rattle.std.proofs.lemmas.Bool.{cases_lt, false≢true}
-use Rattle.std.proofs.lemmas.List.{length-map}
-use Rattle.std.proofs.lemmas.Option.{slice_get-get_or, slice_get_within}
-use Rattle.epx_types.proofs.keys.KeyListLemmas.{key_cases}
-use Rattle.epx_types.proofs.lists.ListPositionLemmas.{Contains-slice_get, slice_get-from_Contains}
+use Rattle.epx_types.proofs.Common.{cases_lt, false≢true, length-map, slice_get-get_or}
+use Rattle.epx_types.proofs.Common.{slice_get_within, key_cases, Contains-slice_get}
+use Rattle.epx_types.proofs.Common.{slice_get-from_Contains}
 use Rattle.epx_types.proofs.lists.ListPositionLemmas.{slice_get-map}
 use Rattle.epx_audit.proofs.conflicts.has_key.Goals as goal
 

@@ -1,9 +1,8 @@
 use Rattle.std.proofs.Common.{◌≡◌, Contains, Some, inl, inr, map, slice_get, sym, subst, ap, ◌∙◌}
 use Rattle.std.proofs.Common.{arith}
-use Rattle.std.proofs.lemmas.Bool.{cases_lt, false≢true}
-use Rattle.std.proofs.lemmas.List.{length-map}
-use Rattle.std.proofs.lemmas.Option.{slice_get-get_or, slice_get_within}
-use Rattle.epx_types.proofs.lists.ListPositionLemmas.{slice_get-from_Contains, slice_get-map}
+use Rattle.epx_types.proofs.Common.{cases_lt, false≢true, length-map, slice_get-get_or}
+use Rattle.epx_types.proofs.Common.{slice_get_within, slice_get-from_Contains}
+use Rattle.epx_types.proofs.lists.ListPositionLemmas.{slice_get-map}
 use Rattle.epx_audit.proofs.conflicts.have_common_key.Goals as goal
 
 pub loop-key-preserved : goal.loop-key-preserved

@@ -1,6 +1,5 @@
-use Rattle.std.proofs.Common.{◌≡◌, ◌+◌, ◌++◌, ◌∷◌, [], get_or, Contains, sym, subst, ap, ◌∙◌}
-use Rattle.std.proofs.Common.{arith}
-use Rattle.std.proofs.lemmas.List.Elements.{Contains-get_or}
+use Rattle.std.proofs.Common.{◌≡◌, ◌+◌, ◌++◌, ◌∷◌, [], get_or, Contains, sym, subst, ap, ◌∙◌, arith}
+use Rattle.epx_types.proofs.Common.{Contains-get_or}
 use Rattle.epx_audit.specs.declared.touches.KeyUse.{KeyUse}
 use Rattle.epx_audit.specs.inner.DoubtfulKeys.{doubtful_touch}
 use Rattle.epx_audit.specs.inner.RelatedTouches.{touch_at}

@@ -1,6 +1,6 @@
 use Rattle.std.proofs.Common.{◌≡◌, ℕ, ◌<◌, All, Contains, length, get_or, sym, subst, ap, arith}
-use Rattle.std.proofs.lemmas.List.Elements.{All-contains}
-use Rattle.epx_graph.specs.Graphs.{edges_of}
+use Rattle.epx_types.proofs.Common.{All-contains}
+use Rattle.epx_graph.proofs.Common.{edges_of}
 use Rattle.epx_audit.specs.declared.touches.KeyUse.{KeyUse}
 use Rattle.epx_audit.specs.inner.DoubtfulKeys.{doubtful_touch, AreInRange}
 use Rattle.epx_audit.specs.inner.RelatedTouches.{AreAllRelated}

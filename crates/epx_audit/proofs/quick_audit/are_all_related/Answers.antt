@@ -1,5 +1,5 @@
 use Rattle.std.proofs.Common.{◌∙◌}
-use Rattle.epx_graph.specs.Graphs.{edges_of}
+use Rattle.epx_graph.proofs.Common.{edges_of}
 use Rattle.epx_audit.proofs.RelatedTouchLemmas.{related_by_next}
 use Rattle.epx_audit.proofs.quick_audit.are_all_related.Goals as goal
 

@@ -1,5 +1,5 @@
 use Rattle.std.proofs.Common.{◌≡◌, length}
-use Rattle.epx_graph.specs.Graphs.{edges_of}
+use Rattle.epx_graph.proofs.Common.{edges_of}
 use Rattle.epx_audit.proofs.RelatedTouchLemmas.{IsRelatedUpTo}
 use Rattle.epx_audit.proofs.quick_audit.are_all_related.Given as goal
 

@@ -1,7 +1,6 @@
 use Rattle.std.proofs.Common.{◌<◌, All, Contains, IsTrue, length, sym, subst, ap, arith}
-use Rattle.std.proofs.lemmas.Result.{IfOk-weaker}
-use Rattle.epx_types.specs.Conflicts.{IsCovered}
-use Rattle.epx_graph.specs.Graphs.{edges_of}
+use Rattle.epx_types.proofs.Common.{IfOk-weaker, IsCovered}
+use Rattle.epx_graph.proofs.Common.{edges_of}
 use Rattle.epx_audit.specs.inner.RelatedTouches.{AreAllRelated}
 use Rattle.epx_audit.specs.inner.Touches.{HoldTouches}
 use Rattle.epx_audit.proofs.QuickAuditLemmas.{covered_from_related}

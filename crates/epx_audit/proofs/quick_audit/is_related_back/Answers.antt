@@ -1,7 +1,6 @@
 use Rattle.std.proofs.Common.{◌≡◌, ◌≤◌, inl, inr, length, sym, subst, ap, ◌∙◌, arith}
-use Rattle.std.proofs.lemmas.Bool.{cases_lt, false≢true}
-use Rattle.std.proofs.lemmas.List.Elements.{Contains-get_or}
-use Rattle.epx_graph.specs.Graphs.{edges_of}
+use Rattle.epx_types.proofs.Common.{cases_lt, false≢true, Contains-get_or}
+use Rattle.epx_graph.proofs.Common.{edges_of}
 use Rattle.epx_audit.specs.declared.search.PathSearch.{PathSearch}
 use Rattle.epx_audit.specs.inner.RelatedTouches.{touch_at, TouchReaches}
 use Rattle.epx_audit.proofs.quick_audit.is_related_back.Goals as goal

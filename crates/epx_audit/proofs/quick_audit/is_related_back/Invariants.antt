@@ -1,5 +1,5 @@
 use Rattle.std.proofs.Common.{◌≡◌, ℕ, ◌<◌, ◌≤◌, length, ◌⊎◌, IsTrue}
-use Rattle.epx_graph.specs.Graphs.{edges_of}
+use Rattle.epx_graph.proofs.Common.{edges_of}
 use Rattle.epx_audit.specs.inner.RelatedTouches.{touch_at, TouchReaches}
 use Rattle.epx_audit.proofs.quick_audit.is_related_back.Given as goal
 

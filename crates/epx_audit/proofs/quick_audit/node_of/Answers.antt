@@ -1,8 +1,7 @@
 use Rattle.std.proofs.Common.{◌≡◌, None, Some, sym, ap, ◌∙◌}
-use Rattle.epx_types.specs.Instances.{Instance}
-use Rattle.epx_types.proofs.lists.MembershipLemmas.{Contains-from_map}
-use Rattle.epx_types.proofs.lists.ListPositionLemmas.{slice_get-from_Contains, slice_get-map}
-use Rattle.epx_types.proofs.committed.PositionLemmas.{position_of-instance, position_of-found}
+use Rattle.epx_types.proofs.Common.{Instance, Contains-from_map, slice_get-from_Contains}
+use Rattle.epx_types.proofs.Common.{position_of-instance, position_of-found}
+use Rattle.epx_types.proofs.lists.ListPositionLemmas.{slice_get-map}
 use Rattle.epx_audit.proofs.quick_audit.node_of.Goals as goal
 
 pub unreachable-requires : goal.unreachable-requires

@@ -1,6 +1,5 @@
 use Rattle.std.proofs.Common.{◌≡◌, ℕ, ◌<◌, get_or, length, slice_get, Some}
-use Rattle.epx_types.specs.CommittedMap.{ids_of}
-use Rattle.epx_types.specs.ExecutionOrder.{Ranked}
+use Rattle.epx_types.proofs.Common.{ids_of, Ranked}
 use Rattle.epx_audit.proofs.quick_audit.order_nodes.Given as goal
 
 abbrev pub invariant-loop-id : goal.invariant-loop-id

@@ -1,8 +1,7 @@
-use Rattle.std.proofs.Common.{◌≡◌, ◌↔◌, ◌⊎◌, ◌+◌, ◌-◌, ◌<◌, ℕ, List, length, get_or}
-use Rattle.std.proofs.Common.{IsTrue, sym, subst, ap, ◌∙◌, arith}
-use Rattle.std.proofs.lemmas.List.{get_or_read, with_items_is}
-use Rattle.std.proofs.lemmas.List.Elements.{All-get_or}
-use Rattle.epx_graph.specs.Graphs.{edges_of}
+use Rattle.std.proofs.Common.{◌≡◌, ◌↔◌, ◌⊎◌, ◌+◌, ◌-◌, ◌<◌, ℕ, List, length, get_or, IsTrue, sym}
+use Rattle.std.proofs.Common.{subst, ap, ◌∙◌, arith}
+use Rattle.epx_types.proofs.Common.{get_or_read, with_items_is, All-get_or}
+use Rattle.epx_graph.proofs.Common.{edges_of}
 use Rattle.epx_components.specs.Partitions.{ComponentParts, IsPartition, parts}
 use Rattle.epx_components.specs.Partitions.{component_of, node_at, number_for}
 use Rattle.epx_components.proofs.PartitionLemmas.{node_below, component_below}

@@ -1,5 +1,5 @@
 use Rattle.std.proofs.Common.{sym, arith}
-use Rattle.epx_graph.specs.Graphs.{edges_of}
+use Rattle.epx_graph.proofs.Common.{edges_of}
 use Rattle.epx_components.specs.Partitions.{parts}
 use Rattle.epx_audit.proofs.ReachedBitLemmas.{reaching_bits}
 use Rattle.epx_audit.proofs.related.find_reaching.Goals as goal

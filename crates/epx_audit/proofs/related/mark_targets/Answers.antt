@@ -1,5 +1,5 @@
 use Rattle.std.proofs.Common.{◌<◌, length, length-set, get_or, ◌∙◌, arith}
-use Rattle.std.proofs.lemmas.List.Elements.{All-get_or}
+use Rattle.epx_types.proofs.Common.{All-get_or}
 use Rattle.epx_audit.proofs.TargetBitLemmas.{added_more}
 use Rattle.epx_audit.proofs.related.mark_targets.Goals as goal
 

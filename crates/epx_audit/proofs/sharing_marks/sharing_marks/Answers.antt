@@ -1,6 +1,6 @@
 use Rattle.std.proofs.Common.{◌≡◌, inl, inr, ◌<◌, Bool, length, length-set, get_or, cond, Contains}
 use Rattle.std.proofs.Common.{refl, sym, subst, ap, ◌∙◌, arith}
-use Rattle.std.proofs.lemmas.List.{get_or_read}
+use Rattle.epx_types.proofs.Common.{get_or_read}
 use Rattle.epx_audit.specs.declared.doubtful_touches.DoubtfulTouch.{DoubtfulTouch}
 use Rattle.epx_audit.specs.inner.SourceBits.{HasBitsOf}
 use Rattle.epx_audit.proofs.SharingMarkLemmas.{doubtful_at, doubtful_at_index, word_of}

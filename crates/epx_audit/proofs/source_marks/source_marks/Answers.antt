@@ -1,6 +1,5 @@
 use Rattle.std.proofs.Common.{◌≡◌, ◌<◌, length, length-set, get_or, ◌∙◌, arith}
-use Rattle.std.proofs.lemmas.List.{get_or_read}
-use Rattle.std.proofs.lemmas.List.Elements.{All-get_or}
+use Rattle.epx_types.proofs.Common.{get_or_read, All-get_or}
 use Rattle.std.proofs.lemmas.Nat.{one_shl}
 use Rattle.epx_audit.proofs.SourceMarkLemmas.{marked_more}
 use Rattle.epx_audit.proofs.source_marks.source_marks.Goals as goal

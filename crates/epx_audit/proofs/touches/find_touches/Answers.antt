@@ -1,10 +1,8 @@
 use Rattle.std.proofs.Common.{◌≡◌, ◌++◌, inl, inr, get_or, Contains, slice_get, Some, sym, subst}
 use Rattle.std.proofs.Common.{ap, ◌∙◌, arith}
-use Rattle.std.proofs.lemmas.Bool.{cases_lt}
-use Rattle.std.proofs.lemmas.List.Elements.{Contains-append_left, Contains-append_right}
-use Rattle.std.proofs.lemmas.List.Elements.{Contains-append_cases}
-use Rattle.std.proofs.lemmas.List.Sorted.{Contains-permutation, IsPermutation-sym}
-use Rattle.epx_types.specs.Instances.{Instance}
+use Rattle.epx_types.proofs.Common.{cases_lt, Contains-append_left, Contains-append_right}
+use Rattle.epx_types.proofs.Common.{Contains-append_cases, Contains-permutation, IsPermutation-sym}
+use Rattle.epx_types.proofs.Common.{Instance}
 use Rattle.epx_audit.specs.inner.Touches.{hashed_touches}
 use Rattle.epx_audit.proofs.TouchLemmas.{touch_place}
 use Rattle.epx_audit.proofs.touches.find_touches.Goals as goal

@@ -1,5 +1,5 @@
 use Rattle.std.proofs.Common.{◌≡◌, ◌*◌, ◌∙◌, ap, Some, rules}
-use Rattle.std.proofs.lemmas.Result.{IfOk-weaker}
+use Rattle.epx_types.proofs.Common.{IfOk-weaker}
 use Rattle.epx_calls.proofs.claims.map_to_tens.Goals as goal
 
 pub returns : goal.returns

@@ -1,5 +1,5 @@
 use Rattle.std.proofs.Common.{◌≡◌, false}
-use Rattle.std.proofs.lemmas.List.Elements.{All-push}
+use Rattle.epx_types.proofs.Common.{All-push}
 use Rattle.epx_cases.proofs.outcome.sources_of.Goals as goal
 
 pub loop-log-preserved : goal.loop-log-preserved

@@ -1,6 +1,6 @@
 use Rattle.std.proofs.Common.{◌≢◌, ◌∙◌, sym, true≢false}
 use Rattle.indexmap.proofs.CallerLemmas.{insert_entry-new}
-use Rattle.epx_types.proofs.lists.SearchLemmas.{none_from_test}
+use Rattle.epx_types.proofs.Common.{none_from_test}
 use Rattle.epx_committed.specs.declared.ledger.Disagreement.{Disagreement}
 use Rattle.epx_committed.proofs.LedgerMapLemmas.{same_id, noted_equal}
 use Rattle.epx_committed.proofs.LedgerMapLemmas.{noted_disagreed, noted_disagreement}

@@ -1,8 +1,7 @@
-use Rattle.std.proofs.Common.{◌≡◌, Some, Vec, slice_get, length, option_and_then}
-use Rattle.std.proofs.Common.{refl, sym, ap, ◌∙◌}
-use Rattle.std.proofs.lemmas.Option.{get_or_from_slice_get, slice_get_read, slice_get_within}
-use Rattle.std.specs.declared.alloc.Global.{Global}
-use Rattle.epx_types.specs.PlacedLines.{Placed}
+use Rattle.std.proofs.Common.{◌≡◌, Some, Vec, slice_get, length, option_and_then, refl, sym, ap}
+use Rattle.std.proofs.Common.{◌∙◌}
+use Rattle.epx_types.proofs.Common.{get_or_from_slice_get, slice_get_read, slice_get_within, Global}
+use Rattle.epx_types.proofs.Common.{Placed}
 use Rattle.epx_committed.proofs.LineRowLemmas.{list_of}
 use Rattle.epx_committed.proofs.TakenEntryLemmas.{other_lines_stay}
 use Rattle.epx_committed.proofs.merged.take_entry.Goals as goal

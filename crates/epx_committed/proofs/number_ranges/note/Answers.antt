@@ -1,5 +1,5 @@
 use Rattle.std.proofs.Common.{subst}
-use Rattle.std.proofs.lemmas.List.{get_or_read}
+use Rattle.epx_types.proofs.Common.{get_or_read}
 use Rattle.epx_committed.specs.inner.NumberRanges.{Lengthens}
 use Rattle.epx_committed.proofs.NumberRangeLemmas.{AreRangesIn-set, AreRangesIn-same}
 use Rattle.epx_committed.proofs.number_ranges.note.Goals as goal

@@ -1,5 +1,5 @@
 use Rattle.std.proofs.lemmas.Slice.Eq.{slice_eq-Decides}
-use Rattle.epx_types.proofs.commands.EqualityLemmas.{ids_decide}
+use Rattle.epx_types.proofs.Common.{ids_decide}
 use Rattle.epx_committed.proofs.same_entry.same_ids.Goals as goal
 
 pub returns : goal.returns

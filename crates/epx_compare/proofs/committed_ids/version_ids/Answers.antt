@@ -1,9 +1,7 @@
 use Rattle.std.proofs.Common.{◌≡◌, ◌∙◌, ◌+◌, ◌∷◌, ◌++◌, [], List, Some, map, take, slice_get, ap}
 use Rattle.std.proofs.Common.{sym}
-use Rattle.std.proofs.lemmas.List.{take_more, map_push}
-use Rattle.std.proofs.lemmas.Option.{slice_get_within, get_or_from_slice_get}
-use Rattle.epx_types.specs.declared.id.Id.{Id}
-use Rattle.epx_types.specs.Instances.{Instance}
+use Rattle.epx_types.proofs.Common.{take_more, map_push, slice_get_within, get_or_from_slice_get}
+use Rattle.epx_types.proofs.Common.{Id, Instance}
 use Rattle.epx_compare.proofs.committed_ids.version_ids.Goals as goal
 
 pub loop-number-preserved : goal.loop-number-preserved

@@ -1,5 +1,5 @@
 use Rattle.std.proofs.Common.{◌≡◌, ◌∙◌, ◌++◌, List, ℕ, flat_map, map, ap, append_assoc}
-use Rattle.std.proofs.lemmas.Result.{on_ok_weaker}
+use Rattle.epx_types.proofs.Common.{on_ok_weaker}
 use Rattle.epx_compare.specs.Comparisons.{bad_text, difference_text, gaps_text}
 use Rattle.epx_versions.specs.NotedRows.{bad_line_at}
 use Rattle.epx_compare.proofs.comparison.append_findings.Goals as goal

@@ -1,6 +1,5 @@
-use Rattle.std.proofs.Common.{◌≡◌, ◌≢◌, ◌↔◌, ◌∙◌, ◌≤◌, ◌<◌, [], length, ap, sym, subst, true}
-use Rattle.std.proofs.Common.{arith}
-use Rattle.epx_types.specs.Limits.{max_instances}
+use Rattle.std.proofs.Common.{◌≡◌, ◌≢◌, ◌↔◌, ◌∙◌, ◌≤◌, ◌<◌, [], length, ap, sym, subst, true, arith}
+use Rattle.epx_types.proofs.Common.{max_instances}
 use Rattle.epx_merge.specs.LogLines.{bad_lines_of, placed_of}
 use Rattle.epx_compare.specs.Comparisons.{comparison_text, findings_text}
 use Rattle.epx_compare.proofs.NamedLemmas.{catalog_names}

@@ -1,7 +1,6 @@
-use Rattle.std.proofs.Common.{◌≡◌, ◌≢◌, ◌↔◌, ◌∙◌, ◌++◌, ◌∷◌, List, [], ℕ, true, not, length}
-use Rattle.std.proofs.Common.{ap, append_assoc, inl, inr, arith}
-use Rattle.std.proofs.lemmas.Bool.Decides.{eqb_tells}
-use Rattle.std.proofs.lemmas.List.{length-append}
+use Rattle.std.proofs.Common.{◌≡◌, ◌≢◌, ◌↔◌, ◌∙◌, ◌++◌, ◌∷◌, List, [], ℕ, true, not, length, ap}
+use Rattle.std.proofs.Common.{append_assoc, inl, inr, arith}
+use Rattle.epx_types.proofs.Common.{eqb_tells, length-append}
 use Rattle.std.proofs.Math.Dec.{eqb}
 use Rattle.epx_compare.specs.Comparisons.{counts_text, findings_text, missing_counts_text}
 use Rattle.epx_compare.proofs.comparison.comparison_of.Goals as goal

@@ -1,6 +1,6 @@
 use Rattle.std.proofs.Common.{◌≡◌, ◌∙◌, ◌++◌, ◌<◌, ℕ, ◌==◌, List, length, count_by, ap, sym}
 use Rattle.std.proofs.Common.{append_assoc, arith}
-use Rattle.std.proofs.lemmas.List.{get_or_default}
+use Rattle.epx_types.proofs.Common.{get_or_default}
 use Rattle.epx_report.specs.ReportLines.{line_of}
 use Rattle.epx_compare.specs.ComparisonLines.{log_data}
 use Rattle.epx_compare.specs.Comparisons.{counts_text}

@@ -1,18 +1,13 @@
 use Rattle.std.proofs.Common.{◌≡◌, ◌∙◌, ◌<◌, ◌++◌, [], ℕ, true, List, All, map, length, get_or}
 use Rattle.std.proofs.Common.{slice_get, Some, ap, sym, subst, arith}
-use Rattle.std.proofs.lemmas.Bool.Decides.{nat_tests}
-use Rattle.std.proofs.lemmas.List.{length-map, nil_from_length}
-use Rattle.std.proofs.lemmas.Option.{get_or_from_slice_get}
-use Rattle.std.proofs.lemmas.Result.{on_ok_weaker}
+use Rattle.epx_types.proofs.Common.{nat_tests, length-map, nil_from_length, get_or_from_slice_get}
+use Rattle.epx_types.proofs.Common.{on_ok_weaker, Id, Placed, IsRising}
 use Rattle.serde_json.specs.View.{view}
-use Rattle.epx_types.specs.declared.id.Id.{Id}
-use Rattle.epx_types.specs.PlacedLines.{Placed}
 use Rattle.epx_merge.specs.LogLines.{BadLineAt}
 use Rattle.epx_rows.specs.Rows.{row_of}
 use Rattle.epx_compare.specs.declared.catalog.Catalog.{Catalog}
 use Rattle.epx_compare.specs.declared.members.Members.{Members}
 use Rattle.epx_report.specs.ReportLines.{array_of}
-use Rattle.epx_types.specs.Ids.{IsRising}
 use Rattle.epx_compare.specs.ComparisonLines.{group_data, differs_data}
 use Rattle.epx_compare.specs.Differences.{lines_of_id, differing_members, groups_of}
 use Rattle.epx_compare.specs.inner.Catalogs.{IsCatalogOf}

@@ -1,6 +1,5 @@
 use Rattle.std.proofs.Common.{◌≡◌, ◌++◌, List, take}
-use Rattle.std.specs.List.{flat_map}
-use Rattle.epx_types.specs.PlacedLines.{Placed}
+use Rattle.epx_types.proofs.Common.{flat_map, Placed}
 use Rattle.epx_merge.specs.LogLines.{BadLineAt}
 use Rattle.epx_compare.specs.Comparisons.{difference_text}
 use Rattle.epx_compare.specs.inner.Catalogs.{IsCatalogOf}

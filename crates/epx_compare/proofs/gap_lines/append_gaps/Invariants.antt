@@ -1,5 +1,5 @@
 use Rattle.std.proofs.Common.{◌≡◌, ◌++◌, List}
-use Rattle.epx_types.specs.PlacedLines.{Placed}
+use Rattle.epx_types.proofs.Common.{Placed}
 use Rattle.epx_merge.specs.LogLines.{BadLineAt}
 use Rattle.epx_compare.specs.Comparisons.{gaps_text}
 use Rattle.epx_compare.specs.inner.Catalogs.{IsCatalogOf}

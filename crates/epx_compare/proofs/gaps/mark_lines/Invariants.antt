@@ -1,6 +1,5 @@
 use Rattle.std.proofs.Common.{◌≡◌, ℕ, ◌<◌, length, take}
-use Rattle.std.specs.List.{list_any}
-use Rattle.epx_types.specs.Limits.{max_logs}
+use Rattle.epx_types.proofs.Common.{list_any, max_logs}
 use Rattle.epx_compare.specs.inner.LogMarks.{is_line_in, is_log_marked}
 use Rattle.epx_compare.proofs.gaps.mark_lines.Given as goal
 

@@ -1,6 +1,5 @@
 use Rattle.std.proofs.Common.{[], sym}
-use Rattle.std.proofs.lemmas.Option.{get_or_from_slice_get}
-use Rattle.epx_types.specs.Instances.{Instance}
+use Rattle.epx_types.proofs.Common.{get_or_from_slice_get, Instance}
 use Rattle.epx_compare.proofs.members.entry_at.Goals as goal
 
 pub returns : goal.returns

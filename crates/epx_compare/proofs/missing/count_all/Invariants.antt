@@ -1,5 +1,5 @@
 use Rattle.std.proofs.Common.{List, take}
-use Rattle.epx_types.specs.PlacedLines.{Placed}
+use Rattle.epx_types.proofs.Common.{Placed}
 use Rattle.epx_merge.specs.LogLines.{BadLineAt}
 use Rattle.epx_compare.specs.inner.Catalogs.{IsCatalogOf}
 use Rattle.epx_compare.specs.inner.MissingCounts.{AreCounts, missing_count}

@@ -1,7 +1,5 @@
 use Rattle.std.proofs.Common.{◌∙◌, ◌↔◌, ◌+◌, List, Contains, subst₂, sym, ap, if◌then◌else◌}
-use Rattle.std.proofs.lemmas.Result.{on_ok_weaker}
-use Rattle.epx_types.specs.declared.id.Id.{Id}
-use Rattle.epx_types.specs.Instances.{Instance}
+use Rattle.epx_types.proofs.Common.{on_ok_weaker, Id, Instance}
 use Rattle.epx_compare.specs.inner.MissingCounts.{with_one, is_missing, deps_at_numbers}
 use Rattle.epx_compare.proofs.DependencyLemmas.{same_missing}
 use Rattle.epx_compare.proofs.MissingCountLemmas.{AreCounts-agree}

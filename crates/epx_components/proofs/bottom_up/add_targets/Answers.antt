@@ -1,6 +1,5 @@
 use Rattle.std.proofs.Common.{◌≡◌, inl, inr, ℕ, ◌<◌, length, get_or, sym, subst}
-use Rattle.std.proofs.lemmas.List.{get_or_read}
-use Rattle.std.proofs.lemmas.List.Elements.{All-get_or}
+use Rattle.epx_types.proofs.Common.{get_or_read, All-get_or}
 use Rattle.epx_components.proofs.CollectionLemmas.{leads_out_more, or_more}
 use Rattle.epx_components.proofs.bottom_up.add_targets.Goals as goal
 use Rattle.epx_components.proofs.bottom_up.add_targets.Goals.{then-other-own, else-other-own}

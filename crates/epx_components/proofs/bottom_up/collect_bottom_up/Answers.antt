@@ -1,7 +1,7 @@
 use Rattle.std.proofs.Common.{◌≡◌, ◌↔◌, ◌⊎◌, ℕ, ◌<◌, length, length-set, get_or, set, sym, ap, ◌∙◌}
 use Rattle.std.proofs.Common.{arith}
-use Rattle.std.proofs.lemmas.List.{get_or_read, get_or-set_same, get_or-set_other}
-use Rattle.epx_graph.specs.Graphs.{edges_of}
+use Rattle.epx_types.proofs.Common.{get_or_read, get_or-set_same, get_or-set_other}
+use Rattle.epx_graph.proofs.Common.{edges_of}
 use Rattle.epx_components.specs.Collections.{LeadsOut}
 use Rattle.epx_components.specs.Partitions.{parts, component_of, node_at}
 use Rattle.epx_components.proofs.CollectionLemmas.{collected_more}

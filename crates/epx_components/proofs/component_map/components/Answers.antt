@@ -1,5 +1,5 @@
-use Rattle.std.proofs.lemmas.Option.{slice_get_within}
-use Rattle.epx_graph.proofs.GraphNodeLemmas.{node_id}
+use Rattle.epx_types.proofs.Common.{slice_get_within}
+use Rattle.epx_graph.proofs.Common.{node_id}
 use Rattle.epx_components.specs.Partitions.{parts}
 use Rattle.epx_components.proofs.InstanceLeaderLemmas.{leader_within, leader_from_node}
 use Rattle.epx_components.proofs.NodeRankLemmas.{leader_by_node}

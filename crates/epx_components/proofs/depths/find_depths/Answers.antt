@@ -1,5 +1,5 @@
 use Rattle.std.proofs.Common.{◌<◌, ◌^◌, arith}
-use Rattle.epx_graph.specs.Graphs.{edges_of}
+use Rattle.epx_graph.proofs.Common.{edges_of}
 use Rattle.epx_components.specs.Partitions.{parts}
 use Rattle.epx_components.proofs.DepthLemmas.{depths_exact}
 use Rattle.epx_components.proofs.depths.find_depths.Goals as goal

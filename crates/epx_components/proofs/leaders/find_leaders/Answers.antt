@@ -1,5 +1,5 @@
 use Rattle.std.proofs.Common.{◌≡◌, arith, subst}
-use Rattle.epx_graph.specs.Graphs.{edges_of}
+use Rattle.epx_graph.proofs.Common.{edges_of}
 use Rattle.epx_components.specs.Partitions.{parts}
 use Rattle.epx_components.proofs.LeaderLemmas.{AreLeadersFrom, leaders_all}
 use Rattle.epx_components.proofs.leaders.find_leaders.Goals as goal

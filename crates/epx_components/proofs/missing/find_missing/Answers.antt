@@ -1,5 +1,5 @@
 use Rattle.std.proofs.Common.{get_or, false, IsTrue, arith}
-use Rattle.epx_graph.specs.Graphs.{edges_of}
+use Rattle.epx_graph.proofs.Common.{edges_of}
 use Rattle.epx_components.specs.Partitions.{parts}
 use Rattle.epx_components.proofs.MissingLemmas.{marks_missing, none_missing}
 use Rattle.epx_components.proofs.missing.find_missing.Goals as goal

@@ -1,5 +1,5 @@
 use Rattle.std.proofs.Common.{◌≡◌, ◌≤◌, take}
-use Rattle.epx_types.specs.ExecutionOrder.{component_count}
+use Rattle.epx_types.proofs.Common.{component_count}
 use Rattle.epx_components.specs.Ranks.{ranked_all}
 use Rattle.epx_components.proofs.order_list.count_leaders.Given as goal
 

@@ -1,6 +1,5 @@
 use Rattle.std.proofs.Common.{◌≡◌, length, arith, sym, subst, ◌∙◌, ap}
-use Rattle.epx_graph.specs.Graphs.{edges_of}
-use Rattle.epx_graph.proofs.GraphNodeLemmas.{edge_within}
+use Rattle.epx_graph.proofs.Common.{edges_of, edge_within}
 use Rattle.epx_components.proofs.EdgeLemmas.{edge_from}
 use Rattle.epx_components.proofs.EndLemmas.{all_closed, end_partition}
 use Rattle.epx_components.specs.inner.SearchInvariants.{IsSearch}

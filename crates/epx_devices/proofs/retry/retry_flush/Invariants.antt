@@ -1,4 +1,4 @@
-use Rattle.std.specs.Io.KnownBytes.{Keeps}
+use Rattle.epx_types.proofs.Common.{Keeps}
 use Rattle.epx_devices.proofs.retry.retry_flush.Given as goal
 
 abbrev pub invariant-loop : goal.invariant-loop

@@ -1,5 +1,5 @@
 use Rattle.std.proofs.Common.{◌≡◌, length}
-use Rattle.std.specs.Io.KnownBytes.{Keeps}
+use Rattle.epx_types.proofs.Common.{Keeps}
 use Rattle.epx_devices.proofs.retry.retry_read.Given as goal
 
 abbrev pub invariant-loop : goal.invariant-loop

@@ -1,7 +1,6 @@
-use Rattle.std.proofs.Common.{◌≡◌, ◌≤◌, ◌+◌, ◌++◌, length, take, arith, false, rules}
-use Rattle.std.proofs.Common.{append_assoc, ap, sym, ◌∙◌, subst}
-use Rattle.std.proofs.lemmas.Grind.{common_steps}
-use Rattle.std.proofs.lemmas.List.{length-append}
+use Rattle.std.proofs.Common.{◌≡◌, ◌≤◌, ◌+◌, ◌++◌, length, take, arith, false, rules, append_assoc}
+use Rattle.std.proofs.Common.{ap, sym, ◌∙◌, subst}
+use Rattle.epx_types.proofs.Common.{common_steps, length-append}
 use Rattle.epx_devices.specs.LogParts.{IsReadUpTo}
 use Rattle.epx_devices.proofs.TransferLemmas.{IsReadUpTo-step, out_of_memory}
 use Rattle.epx_devices.proofs.transfer.read_on.Goals as goal

@@ -1,5 +1,5 @@
 use Rattle.std.proofs.Common.{◌≡◌, arith}
-use Rattle.std.proofs.lemmas.Grind.{common_steps}
+use Rattle.epx_types.proofs.Common.{common_steps}
 use Rattle.epx_devices.proofs.TransferLemmas.{IsWritten-step}
 use Rattle.epx_devices.proofs.transfer.write_out.Goals as goal
 

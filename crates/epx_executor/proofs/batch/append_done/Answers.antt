@@ -1,11 +1,10 @@
 use Rattle.std.proofs.Common.{◌∷◌, [], ◌++◌, List, sym, ap, ◌∙◌, take, filter, get_or}
-use Rattle.std.proofs.lemmas.List.{append_assoc}
-use Rattle.epx_types.specs.declared.id.Id.{Id}
-use Rattle.epx_types.specs.Done.{is_among}
+use Rattle.epx_types.proofs.Common.{append_assoc, Id, is_among}
 use Rattle.epx_executor.proofs.FilterLemmas.{filter-kept, filter-skipped}
 use Rattle.epx_executor.proofs.RemainderLemmas.{was_done, was_left}
 use Rattle.epx_executor.proofs.batch.append_done.Goals as goal
-use Rattle.epx_executor.proofs.batch.append_done.Goals.{then-not-is_left+in_ok-push, else-not-is_left}
+use Rattle.epx_executor.proofs.batch.append_done.Goals.{then-not-is_left+in_ok-push}
+use Rattle.epx_executor.proofs.batch.append_done.Goals.{else-not-is_left}
 
 pub loop-id-preserved : goal.loop-id-preserved
 loop-id-preserved c =

@@ -1,5 +1,5 @@
 use Rattle.std.proofs.Common.{◌≡◌, ◌++◌, filter, take}
-use Rattle.epx_types.specs.Done.{is_among}
+use Rattle.epx_types.proofs.Common.{is_among}
 use Rattle.epx_executor.proofs.batch.append_done.Given as goal
 
 abbrev pub invariant-loop-id : goal.invariant-loop-id

@@ -1,6 +1,5 @@
 use Rattle.std.proofs.Common.{◌≡◌, filter, flat_map, take}
-use Rattle.epx_types.specs.Done.{is_among}
-use Rattle.epx_types.specs.Instances.{Instance}
+use Rattle.epx_types.proofs.Common.{is_among, Instance}
 use Rattle.epx_executor.proofs.batch.done_deps.Given as goal
 
 abbrev pub invariant-loop-position : goal.invariant-loop-position

@@ -1,6 +1,5 @@
 use Rattle.std.proofs.Common.{List, map, ap, ◌∙◌}
-use Rattle.std.proofs.lemmas.Result.{MatchResult-weaker}
-use Rattle.epx_types.specs.Instances.{Instance}
+use Rattle.epx_types.proofs.Common.{MatchResult-weaker, Instance}
 use Rattle.epx_executor.specs.CallLines.{lines_from}
 use Rattle.epx_executor.proofs.CallBatchLemmas.{fault_of, next_of, part_is_pending}
 use Rattle.epx_executor.proofs.batch.next_batch.Goals as goal

@@ -1,8 +1,5 @@
 use Rattle.std.proofs.Common.{List, sym, subst}
-use Rattle.epx_types.specs.Done.{remaining}
-use Rattle.epx_types.specs.ExecutionOrder.{IsExecutionOrder}
-use Rattle.epx_types.specs.Instances.{Instance}
-use Rattle.epx_types.specs.WaitingLists.{IsWaitingList}
+use Rattle.epx_types.proofs.Common.{remaining, IsExecutionOrder, Instance, IsWaitingList}
 use Rattle.epx_executor.specs.inner.Batches.{AreDoneDeps}
 use Rattle.epx_executor.proofs.RemainderLemmas.{remaining-done_deps}
 use Rattle.epx_executor.proofs.batch.order_remaining.Goals as goal

@@ -1,5 +1,5 @@
 use Rattle.std.proofs.Common.{◌≡◌, map, take, slice_get}
-use Rattle.epx_types.specs.CommittedMap.{instance_of, ops_or_empty}
+use Rattle.epx_types.proofs.Common.{instance_of, ops_or_empty}
 use Rattle.epx_executor.proofs.batch.positions_of.Given as goal
 
 abbrev pub invariant-loop-id : goal.invariant-loop-id

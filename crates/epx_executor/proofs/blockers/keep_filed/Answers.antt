@@ -1,6 +1,5 @@
 use Rattle.std.proofs.Common.{rules, ◌≡◌, Some}
-use Rattle.std.specs.BTreeMap.{get}
-use Rattle.epx_types.specs.Ids.{id_cmp}
+use Rattle.epx_types.proofs.Common.{get, id_cmp}
 use Rattle.epx_executor.proofs.FilingMapLemmas.{Contains-retained}
 use Rattle.epx_executor.proofs.blockers.keep_filed.Goals as goal
 

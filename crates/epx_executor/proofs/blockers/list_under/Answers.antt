@@ -1,6 +1,5 @@
 use Rattle.std.proofs.Common.{◌∷◌, [], Contains, sym, subst, rules, List}
-use Rattle.std.proofs.lemmas.List.Elements.{Contains-append_left}
-use Rattle.epx_types.specs.declared.id.Id.{Id}
+use Rattle.epx_types.proofs.Common.{Contains-append_left, Id}
 use Rattle.epx_executor.proofs.FilingMapLemmas.{Contains-from_listed, IsListed-updated}
 use Rattle.epx_executor.proofs.FilingMapLemmas.{none-listed}
 use Rattle.epx_executor.proofs.blockers.list_under.Goals as goal

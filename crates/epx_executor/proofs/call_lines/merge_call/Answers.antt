@@ -1,5 +1,5 @@
 use Rattle.std.proofs.Common.{◌≡◌, ◌++◌, List, [], subst, ap₂}
-use Rattle.epx_types.specs.PlacedLines.{Placed}
+use Rattle.epx_types.proofs.Common.{Placed}
 use Rattle.epx_committed.specs.Ledgers.{IsLedgerOf}
 use Rattle.epx_executor.specs.CallLines.{call_lines}
 use Rattle.epx_executor.proofs.CallLineLemmas.{call_in_order}

@@ -1,7 +1,6 @@
 use Rattle.std.proofs.Common.{◌∷◌, [], ◌++◌, List, map, sym, ap, ap₂, ◌∙◌, arith}
 use Rattle.std.proofs.Math.ListN.{get_or-map}
-use Rattle.std.proofs.lemmas.List.{length-map}
-use Rattle.epx_types.specs.PlacedLines.{Placed}
+use Rattle.epx_types.proofs.Common.{length-map, Placed}
 use Rattle.epx_executor.proofs.CallLineLemmas.{line_at, lines_from-more}
 use Rattle.epx_executor.proofs.call_lines.pending_lines.Goals as goal
 

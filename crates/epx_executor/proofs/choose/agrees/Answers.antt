@@ -1,5 +1,5 @@
 use Rattle.std.proofs.Common.{Contains, sym, subst, ◌∙◌}
-use Rattle.epx_types.specs.Done.{is_among}
+use Rattle.epx_types.proofs.Common.{is_among}
 use Rattle.epx_executor.proofs.RemainderLemmas.{from_among, was_done}
 use Rattle.epx_executor.proofs.choose.agrees.Goals as goal
 

@@ -1,5 +1,5 @@
 use Rattle.std.proofs.Common.{take, Contains}
-use Rattle.epx_types.specs.Instances.{Instance}
+use Rattle.epx_types.proofs.Common.{Instance}
 use Rattle.epx_executor.specs.inner.Choices.{AreBlocked, IsSortedOut}
 use Rattle.epx_executor.proofs.choose.choose_some.Given as goal
 

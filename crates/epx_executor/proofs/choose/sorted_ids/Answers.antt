@@ -1,7 +1,5 @@
 use Rattle.std.proofs.Common.{◌↔◌, List, Contains, IfOk, ap, subst, ◌∙◌}
-use Rattle.std.proofs.lemmas.List.{take_all}
-use Rattle.epx_types.specs.declared.id.Id.{Id}
-use Rattle.epx_types.specs.CommittedMap.{ids_of}
+use Rattle.epx_types.proofs.Common.{take_all, Id, ids_of}
 use Rattle.epx_executor.proofs.choose.sorted_ids.Goals as goal
 
 pub returns-clause-exact : goal.returns-clause-exact

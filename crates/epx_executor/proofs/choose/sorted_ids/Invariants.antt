@@ -1,5 +1,5 @@
 use Rattle.std.proofs.Common.{◌≡◌, take}
-use Rattle.epx_types.specs.CommittedMap.{ids_of}
+use Rattle.epx_types.proofs.Common.{ids_of}
 use Rattle.epx_executor.proofs.choose.sorted_ids.Given as goal
 
 abbrev pub invariant-loop-entry : goal.invariant-loop-entry

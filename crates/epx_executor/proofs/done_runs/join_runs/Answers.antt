@@ -1,5 +1,5 @@
 use Rattle.std.proofs.Common.{◌↔◌, List, subst, arith}
-use Rattle.std.proofs.lemmas.List.{take_all}
+use Rattle.epx_types.proofs.Common.{take_all}
 use Rattle.epx_executor.specs.declared.done_runs.Run.{Run}
 use Rattle.epx_executor.specs.Runs.{IsInRuns}
 use Rattle.epx_executor.proofs.RunLemmas.{AreJoined-more}

@@ -1,13 +1,12 @@
 use Rattle.std.proofs.Common.{◌⊎◌, ◌↔◌, ◌++◌, ◌∷◌, [], List, ◌∙◌, sym, subst, ap, All, Some, arith}
-use Rattle.std.proofs.lemmas.List.Elements.{All-push, All-pop}
-use Rattle.epx_types.specs.declared.id.Id.{Id}
-use Rattle.epx_types.specs.Ids.{UpTo}
+use Rattle.epx_types.proofs.Common.{All-push, All-pop, Id, UpTo}
 use Rattle.epx_executor.specs.declared.done_runs.Run.{Run}
 use Rattle.epx_executor.specs.Runs.{AreRuns, start_of, IsInRun, IsInRuns}
 use Rattle.epx_executor.proofs.RunLemmas.{AreRuns-lengthened, IsInRuns-lengthened, AreRuns-after}
 use Rattle.epx_executor.proofs.RunLemmas.{AreRuns-first}
 use Rattle.epx_executor.proofs.done_runs.push_run.Goals as goal
-use Rattle.epx_executor.proofs.done_runs.push_run.Goals.{in-Some+in_default-join+in_ok-push-2, in_default}
+use Rattle.epx_executor.proofs.done_runs.push_run.Goals.{in-Some+in_default-join+in_ok-push-2}
+use Rattle.epx_executor.proofs.done_runs.push_run.Goals.{in_default}
 
 pub returns-in-Some-join-clause-runs : goal.returns-in-Some-join-clause-runs
 returns-in-Some-join-clause-runs c =

@@ -1,5 +1,5 @@
 use Rattle.std.proofs.Common.{◌≡◌, map, take, slice_get}
-use Rattle.epx_types.specs.CommittedMap.{ops_or_empty}
+use Rattle.epx_types.proofs.Common.{ops_or_empty}
 use Rattle.epx_executor.proofs.execute_all.commands_at.Given as goal
 
 abbrev pub invariant-loop-id : goal.invariant-loop-id

@@ -1,7 +1,5 @@
 use Rattle.std.proofs.Common.{map, length, ap, ◌∙◌}
-use Rattle.std.proofs.lemmas.List.{length-map}
-use Rattle.epx_types.specs.declared.command.Command.{Command}
-use Rattle.epx_types.proofs.commands.ExecutionLemmas.{length-replies}
+use Rattle.epx_types.proofs.Common.{length-map, Command, length-replies}
 use Rattle.epx_executor.proofs.execute_all.execute_all.Goals as goal
 
 pub pair_up-requires : goal.pair_up-requires

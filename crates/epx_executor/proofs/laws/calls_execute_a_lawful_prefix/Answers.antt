@@ -1,6 +1,5 @@
 use Rattle.std.proofs.Common.{[]}
-use Rattle.epx_types.specs.ExecutionOrder.{ranked_ids}
-use Rattle.epx_types.proofs.orders.ExecutionOrderLemmas.{IsExecutionOrder-IsLawful}
+use Rattle.epx_types.proofs.Common.{ranked_ids, IsExecutionOrder-IsLawful}
 use Rattle.epx_executor.specs.ExecutorLaws.{new_executor}
 use Rattle.epx_executor.specs.HistoryLaws.{executed_ids}
 use Rattle.epx_executor.proofs.PrefixLemmas.{begins_lawfully, executed_after, nothing_executed}

@@ -1,6 +1,5 @@
 use Rattle.std.proofs.Common.{sym, subst}
-use Rattle.epx_types.specs.Contents.{Contents}
-use Rattle.epx_types.specs.Sound.{IsSound}
+use Rattle.epx_types.proofs.Common.{Contents, IsSound}
 use Rattle.epx_executor.proofs.CommitLemmas.{can_resume, has_pending}
 use Rattle.epx_executor.proofs.laws.committing_stays_sound.Goals as goal
 

@@ -1,4 +1,4 @@
-use Rattle.epx_types.proofs.lists.MembershipLemmas.{Contains-nil}
+use Rattle.epx_types.proofs.Common.{Contains-nil}
 use Rattle.epx_executor.proofs.laws.new_executor_is_sound.Goals as goal
 
 pub returns : goal.returns

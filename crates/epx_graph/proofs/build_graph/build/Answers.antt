@@ -1,6 +1,5 @@
 use Rattle.std.proofs.Common.{[], subst}
-use Rattle.std.proofs.lemmas.Result.{IfOk-weaker}
-use Rattle.epx_types.proofs.remaining.RemainingLemmas.{remaining-nil}
+use Rattle.epx_types.proofs.Common.{IfOk-weaker, remaining-nil}
 use Rattle.epx_graph.specs.GraphOf.{IsGraphOf}
 use Rattle.epx_graph.specs.Graphs.{DependencyGraph}
 use Rattle.epx_graph.proofs.build_graph.build.Goals as goal

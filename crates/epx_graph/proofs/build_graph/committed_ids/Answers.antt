@@ -1,7 +1,5 @@
 use Rattle.std.proofs.Common.{◌++◌, ◌∷◌, [], take, sym, ap, ◌∙◌}
-use Rattle.epx_types.specs.Instances.{Instance}
-use Rattle.epx_types.specs.CommittedMap.{ids_of}
-use Rattle.epx_types.proofs.lists.ListPositionLemmas.{slice_get-from_map}
+use Rattle.epx_types.proofs.Common.{Instance, ids_of, slice_get-from_map}
 use Rattle.epx_graph.specs.inner.Remainder.{rest_of}
 use Rattle.epx_graph.proofs.MissingIdLemmas.{ids_more}
 use Rattle.epx_graph.proofs.build_graph.committed_ids.Goals as goal

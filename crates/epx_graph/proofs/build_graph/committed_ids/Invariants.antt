@@ -1,5 +1,5 @@
 use Rattle.std.proofs.Common.{◌≡◌, take}
-use Rattle.epx_types.specs.CommittedMap.{ids_of}
+use Rattle.epx_types.proofs.Common.{ids_of}
 use Rattle.epx_graph.specs.inner.Remainder.{rest_of}
 use Rattle.epx_graph.proofs.build_graph.committed_ids.Given as goal
 

@@ -1,5 +1,5 @@
 use Rattle.std.proofs.Common.{◌≡◌, ◌++◌, sym, ap, subst, ◌∙◌}
-use Rattle.epx_types.specs.CommittedMap.{ids_of}
+use Rattle.epx_types.proofs.Common.{ids_of}
 use Rattle.epx_graph.specs.inner.Remainder.{rest_of}
 use Rattle.epx_graph.specs.inner.Nodes.{AreNodesOf}
 use Rattle.epx_graph.proofs.MissingIdLemmas.{missing_kept}

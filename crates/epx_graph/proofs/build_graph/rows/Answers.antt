@@ -1,6 +1,5 @@
 use Rattle.std.proofs.Common.{◌≡◌, [], arith}
-use Rattle.std.proofs.lemmas.Bool.Decides.{nat_tests}
-use Rattle.std.proofs.lemmas.List.{nil_from_length}
+use Rattle.epx_types.proofs.Common.{nat_tests, nil_from_length}
 use Rattle.epx_graph.specs.inner.Remainder.{rest_of}
 use Rattle.epx_graph.proofs.GatherRowLemmas.{rows_whole}
 use Rattle.epx_graph.proofs.build_graph.rows.Goals as goal

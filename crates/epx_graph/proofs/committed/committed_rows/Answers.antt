@@ -1,5 +1,5 @@
 use Rattle.std.proofs.Common.{ℕ, List, flat_map, sym, subst, rules, arith}
-use Rattle.std.proofs.lemmas.Result.{IfOk-weaker}
+use Rattle.epx_types.proofs.Common.{IfOk-weaker}
 use Rattle.epx_graph.specs.declared.committed.Gathered.{Gathered}
 use Rattle.epx_graph.specs.inner.Remainder.{rest_of}
 use Rattle.epx_graph.specs.inner.Nodes.{IsGatheredOf, instances_of_piece}

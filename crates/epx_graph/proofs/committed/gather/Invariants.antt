@@ -1,5 +1,5 @@
 use Rattle.std.proofs.Common.{◌≡◌, ◌++◌, take}
-use Rattle.epx_types.specs.Done.{remaining_ids}
+use Rattle.epx_types.proofs.Common.{remaining_ids}
 use Rattle.epx_graph.specs.inner.Remainder.{rest_of}
 use Rattle.epx_graph.specs.inner.Nodes.{positions_of, missing_of}
 use Rattle.epx_graph.proofs.committed.gather.Given as goal

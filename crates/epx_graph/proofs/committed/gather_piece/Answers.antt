@@ -1,6 +1,6 @@
-use Rattle.std.proofs.Common.{◌≡◌, ◌≤◌, ◌+◌, ◌++◌, ◌∷◌, [], List, ℕ, sym, ap, subst, ◌∙◌}
-use Rattle.std.proofs.Common.{arith, slice_range}
-use Rattle.epx_types.specs.Done.{without_deps, remaining_ids}
+use Rattle.std.proofs.Common.{◌≡◌, ◌≤◌, ◌+◌, ◌++◌, ◌∷◌, [], List, ℕ, sym, ap, subst, ◌∙◌, arith}
+use Rattle.std.proofs.Common.{slice_range}
+use Rattle.epx_types.proofs.Common.{without_deps, remaining_ids}
 use Rattle.epx_graph.specs.inner.Remainder.{rest_of}
 use Rattle.epx_graph.specs.inner.Nodes.{positions_of, missing_of, IsGatheredOf, first_of_piece}
 use Rattle.epx_graph.proofs.GatherPieceLemmas.{gathered_none, gathered_more}

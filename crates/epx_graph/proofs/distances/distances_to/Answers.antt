@@ -1,5 +1,5 @@
 use Rattle.std.proofs.Common.{◌<◌, ◌+◌, ℕ, All, sym, subst}
-use Rattle.std.proofs.lemmas.Result.{IfOk-weaker}
+use Rattle.epx_types.proofs.Common.{IfOk-weaker}
 use Rattle.epx_graph.specs.declared.search.MarkKind.TheVariants as kind
 use Rattle.epx_graph.specs.NodeSteps.{AreDistancesTo}
 use Rattle.epx_graph.specs.inner.Searches.{mark_by, AreFirstMarks}

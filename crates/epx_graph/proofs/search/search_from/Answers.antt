@@ -1,7 +1,6 @@
 use Rattle.std.proofs.Common.{◌≡◌, ◌<◌, ◌+◌, ℕ, List, [], ◌∷◌, length, flat_map, sym, subst, subst₂}
 use Rattle.std.proofs.Common.{arith}
-use Rattle.std.proofs.lemmas.Bool.Decides.{nat_tests}
-use Rattle.std.proofs.lemmas.List.{nil_from_length}
+use Rattle.epx_types.proofs.Common.{nat_tests, nil_from_length}
 use Rattle.epx_rows.specs.Rows.{row_of}
 use Rattle.epx_graph.specs.inner.Searches.{mark_by, SearchView, IsVisit, IsLevelSearch}
 use Rattle.epx_graph.proofs.SearchLemmas.{search_first, search_next, search_end}

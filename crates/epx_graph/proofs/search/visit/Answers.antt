@@ -1,5 +1,5 @@
 use Rattle.std.proofs.Common.{◌<◌, get_or, length, sym, arith}
-use Rattle.std.proofs.lemmas.List.Elements.{All-get_or}
+use Rattle.epx_types.proofs.Common.{All-get_or}
 use Rattle.epx_graph.specs.inner.Searches.{SearchView}
 use Rattle.epx_graph.proofs.SearchLemmas.{visit_skip, visit_mark}
 use Rattle.epx_graph.proofs.search.visit.Goals as goal

@@ -1,4 +1,4 @@
-use Rattle.epx_types.proofs.committed.AgreementLemmas.{instance_of_iff}
+use Rattle.epx_types.proofs.Common.{instance_of_iff}
 use Rattle.epx_laws.proofs.agreement.look_up_finds_instance.Goals as goal
 
 pub returns : goal.returns

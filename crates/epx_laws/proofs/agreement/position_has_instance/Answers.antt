@@ -1,4 +1,4 @@
-use Rattle.epx_types.proofs.committed.PositionLemmas.{position_of-instance, position_of-found}
+use Rattle.epx_types.proofs.Common.{position_of-instance, position_of-found}
 use Rattle.epx_laws.proofs.agreement.position_has_instance.Goals as goal
 
 pub returns : goal.returns

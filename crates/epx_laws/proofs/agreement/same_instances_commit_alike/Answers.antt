@@ -1,7 +1,5 @@
 use Rattle.std.proofs.Common.{◌∙◌, List, Contains, subst}
-use Rattle.epx_types.specs.Instances.{Instance}
-use Rattle.epx_types.specs.PlacedLines.{Placed}
-use Rattle.epx_types.specs.CommittedMap.{IsCommittedBy}
+use Rattle.epx_types.proofs.Common.{Instance, Placed, IsCommittedBy}
 use Rattle.epx_laws.specs.AgreementLaws.{HaveInstancesOf}
 use Rattle.epx_laws.proofs.agreement.same_instances_commit_alike.Goals as goal
 

@@ -1,4 +1,4 @@
-use Rattle.epx_types.proofs.commands.CommandLemmas.{after-abort, writes_of-abort}
+use Rattle.epx_types.proofs.Common.{after-abort, writes_of-abort}
 use Rattle.epx_laws.proofs.commands.abort_leaves_contents.Goals as goal
 
 pub returns : goal.returns

@@ -1,5 +1,5 @@
-use Rattle.epx_types.proofs.keys.KeyListLemmas.{AllPairs-rising_keys, Contains-rising_keys}
-use Rattle.epx_types.proofs.keys.KeyListLemmas.{Contains-from_rising_keys}
+use Rattle.epx_types.proofs.Common.{AllPairs-rising_keys, Contains-rising_keys}
+use Rattle.epx_types.proofs.Common.{Contains-from_rising_keys}
 use Rattle.epx_laws.proofs.commands.keys_rise.Goals as goal
 
 pub returns : goal.returns

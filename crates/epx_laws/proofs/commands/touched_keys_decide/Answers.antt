@@ -1,4 +1,4 @@
-use Rattle.epx_types.proofs.commands.CommandLemmas.{command_on-HasSameOutcome, writes_of-alike}
+use Rattle.epx_types.proofs.Common.{command_on-HasSameOutcome, writes_of-alike}
 use Rattle.epx_laws.proofs.commands.touched_keys_decide.Goals as goal
 
 pub returns : goal.returns

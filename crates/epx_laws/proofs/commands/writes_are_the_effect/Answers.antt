@@ -1,4 +1,4 @@
-use Rattle.epx_types.proofs.commands.CommandLemmas.{apply_writes-writes_of}
+use Rattle.epx_types.proofs.Common.{apply_writes-writes_of}
 use Rattle.epx_laws.proofs.commands.writes_are_the_effect.Goals as goal
 
 pub returns : goal.returns

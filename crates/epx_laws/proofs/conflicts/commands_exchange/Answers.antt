@@ -1,4 +1,4 @@
-use Rattle.epx_types.proofs.commands.ConflictLemmas.{reply-no_conflict, after-exchanged}
+use Rattle.epx_types.proofs.Common.{reply-no_conflict, after-exchanged}
 use Rattle.epx_laws.proofs.conflicts.commands_exchange.Goals as goal
 
 pub returns : goal.returns

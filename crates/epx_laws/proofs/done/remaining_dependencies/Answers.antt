@@ -1,4 +1,4 @@
-use Rattle.epx_types.proofs.remaining.RemainingLemmas.{DependsOn-remaining}
+use Rattle.epx_types.proofs.Common.{DependsOn-remaining}
 use Rattle.epx_laws.proofs.done.remaining_dependencies.Goals as goal
 
 pub returns : goal.returns

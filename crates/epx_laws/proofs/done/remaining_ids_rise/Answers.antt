@@ -1,4 +1,4 @@
-use Rattle.epx_types.proofs.remaining.RemainingLemmas.{IsRising-remaining}
+use Rattle.epx_types.proofs.Common.{IsRising-remaining}
 use Rattle.epx_laws.proofs.done.remaining_ids_rise.Goals as goal
 
 pub returns : goal.returns

@@ -1,4 +1,4 @@
-use Rattle.epx_types.proofs.remaining.RemainingLemmas.{Contains-remaining_iff}
+use Rattle.epx_types.proofs.Common.{Contains-remaining_iff}
 use Rattle.epx_laws.proofs.done.remaining_is_not_done.Goals as goal
 
 pub returns : goal.returns

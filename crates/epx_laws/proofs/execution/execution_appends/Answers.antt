@@ -1,4 +1,4 @@
-use Rattle.epx_types.proofs.commands.ExecutionLemmas.{execute-append}
+use Rattle.epx_types.proofs.Common.{execute-append}
 use Rattle.epx_laws.proofs.execution.execution_appends.Goals as goal
 
 pub returns : goal.returns

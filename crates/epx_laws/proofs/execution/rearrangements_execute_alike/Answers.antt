@@ -1,4 +1,4 @@
-use Rattle.epx_types.proofs.commands.RearrangementLemmas.{final-rearranged, reply-rearranged}
+use Rattle.epx_types.proofs.Common.{final-rearranged, reply-rearranged}
 use Rattle.epx_laws.proofs.execution.rearrangements_execute_alike.Goals as goal
 
 pub returns : goal.returns

@@ -1,4 +1,4 @@
-use Rattle.epx_types.proofs.levels.LevelLemmas.{IsLevel-rises}
+use Rattle.epx_types.proofs.Common.{IsLevel-rises}
 use Rattle.epx_laws.proofs.levels.conflicts_climb.Goals as goal
 
 pub returns : goal.returns

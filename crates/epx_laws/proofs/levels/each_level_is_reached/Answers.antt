@@ -1,4 +1,4 @@
-use Rattle.epx_types.proofs.levels.LevelLemmas.{each_level-reached}
+use Rattle.epx_types.proofs.Common.{each_level-reached}
 use Rattle.epx_laws.proofs.levels.each_level_is_reached.Goals as goal
 
 pub returns : goal.returns

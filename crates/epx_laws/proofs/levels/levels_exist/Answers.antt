@@ -1,4 +1,4 @@
-use Rattle.epx_types.proofs.levels.LevelExistenceLemmas.{levels_exist}
+use Rattle.epx_types.proofs.Common.{levels_exist}
 use Rattle.epx_laws.proofs.levels.levels_exist.Goals as goal
 
 pub returns : goal.returns

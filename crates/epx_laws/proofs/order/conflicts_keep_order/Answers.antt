@@ -1,5 +1,5 @@
 use Rattle.std.proofs.Common.{inl, inr}
-use Rattle.epx_types.proofs.orders.LawfulOrderLemmas.{Before-alike_reaching, Before-alike_reached}
+use Rattle.epx_types.proofs.Common.{Before-alike_reaching, Before-alike_reached}
 use Rattle.epx_laws.proofs.order.conflicts_keep_order.Goals as goal
 
 pub returns : goal.returns

@@ -1,4 +1,4 @@
-use Rattle.epx_types.proofs.orders.ExecutionOrderLemmas.{IsExecutionOrder-unique}
+use Rattle.epx_types.proofs.Common.{IsExecutionOrder-unique}
 use Rattle.epx_laws.proofs.order.execution_order_is_unique.Goals as goal
 
 pub returns : goal.returns

@@ -1,4 +1,4 @@
-use Rattle.epx_types.proofs.orders.LawfulExecutionLemmas.{final-lawful, reply-lawful}
+use Rattle.epx_types.proofs.Common.{final-lawful, reply-lawful}
 use Rattle.epx_laws.proofs.order.lawful_orders_execute_alike.Goals as goal
 
 pub returns : goal.returns

@@ -1,4 +1,4 @@
-use Rattle.epx_types.proofs.orders.LawfulOrderLemmas.{Before-alike_reaching, Before-alike_reached}
+use Rattle.epx_types.proofs.Common.{Before-alike_reaching, Before-alike_reached}
 use Rattle.epx_laws.proofs.order.related_keep_order.Goals as goal
 
 pub returns : goal.returns

@@ -1,4 +1,4 @@
-use Rattle.epx_types.proofs.lists.PieceLemmas.{piece_end-after_start, piece_end-within_cut}
+use Rattle.epx_types.proofs.Common.{piece_end-after_start, piece_end-within_cut}
 use Rattle.epx_laws.proofs.pieces.piece_size_is_bounded.Goals as goal
 
 pub returns : goal.returns

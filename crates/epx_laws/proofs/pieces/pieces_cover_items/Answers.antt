@@ -1,4 +1,4 @@
-use Rattle.epx_types.proofs.lists.PieceLemmas.{piece_of_item}
+use Rattle.epx_types.proofs.Common.{piece_of_item}
 use Rattle.epx_laws.proofs.pieces.pieces_cover_items.Goals as goal
 
 pub returns : goal.returns

@@ -1,5 +1,5 @@
 use Rattle.std.proofs.Common.{arith}
-use Rattle.epx_types.proofs.lists.PieceLemmas.{piece_end-next, piece_end-last}
+use Rattle.epx_types.proofs.Common.{piece_end-next, piece_end-last}
 use Rattle.epx_laws.proofs.pieces.pieces_follow_each_other.Goals as goal
 
 pub returns : goal.returns

@@ -1,5 +1,5 @@
 use Rattle.std.proofs.Common.{◌++◌, append_assoc, subst}
-use Rattle.epx_types.specs.LawfulOrders.{IsLawful}
+use Rattle.epx_types.proofs.Common.{IsLawful}
 use Rattle.epx_laws.proofs.prefixes.prefixes_begin_lawfully.Goals as goal
 
 pub returns : goal.returns

@@ -1,4 +1,4 @@
-use Rattle.epx_types.proofs.graph.DependencyLemmas.{DependsOn-committed, DependsOn-listed}
+use Rattle.epx_types.proofs.Common.{DependsOn-committed, DependsOn-listed}
 use Rattle.epx_laws.proofs.reaching.dependencies_are_listed.Goals as goal
 
 pub returns : goal.returns

@@ -1,4 +1,4 @@
-use Rattle.epx_types.proofs.orders.RankExistenceLemmas.{depth_exists}
+use Rattle.epx_types.proofs.Common.{depth_exists}
 use Rattle.epx_laws.proofs.reaching.depth_exists.Goals as goal
 
 pub returns : goal.returns

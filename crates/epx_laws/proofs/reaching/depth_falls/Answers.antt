@@ -1,4 +1,4 @@
-use Rattle.epx_types.proofs.graph.ReachingLemmas.{IsDepth-falls}
+use Rattle.epx_types.proofs.Common.{IsDepth-falls}
 use Rattle.epx_laws.proofs.reaching.depth_falls.Goals as goal
 
 pub returns : goal.returns

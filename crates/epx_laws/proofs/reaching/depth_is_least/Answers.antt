@@ -1,4 +1,4 @@
-use Rattle.epx_types.proofs.graph.ReachingLemmas.{IsDepth-least}
+use Rattle.epx_types.proofs.Common.{IsDepth-least}
 use Rattle.epx_laws.proofs.reaching.depth_is_least.Goals as goal
 
 pub returns : goal.returns

@@ -1,4 +1,4 @@
-use Rattle.epx_types.proofs.orders.RankExistenceLemmas.{leader_exists}
+use Rattle.epx_types.proofs.Common.{leader_exists}
 use Rattle.epx_laws.proofs.reaching.leader_exists.Goals as goal
 
 pub returns : goal.returns

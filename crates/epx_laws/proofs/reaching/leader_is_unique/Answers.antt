@@ -1,4 +1,4 @@
-use Rattle.epx_types.proofs.graph.ReachingLemmas.{IsLeader-unique}
+use Rattle.epx_types.proofs.Common.{IsLeader-unique}
 use Rattle.epx_laws.proofs.reaching.leader_is_unique.Goals as goal
 
 pub returns : goal.returns

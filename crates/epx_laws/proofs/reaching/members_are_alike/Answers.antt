@@ -1,4 +1,4 @@
-use Rattle.epx_types.proofs.graph.ReachingLemmas.{IsLeader-along, IsDepth-along, IsReady-reached}
+use Rattle.epx_types.proofs.Common.{IsLeader-along, IsDepth-along, IsReady-reached}
 use Rattle.epx_laws.proofs.reaching.members_are_alike.Goals as goal
 
 pub returns : goal.returns

@@ -1,4 +1,4 @@
-use Rattle.epx_types.proofs.graph.WaitingLemmas.{IsReady-none_missing}
+use Rattle.epx_types.proofs.Common.{IsReady-none_missing}
 use Rattle.epx_laws.proofs.reaching.none_missing_all_ready.Goals as goal
 
 pub returns : goal.returns

@@ -1,5 +1,4 @@
-use Rattle.epx_types.proofs.graph.ReachingLemmas.{InOneComponent-refl, InOneComponent-symm}
-use Rattle.epx_types.proofs.graph.ReachingLemmas.{InOneComponent-trans}
+use Rattle.epx_types.proofs.Common.{InOneComponent-refl, InOneComponent-symm, InOneComponent-trans}
 use Rattle.epx_laws.proofs.reaching.one_component_is_equivalence.Goals as goal
 
 pub returns : goal.returns

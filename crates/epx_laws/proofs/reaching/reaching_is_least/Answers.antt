@@ -1,5 +1,5 @@
 use Rattle.std.proofs.Common.{◌≡◌, true}
-use Rattle.epx_types.proofs.graph.ReachingLemmas.{Reaches-passes}
+use Rattle.epx_types.proofs.Common.{Reaches-passes}
 use Rattle.epx_laws.proofs.reaching.reaching_is_least.Goals as goal
 
 pub returns : goal.returns

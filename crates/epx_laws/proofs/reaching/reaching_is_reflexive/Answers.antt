@@ -1,4 +1,4 @@
-use Rattle.epx_types.proofs.graph.ReachingLemmas.{Reaches-refl}
+use Rattle.epx_types.proofs.Common.{Reaches-refl}
 use Rattle.epx_laws.proofs.reaching.reaching_is_reflexive.Goals as goal
 
 pub returns : goal.returns

@@ -1,4 +1,4 @@
-use Rattle.epx_types.proofs.graph.ReachingLemmas.{Reaches-trans}
+use Rattle.epx_types.proofs.Common.{Reaches-trans}
 use Rattle.epx_laws.proofs.reaching.reaching_is_transitive.Goals as goal
 
 pub returns : goal.returns

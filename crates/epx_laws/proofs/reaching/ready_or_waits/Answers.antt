@@ -1,4 +1,4 @@
-use Rattle.epx_types.proofs.orders.RankExistenceLemmas.{ready_or_waits}
+use Rattle.epx_types.proofs.Common.{ready_or_waits}
 use Rattle.epx_laws.proofs.reaching.ready_or_waits.Goals as goal
 
 pub returns : goal.returns

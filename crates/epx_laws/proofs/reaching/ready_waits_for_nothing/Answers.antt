@@ -1,5 +1,4 @@
-use Rattle.epx_types.proofs.graph.ReachingLemmas.{IsReady-not_waiting}
-use Rattle.epx_types.proofs.graph.WaitingLemmas.{IsReady-from_no_wait}
+use Rattle.epx_types.proofs.Common.{IsReady-not_waiting, IsReady-from_no_wait}
 use Rattle.epx_laws.proofs.reaching.ready_waits_for_nothing.Goals as goal
 
 pub returns : goal.returns

@@ -1,4 +1,4 @@
-use Rattle.epx_types.proofs.orders.OrderExistenceLemmas.{waiting_list_exists}
+use Rattle.epx_types.proofs.Common.{waiting_list_exists}
 use Rattle.epx_laws.proofs.reaching.waiting_list_exists.Goals as goal
 
 pub returns : goal.returns

@@ -1,6 +1,4 @@
-use Rattle.epx_types.specs.ExecutionOrder.{ranked_ids}
-use Rattle.epx_types.proofs.orders.ExecutionOrderLemmas.{IsExecutionOrder-IsLawful}
-use Rattle.epx_types.proofs.remaining.ResumedExecutionLemmas.{IsSound-final}
+use Rattle.epx_types.proofs.Common.{ranked_ids, IsExecutionOrder-IsLawful, IsSound-final}
 use Rattle.epx_laws.proofs.resumed_runs.all_done_is_the_whole.Goals as goal
 
 pub returns : goal.returns

@@ -1,6 +1,4 @@
-use Rattle.epx_types.specs.ExecutionOrder.{ranked_ids}
-use Rattle.epx_types.proofs.orders.ExecutionOrderLemmas.{IsExecutionOrder-IsLawful}
-use Rattle.epx_types.proofs.remaining.ResumedExecutionLemmas.{IsSound-part}
+use Rattle.epx_types.proofs.Common.{ranked_ids, IsExecutionOrder-IsLawful, IsSound-part}
 use Rattle.epx_laws.proofs.resumed_runs.part_is_sound.Goals as goal
 
 pub returns : goal.returns

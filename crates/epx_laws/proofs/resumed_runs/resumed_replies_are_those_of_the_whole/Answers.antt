@@ -1,8 +1,5 @@
 use Rattle.std.proofs.Common.{◌∙◌, sym}
-use Rattle.epx_types.specs.Done.{remaining}
-use Rattle.epx_types.specs.ExecutionOrder.{ranked_ids}
-use Rattle.epx_types.proofs.orders.ExecutionOrderLemmas.{IsExecutionOrder-IsLawful}
-use Rattle.epx_types.proofs.remaining.ResumedExecutionLemmas.{reply-resumed}
+use Rattle.epx_types.proofs.Common.{remaining, ranked_ids, IsExecutionOrder-IsLawful, reply-resumed}
 use Rattle.epx_laws.proofs.resumed_runs.resumed_replies_are_those_of_the_whole.Goals as goal
 
 pub returns : goal.returns

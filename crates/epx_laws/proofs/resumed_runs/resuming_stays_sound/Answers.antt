@@ -1,7 +1,5 @@
-use Rattle.epx_types.specs.Done.{remaining}
-use Rattle.epx_types.specs.ExecutionOrder.{ranked_ids}
-use Rattle.epx_types.proofs.orders.ExecutionOrderLemmas.{IsExecutionOrder-IsLawful}
-use Rattle.epx_types.proofs.remaining.ResumedExecutionLemmas.{IsSound-resumed}
+use Rattle.epx_types.proofs.Common.{remaining, ranked_ids, IsExecutionOrder-IsLawful}
+use Rattle.epx_types.proofs.Common.{IsSound-resumed}
 use Rattle.epx_laws.proofs.resumed_runs.resuming_stays_sound.Goals as goal
 
 pub returns : goal.returns

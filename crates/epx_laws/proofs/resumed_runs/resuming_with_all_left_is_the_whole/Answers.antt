@@ -1,7 +1,4 @@
-use Rattle.epx_types.specs.Done.{remaining}
-use Rattle.epx_types.specs.ExecutionOrder.{ranked_ids}
-use Rattle.epx_types.proofs.orders.ExecutionOrderLemmas.{IsExecutionOrder-IsLawful}
-use Rattle.epx_types.proofs.remaining.ResumedExecutionLemmas.{final-resumed}
+use Rattle.epx_types.proofs.Common.{remaining, ranked_ids, IsExecutionOrder-IsLawful, final-resumed}
 use Rattle.epx_laws.proofs.resumed_runs.resuming_with_all_left_is_the_whole.Goals as goal
 
 pub returns : goal.returns

@@ -1,6 +1,6 @@
-use Rattle.std.proofs.Common.{◌≡◌, ℕ, ◌^◌, ◌<◌, Option, None, Some, IfSome, option_and_then}
-use Rattle.std.proofs.Common.{refl, ap, ◌∙◌, arith, rules}
-use Rattle.std.proofs.lemmas.Bool.Decides.{nat_tests}
+use Rattle.std.proofs.Common.{◌≡◌, ℕ, ◌^◌, ◌<◌, Option, None, Some, IfSome, option_and_then, refl}
+use Rattle.std.proofs.Common.{ap, ◌∙◌, arith, rules}
+use Rattle.epx_types.proofs.Common.{nat_tests}
 use Rattle.epx_lines.specs.Elements.{below, whole}
 use Rattle.epx_lines.proofs.deps.read_number.Goals as goal
 

@@ -1,6 +1,5 @@
 use Rattle.std.proofs.Common.{Contains, sym, subst, rules}
-use Rattle.epx_types.specs.Ids.{IsRising}
-use Rattle.epx_types.specs.SmallLists.{items_of}
+use Rattle.epx_types.proofs.Common.{IsRising, items_of}
 use Rattle.epx_lines.proofs.OtherIdLemmas.{rising_others-same}
 use Rattle.epx_lines.proofs.deps.sort_other_ids.Goals as goal
 

@@ -1,7 +1,5 @@
-use Rattle.std.proofs.Common.{◌≡◌, Some, ap, ◌∙◌, sym, rules}
-use Rattle.std.specs.Prelude.{Ok}
-use Rattle.std.proofs.lemmas.Option.{IfSome_then}
-use Rattle.epx_types.specs.SmallLists.{items_of}
+use Rattle.std.proofs.Common.{◌≡◌, Some, ap, ◌∙◌, sym, rules, Ok}
+use Rattle.epx_types.proofs.Common.{IfSome_then, items_of}
 use Rattle.epx_lines.specs.declared.Line.TheVariants.{Entry}
 use Rattle.epx_lines.specs.DependencyList.{rising_others}
 use Rattle.epx_lines.proofs.EntryPartLemmas.{meaning_of_object-parts}

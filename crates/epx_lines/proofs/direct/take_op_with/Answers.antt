@@ -4,7 +4,7 @@ use Rattle.json.specs.Token.{Token}
 use Rattle.json.specs.Reads.{token_of}
 use Rattle.serde_json.specs.Data.{number, string}
 use Rattle.serde_json.specs.Find.{of_integer}
-use Rattle.epx_types.specs.Keys.{FitsKey}
+use Rattle.epx_types.proofs.Common.{FitsKey}
 use Rattle.epx_lines.specs.OperationList.{op_with_value}
 use Rattle.epx_lines.proofs.WrittenPartLemmas.{IsWritableValue-from_range, key_of-fits}
 use Rattle.epx_lines.proofs.TokenValueLemmas.{BeginsWith-number, BeginsWith-string}

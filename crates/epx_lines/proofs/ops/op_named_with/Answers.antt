@@ -1,5 +1,5 @@
 use Rattle.std.proofs.Common.{◌≡◌, None, sym, ◌∙◌, arith}
-use Rattle.std.proofs.lemmas.Grind.{common_steps}
+use Rattle.epx_types.proofs.Common.{common_steps}
 use Rattle.serde_json.specs.View.{view}
 use Rattle.epx_lines.specs.Elements.{signed}
 use Rattle.epx_lines.specs.OperationList.{key_of, op_with_value}

@@ -1,5 +1,5 @@
 use Rattle.std.proofs.Common.{arith}
-use Rattle.std.proofs.lemmas.Grind.{common_steps}
+use Rattle.epx_types.proofs.Common.{common_steps}
 use Rattle.epx_lines.specs.OperationList.{op_with_value}
 use Rattle.epx_lines.proofs.OperationValueLemmas.{value_or_null-signed, key_of-signed}
 use Rattle.epx_lines.proofs.ops.op_with_number.Goals as goal

@@ -1,5 +1,5 @@
 use Rattle.std.proofs.Common.{◌≡◌, rules}
-use Rattle.epx_types.specs.Keys.{FitsKey}
+use Rattle.epx_types.proofs.Common.{FitsKey}
 use Rattle.serde_json.specs.Data.{string}
 use Rattle.epx_lines.proofs.WrittenPartLemmas.{key_of-fits}
 use Rattle.epx_lines.proofs.tokens.take_key.Goals as goal

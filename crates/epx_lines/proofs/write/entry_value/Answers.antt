@@ -1,4 +1,4 @@
-use Rattle.std.proofs.lemmas.Result.{on_ok_weaker}
+use Rattle.epx_types.proofs.Common.{on_ok_weaker}
 use Rattle.epx_lines.proofs.WrittenLineLemmas.{IsWritableEntry-from_parts}
 use Rattle.epx_lines.proofs.write.entry_value.Goals as goal
 

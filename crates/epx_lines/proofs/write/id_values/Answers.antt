@@ -1,5 +1,5 @@
 use Rattle.std.proofs.Common.{arith}
-use Rattle.std.proofs.lemmas.Grind.{common_steps}
+use Rattle.epx_types.proofs.Common.{common_steps}
 use Rattle.std.proofs.lemmas.List.Elements.{All-more}
 use Rattle.epx_lines.specs.inner.WrittenParts.{IsWritableId}
 use Rattle.epx_lines.proofs.write.id_values.Goals as goal

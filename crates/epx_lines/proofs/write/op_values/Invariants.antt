@@ -1,5 +1,5 @@
 use Rattle.std.proofs.Common.{◌≡◌, map, take}
-use Rattle.std.specs.List.{All}
+use Rattle.epx_types.proofs.Common.{All}
 use Rattle.serde_json.specs.View.{view}
 use Rattle.epx_lines.specs.Text.{data_of_op}
 use Rattle.epx_lines.specs.inner.WrittenParts.{IsWritableOp}

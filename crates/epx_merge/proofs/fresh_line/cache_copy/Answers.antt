@@ -1,5 +1,5 @@
 use Rattle.std.proofs.Common.{◌≡◌, Contains, Some, slice_get, subst, rules}
-use Rattle.std.proofs.lemmas.Option.{slice_get_within, get_or_from_slice_get}
+use Rattle.epx_types.proofs.Common.{slice_get_within, get_or_from_slice_get}
 use Rattle.epx_merge.specs.RedundantLines.{CachesAfter}
 use Rattle.epx_merge.proofs.LineCacheLemmas.{CachesAfter-kept}
 use Rattle.epx_merge.proofs.DropsCachedLemmas.{CachesSomeOf-line}

@@ -1,6 +1,6 @@
-use Rattle.std.proofs.Common.{◌≡◌, ◌<◌, ◌≤◌, length, take, drop, sym}
-use Rattle.std.proofs.Common.{inl, inr, true, false, arith, rules}
-use Rattle.std.proofs.lemmas.List.{length-take-le}
+use Rattle.std.proofs.Common.{◌≡◌, ◌<◌, ◌≤◌, length, take, drop, sym, inl, inr, true, false, arith}
+use Rattle.std.proofs.Common.{rules}
+use Rattle.epx_types.proofs.Common.{length-take-le}
 use Rattle.epx_merge.specs.LogParts.{EndsLine}
 use Rattle.epx_merge.proofs.LogPartLemmas.{lines_of_part}
 use Rattle.epx_merge.proofs.GatheredLemmas.{start, read_up_to, part_fails, no_room_left, lines_fit}

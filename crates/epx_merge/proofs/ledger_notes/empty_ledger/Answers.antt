@@ -1,5 +1,5 @@
 use Rattle.std.proofs.Common.{[], refl}
-use Rattle.epx_types.proofs.lists.MembershipLemmas.{Contains-nil}
+use Rattle.epx_types.proofs.Common.{Contains-nil}
 use Rattle.epx_merge.proofs.ledger_notes.empty_ledger.Goals as goal
 
 pub returns : goal.returns

@@ -1,5 +1,5 @@
 use Rattle.std.proofs.Common.{◌≡◌, ℕ, ◌<◌, ◌≤◌, List, length, slice_get, Some}
-use Rattle.epx_types.specs.Limits.{max_log_bytes}
+use Rattle.epx_types.proofs.Common.{max_log_bytes}
 use Rattle.epx_merge.specs.LogLines.{bytes_of}
 use Rattle.epx_merge.proofs.limits.first_too_long.Given as goal
 

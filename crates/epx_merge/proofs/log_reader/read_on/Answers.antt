@@ -1,6 +1,5 @@
 use Rattle.std.proofs.Common.{◌≡◌, ◌<◌, ◌∙◌, IfOk, [], MatchResult, ap, sym, subst, rules}
-use Rattle.std.proofs.lemmas.Result.{IfOk-weaker}
-use Rattle.epx_types.specs.Pieces.{piece_count}
+use Rattle.epx_types.proofs.Common.{IfOk-weaker, piece_count}
 use Rattle.epx_merge.specs.LinePieces.{ArePiecesOf, lines_of_piece}
 use Rattle.epx_merge.specs.ReadFaults.{IsReadFault, refused_among}
 use Rattle.epx_merge.proofs.LinePieceLemmas.{pieces_in_order}

@@ -1,5 +1,5 @@
 use Rattle.std.proofs.Common.{◌∷◌, ◌∙◌, ap, sym, subst}
-use Rattle.std.proofs.lemmas.List.{nil_from_length}
+use Rattle.epx_types.proofs.Common.{nil_from_length}
 use Rattle.epx_committed.specs.Ledgers.{NotesLines}
 use Rattle.epx_merge.specs.ReadPieces.{AreRead, HasEntries}
 use Rattle.epx_committed.proofs.LedgerLemmas.{NotesLines-nil, NotesLines-append}

@@ -1,5 +1,5 @@
 use Rattle.std.proofs.Common.{Some, sym, ap, ◌∙◌, subst, ◌≡◌, slice_get}
-use Rattle.std.proofs.lemmas.Bool.{false≢true}
+use Rattle.epx_types.proofs.Common.{false≢true}
 use Rattle.epx_components.proofs.InstanceLeaderLemmas.{leader_within}
 use Rattle.epx_picture.specs.NodeBoxes.{IsCluster}
 use Rattle.epx_picture.proofs.ClusterLemmas.{cluster_alone, cluster_of_leader, cluster_of_member}

@@ -1,5 +1,5 @@
 use Rattle.std.proofs.Common.{◌++◌, take, flat_map, string_bytes, sym, ap, ◌∙◌}
-use Rattle.std.proofs.lemmas.List.{append_assoc}
+use Rattle.epx_types.proofs.Common.{append_assoc}
 use Rattle.epx_picture.specs.PictureText.{arrow_lines}
 use Rattle.epx_picture.proofs.FlatMapLemmas.{flat_map_next}
 use Rattle.epx_picture.proofs.picture_writer.write_all_arrows.Goals as goal

@@ -1,5 +1,5 @@
-use Rattle.std.proofs.Common.{◌≡◌, ◌∙◌, ◌∷◌, [], ap, map, refl, rules, subst}
-use Rattle.std.specs.Prelude.{Some, string_bytes}
+use Rattle.std.proofs.Common.{◌≡◌, ◌∙◌, ◌∷◌, [], ap, map, refl, rules, subst, Some}
+use Rattle.epx_types.proofs.Common.{string_bytes}
 use Rattle.epx_tool.specs.Findings.{found_of}
 use Rattle.epx_program.proofs.FailedInputLemmas.{alone, input_failed}
 use Rattle.epx_program.proofs.SourceListLemmas.{only_source_at}

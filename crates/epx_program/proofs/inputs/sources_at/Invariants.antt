@@ -1,5 +1,5 @@
-use Rattle.std.proofs.Common.{◌≡◌, false, All, map, take}
-use Rattle.std.specs.Prelude.{IfSome, Some, string_bytes}
+use Rattle.std.proofs.Common.{◌≡◌, false, All, map, take, IfSome, Some}
+use Rattle.epx_types.proofs.Common.{string_bytes}
 use Rattle.epx_program.specs.inner.SourcesAt.{AreSourcesAt, model_at}
 use Rattle.epx_program.proofs.inputs.sources_at.Given as goal
 

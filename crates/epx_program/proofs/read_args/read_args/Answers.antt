@@ -1,5 +1,4 @@
-use Rattle.std.proofs.Common.{◌∙◌, ap, arith, map, string_bytes, subst, sym, take_all}
-use Rattle.std.specs.Prelude.{IfOk}
+use Rattle.std.proofs.Common.{◌∙◌, ap, arith, map, string_bytes, subst, sym, take_all, IfOk}
 use Rattle.std.specs.Vec.Iter.{into_iter_items}
 use Rattle.epx_program.proofs.BareWordLemmas.{words_end}
 use Rattle.epx_program.proofs.WordLemmas.{all_taken, asks, one_list_taken}

@@ -1,7 +1,6 @@
 use Rattle.std.proofs.Common.{◌≡◌, ◌∙◌, ◌<◌, length, ℕ, ap, arith, sym}
-use Rattle.std.proofs.lemmas.List.{with_items_is}
-use Rattle.std.proofs.lemmas.Result.{MatchResult-weaker}
-use Rattle.epx_graph.specs.Graphs.{edges_of}
+use Rattle.epx_types.proofs.Common.{with_items_is, MatchResult-weaker}
+use Rattle.epx_graph.proofs.Common.{edges_of}
 use Rattle.epx_ranking.specs.inner.Ends.{AreEnds, AreRaised, IsEndBelow}
 use Rattle.epx_ranking.specs.inner.SequenceKeys.{AreLeftOut}
 use Rattle.epx_components.specs.Partitions.{parts, number_for}

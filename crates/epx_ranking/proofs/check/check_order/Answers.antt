@@ -1,5 +1,5 @@
 use Rattle.std.proofs.Common.{ℕ, rules}
-use Rattle.std.proofs.lemmas.Result.{MatchResult-weaker}
+use Rattle.epx_types.proofs.Common.{MatchResult-weaker}
 use Rattle.epx_ranking.specs.inner.NodeLists.{AreListedReady, IsListedIfReady}
 use Rattle.epx_ranking.specs.OrderFaults.{HasAllReady}
 use Rattle.epx_ranking.proofs.PrefixLemmas.{lawful_from_prefix, order_fault_from}

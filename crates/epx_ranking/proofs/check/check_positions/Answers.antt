@@ -1,9 +1,6 @@
-use Rattle.std.proofs.Common.{◌≡◌, ◌<◌, Some, None, inl, inr, slice_get, subst, length, get_or}
-use Rattle.std.proofs.Common.{sym, ap, ◌∙◌, subst₂, arith}
-use Rattle.std.proofs.lemmas.Bool.{false≢true}
-use Rattle.std.proofs.lemmas.List.{get_or_read}
-use Rattle.std.proofs.lemmas.List.Elements.{All-get_or}
-use Rattle.epx_types.specs.Instances.{Instance}
+use Rattle.std.proofs.Common.{◌≡◌, ◌<◌, Some, None, inl, inr, slice_get, subst, length, get_or, sym}
+use Rattle.std.proofs.Common.{ap, ◌∙◌, subst₂, arith}
+use Rattle.epx_types.proofs.Common.{false≢true, get_or_read, All-get_or, Instance}
 use Rattle.epx_components.specs.Partitions.{parts, component_of}
 use Rattle.epx_ranking.specs.inner.SequenceKeys.{sequence_key_of, ComesBefore, ComesAfter}
 use Rattle.epx_ranking.specs.inner.SequenceKeys.{IsNodeEarlyAt, IsNodeOutOfSequenceAt, key_for}

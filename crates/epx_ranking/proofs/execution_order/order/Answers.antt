@@ -1,11 +1,7 @@
 use Rattle.std.proofs.Common.{[], length, sym, ap, ◌∙◌, subst}
-use Rattle.std.proofs.lemmas.List.{with_items_is}
-use Rattle.std.proofs.lemmas.Result.{IfOk-weaker}
-use Rattle.epx_types.specs.Done.{remaining}
-use Rattle.epx_types.specs.ExecutionOrder.{IsExecutionOrder}
-use Rattle.epx_types.proofs.remaining.RemainingLemmas.{remaining-nil}
-use Rattle.epx_types.proofs.orders.ExecutionOrderLemmas.{IsExecutionOrder-IsLawful}
-use Rattle.epx_graph.specs.GraphOf.{IsGraphOf}
+use Rattle.epx_types.proofs.Common.{with_items_is, IfOk-weaker, remaining, IsExecutionOrder}
+use Rattle.epx_types.proofs.Common.{remaining-nil, IsExecutionOrder-IsLawful}
+use Rattle.epx_graph.proofs.Common.{IsGraphOf}
 use Rattle.epx_ranking.proofs.SortedRankLemmas.{order_from_sort}
 use Rattle.epx_components.specs.Ranks.{ranked_all}
 use Rattle.epx_ranking.specs.inner.ReadyRanks.{AreReadyRanks}

@@ -1,8 +1,6 @@
 use Rattle.std.proofs.Common.{sym, ◌∙◌}
-use Rattle.std.proofs.lemmas.Bool.{false≢true}
-use Rattle.epx_types.specs.Done.{remaining}
-use Rattle.epx_types.proofs.remaining.RemainingLemmas.{Contains-remaining_iff}
-use Rattle.epx_graph.proofs.MapPathLemmas.{node_committed}
+use Rattle.epx_types.proofs.Common.{false≢true, remaining, Contains-remaining_iff}
+use Rattle.epx_graph.proofs.Common.{node_committed}
 use Rattle.epx_components.proofs.ReadyRankLemmas.{rank_left}
 use Rattle.epx_components.proofs.ReadyNodeLemmas.{node_from_ready}
 use Rattle.epx_ranking.proofs.ready.rank_of.Goals as goal

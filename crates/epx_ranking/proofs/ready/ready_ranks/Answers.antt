@@ -1,5 +1,5 @@
 use Rattle.std.proofs.Common.{◌≡◌, ◌+◌, List, sym, ap, ◌∙◌, subst, arith}
-use Rattle.epx_types.specs.Done.{remaining}
+use Rattle.epx_types.proofs.Common.{remaining}
 use Rattle.epx_components.specs.declared.rank.Rank.{Rank}
 use Rattle.epx_ranking.proofs.ReadyRankLemmas.{AreGathered, ready_ranks_all, ready_ranks_none}
 use Rattle.epx_ranking.proofs.ReadyRankLemmas.{ready_ranks_past, ready_ranks_push}

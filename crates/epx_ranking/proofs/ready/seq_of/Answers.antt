@@ -1,10 +1,7 @@
 use Rattle.std.proofs.Common.{◌≡◌, None, option_copied, sym, ap, ◌∙◌, rules}
-use Rattle.epx_types.specs.Instances.{Instance}
-use Rattle.epx_types.specs.CommittedMap.{instance_of}
-use Rattle.epx_types.proofs.committed.AgreementLemmas.{instance_of_iff}
-use Rattle.epx_types.proofs.lists.MembershipLemmas.{Contains-from_map}
-use Rattle.epx_types.proofs.lists.ListPositionLemmas.{Contains-slice_get, slice_get-map}
-use Rattle.epx_types.proofs.lists.ListPositionLemmas.{slice_get-from_map}
+use Rattle.epx_types.proofs.Common.{Instance, instance_of, instance_of_iff, Contains-from_map}
+use Rattle.epx_types.proofs.Common.{Contains-slice_get, slice_get-from_map}
+use Rattle.epx_types.proofs.lists.ListPositionLemmas.{slice_get-map}
 use Rattle.epx_ranking.proofs.ready.seq_of.Goals as goal
 
 pub unreachable-requires : goal.unreachable-requires

@@ -1,7 +1,5 @@
 use Rattle.std.proofs.Common.{◌≡◌, ◌≤◌, ◌<◌, ◌∙◌, drop, length, slice_range, sym, subst, rules}
-use Rattle.std.proofs.lemmas.List.{length-map}
-use Rattle.std.proofs.lemmas.List.Folds.{drop_split}
-use Rattle.epx_types.specs.CommittedMap.{instance_of, ops_or_empty, commands_in}
+use Rattle.epx_types.proofs.Common.{length-map, drop_split, instance_of, ops_or_empty, commands_in}
 use Rattle.epx_replay.specs.Replays.{Executes}
 use Rattle.epx_replay.proofs.ReplayLemmas.{as_many_in_range, map-range, replay_goes_on}
 use Rattle.epx_replay.proofs.batches.replay.Goals as goal

@@ -1,5 +1,5 @@
 use Rattle.std.proofs.Common.{◌≡◌, ◌-◌, ◌<◌, ◌≤◌, drop, length, map, slice_range}
-use Rattle.epx_types.specs.CommittedMap.{commands_in}
+use Rattle.epx_types.proofs.Common.{commands_in}
 use Rattle.epx_replay.proofs.ReplayLemmas.{IsReplaying}
 use Rattle.epx_replay.proofs.batches.replay.Given as goal
 

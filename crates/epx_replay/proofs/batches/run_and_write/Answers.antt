@@ -1,7 +1,6 @@
 use Rattle.std.proofs.Common.{◌≡◌, ◌++◌, flat_map, map, zip}
-use Rattle.std.proofs.lemmas.Result.{IfOk-at_ok}
+use Rattle.epx_types.proofs.Common.{IfOk-at_ok, commands_in}
 use Rattle.epx_report.specs.ReportLines.{reply_line}
-use Rattle.epx_types.specs.CommittedMap.{commands_in}
 use Rattle.epx_replay.proofs.batches.run_and_write.Goals as goal
 
 pub returns-clause-text : goal.returns-clause-text

@@ -1,7 +1,6 @@
 use Rattle.std.proofs.Common.{◌≡◌, ◌∙◌, map, flat_map, refl, ap, rules}
 use Rattle.std.proofs.lemmas.Grind.{flat_map-append}
-use Rattle.std.proofs.lemmas.List.{map-append}
-use Rattle.std.proofs.lemmas.Result.{IfOk-weaker}
+use Rattle.epx_types.proofs.Common.{map-append, IfOk-weaker}
 use Rattle.epx_claims.specs.inner.PieceItems.{items_of_piece}
 use Rattle.epx_claims.proofs.JoinedPieceLemmas.{parts_joined}
 use Rattle.epx_report.specs.ReportLines.{store_line}

@@ -1,9 +1,7 @@
-use Rattle.std.proofs.Common.{◌≡◌, ◌∙◌, true, false, Err, length, sym, ap, rules}
-use Rattle.std.proofs.Common.{arith}
-use Rattle.std.proofs.lemmas.List.{nil_from_length}
-use Rattle.std.proofs.lemmas.Bool.Decides.{nat_tests}
+use Rattle.std.proofs.Common.{◌≡◌, ◌∙◌, true, false, Err, length, sym, ap, rules, arith}
+use Rattle.epx_types.proofs.Common.{nil_from_length, nat_tests}
 use Rattle.epx_lines.specs.Lines.{lines_of}
-use Rattle.epx_report.specs.inner.Seen.{is_complete}
+use Rattle.epx_report.specs.inner.Progress.{is_complete}
 use Rattle.epx_report.specs.inner.BaseReadings.{reading, base_reading}
 use Rattle.epx_report.proofs.BaseLemmas.{base_is_read, bad_base_is_read}
 use Rattle.epx_report.proofs.BaseReadingLemmas.{reading-complete, reading-early}

@@ -1,5 +1,5 @@
 use Rattle.std.proofs.Common.{◌≡◌, codes, refl, arith, rules}
-use Rattle.std.proofs.lemmas.Option.{IfSome_then}
+use Rattle.epx_types.proofs.Common.{IfSome_then}
 use Rattle.serde_json.specs.Data.{string}
 use Rattle.epx_lines.proofs.TokenValueLemmas.{BeginsWith-deeper}
 use Rattle.epx_report.proofs.NamedFormLemmas.{is_outcome-ok, is_outcome-abort}

@@ -1,5 +1,5 @@
 use Rattle.std.proofs.Common.{◌≡◌, drop}
-use Rattle.std.specs.List.{list_all}
+use Rattle.epx_types.proofs.Common.{list_all}
 use Rattle.serde_json.specs.View.{view}
 use Rattle.epx_report.specs.Forms.{is_value_list}
 use Rattle.epx_report.proofs.ValueListLemmas.{is_value_or_null}

@@ -1,6 +1,5 @@
 use Rattle.std.proofs.Common.{◌≡◌, ◌∙◌, Ok, length, sym, ap, rules, arith}
-use Rattle.std.proofs.lemmas.List.{nil_from_length}
-use Rattle.std.proofs.lemmas.Bool.Decides.{nat_tests}
+use Rattle.epx_types.proofs.Common.{nil_from_length, nat_tests}
 use Rattle.epx_lines.specs.Lines.{lines_of}
 use Rattle.epx_report.specs.inner.ListReadings.{read_list_lines, list_reading}
 use Rattle.epx_report.proofs.ListLemmas.{list_is_read, bad_list_is_read}

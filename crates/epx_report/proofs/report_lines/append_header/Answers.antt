@@ -1,5 +1,5 @@
 use Rattle.std.proofs.Common.{arith}
-use Rattle.std.proofs.lemmas.Grind.{common_steps}
+use Rattle.epx_types.proofs.Common.{common_steps}
 use Rattle.epx_report.specs.ReportLines.{header_data}
 use Rattle.epx_report.proofs.LineTextLemmas.{line_written}
 use Rattle.epx_report.proofs.report_lines.append_header.Goals as goal

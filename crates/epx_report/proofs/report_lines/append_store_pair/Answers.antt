@@ -1,5 +1,5 @@
 use Rattle.std.proofs.Common.{◌≡◌, ◌∷◌, [], ◌∙◌, codes, Some, arith}
-use Rattle.std.proofs.lemmas.Grind.{common_steps}
+use Rattle.epx_types.proofs.Common.{common_steps}
 use Rattle.json.specs.Token.{begin_array, string}
 use Rattle.epx_report.specs.inner.LineTokens.{value_token}
 use Rattle.epx_report.specs.ReportLines.{store_data}

@@ -1,5 +1,5 @@
 use Rattle.std.proofs.Common.{◌∙◌, flat_map, length, ap, subst, arith}
-use Rattle.std.proofs.lemmas.Result.{IfOk-weaker}
+use Rattle.epx_types.proofs.Common.{IfOk-weaker}
 use Rattle.epx_lines.specs.Lines.{lines_of}
 use Rattle.epx_report.specs.Bases.{Say}
 use Rattle.epx_report.proofs.LinesByKindLemmas.{whole_is_base}

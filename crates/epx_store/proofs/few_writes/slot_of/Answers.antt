@@ -1,5 +1,5 @@
 use Rattle.std.proofs.Common.{◌≡◌, ◌∙◌, sym, length, arith}
-use Rattle.std.proofs.lemmas.List.{length-map}
+use Rattle.epx_types.proofs.Common.{length-map}
 use Rattle.epx_store.proofs.KeySlotLemmas.{lower_none, lower_here, slot_absent, slot_found}
 use Rattle.epx_store.proofs.KeySlotLemmas.{slot_last, shown_at, shown_within}
 use Rattle.epx_store.proofs.few_writes.slot_of.Goals as goal

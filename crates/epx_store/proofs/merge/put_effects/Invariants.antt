@@ -1,5 +1,5 @@
 use Rattle.std.proofs.Common.{◌≡◌, drop}
-use Rattle.epx_types.specs.Writes.{apply_writes}
+use Rattle.epx_types.proofs.Common.{apply_writes}
 use Rattle.epx_store.proofs.MergeLemmas.{writes_in}
 use Rattle.epx_store.proofs.merge.put_effects.Given as goal
 

@@ -1,5 +1,5 @@
 use Rattle.std.proofs.Common.{◌≡◌, drop}
-use Rattle.epx_types.specs.Writes.{apply_writes}
+use Rattle.epx_types.proofs.Common.{apply_writes}
 use Rattle.epx_store.proofs.merge.put_writes.Given as goal
 
 abbrev pub invariant-loop-key : goal.invariant-loop-key

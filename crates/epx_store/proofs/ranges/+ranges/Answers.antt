@@ -1,5 +1,5 @@
 use Rattle.std.proofs.Common.{flat_map, IsPermutation}
-use Rattle.std.proofs.lemmas.Result.{IfOk-at_ok}
+use Rattle.epx_types.proofs.Common.{IfOk-at_ok}
 use Rattle.epx_store.proofs.RangeLemmas.{joined}
 use Rattle.epx_store.proofs.ranges.+ranges.Goals as goal
 

@@ -1,7 +1,5 @@
 use Rattle.std.proofs.Common.{T, map, subst, sym, ap, ◌∙◌}
-use Rattle.std.specs.FinMap.{is_sorted}
-use Rattle.std.proofs.lemmas.List.{map-append}
-use Rattle.epx_types.specs.Keys.{key_cmp}
+use Rattle.epx_types.proofs.Common.{is_sorted, map-append, key_cmp}
 use Rattle.epx_store.proofs.RangeLemmas.{rises-joined}
 use Rattle.epx_store.proofs.ranges.append_range.Goals as goal
 

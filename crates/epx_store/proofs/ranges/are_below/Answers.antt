@@ -1,5 +1,5 @@
 use Rattle.std.proofs.Common.{rules, subst, T}
-use Rattle.epx_types.proofs.keys.SortedEntryLemmas.{less_from_is_lt}
+use Rattle.epx_types.proofs.Common.{less_from_is_lt}
 use Rattle.epx_store.proofs.RangeLemmas.{below_from_ends}
 use Rattle.epx_store.proofs.ranges.are_below.Goals as goal
 

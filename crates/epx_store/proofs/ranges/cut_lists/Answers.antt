@@ -1,5 +1,5 @@
 use Rattle.std.proofs.Common.{[], ◌∙◌, length-set, arith, ap, sym, rules}
-use Rattle.std.proofs.lemmas.List.Sorted.{IsPermutation-refl}
+use Rattle.epx_types.proofs.Common.{IsPermutation-refl}
 use Rattle.epx_store.proofs.RangeLemmas.{cut_all, cut_one_more}
 use Rattle.epx_store.proofs.ranges.cut_lists.Goals as goal
 

@@ -1,5 +1,5 @@
 use Rattle.std.proofs.Common.{◌≡◌, ◌<◌, ℕ, length, get_or}
-use Rattle.epx_types.specs.Contents.{Contents}
+use Rattle.epx_types.proofs.Common.{Contents}
 use Rattle.epx_store.proofs.shards.copy_shards.Given as goal
 
 abbrev pub invariant-loop-number : goal.invariant-loop-number

@@ -1,5 +1,5 @@
 use Rattle.std.proofs.Common.{T, ap, map, subst, sym, ◌∙◌}
-use Rattle.std.proofs.lemmas.List.Sorted.{IsPermutation-map, IsPermutation-trans}
+use Rattle.epx_types.proofs.Common.{IsPermutation-map, IsPermutation-trans}
 use Rattle.epx_store.proofs.UniqueKeyLemmas.{entries-rising, rises-sorted}
 use Rattle.epx_store.proofs.store.in_key_order.Goals.{then-not-rises+in_ok-sort, else-not-rises}
 use Rattle.epx_store.proofs.store.in_key_order.Goals as goal

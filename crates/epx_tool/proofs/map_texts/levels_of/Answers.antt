@@ -1,5 +1,5 @@
 use Rattle.std.proofs.Common.{sym, subst}
-use Rattle.epx_types.specs.WaitingLists.{IsWaitingList}
+use Rattle.epx_types.proofs.Common.{IsWaitingList}
 use Rattle.epx_tool.proofs.map_texts.levels_of.Goals as goal
 
 pub returns-clause-text : goal.returns-clause-text

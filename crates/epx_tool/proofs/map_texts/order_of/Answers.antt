@@ -1,5 +1,5 @@
 use Rattle.std.proofs.Common.{subst, sym}
-use Rattle.epx_types.specs.WaitingLists.{IsWaitingList}
+use Rattle.epx_types.proofs.Common.{IsWaitingList}
 use Rattle.epx_tool.proofs.map_texts.order_of.Goals as goal
 
 pub returns-clause-found : goal.returns-clause-found

@@ -1,8 +1,5 @@
 use Rattle.std.proofs.Common.{refl, sym, ap, subst, ◌∙◌}
-use Rattle.epx_types.specs.Done.{remaining}
-use Rattle.epx_types.specs.Execution.{execute}
-use Rattle.epx_types.specs.WaitingLists.{IsWaitingList}
-use Rattle.epx_types.specs.CommittedMap.{commands_in}
+use Rattle.epx_types.proofs.Common.{remaining, execute, IsWaitingList, commands_in}
 use Rattle.epx_views.specs.OpeningText.{opening_text}
 use Rattle.epx_tool.proofs.ReportLemmas.{few_ids, IsReportAfter-printed}
 use Rattle.epx_tool.proofs.ReportPartsLemmas.{resumed_text-parts}

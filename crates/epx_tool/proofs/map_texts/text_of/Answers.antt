@@ -1,10 +1,5 @@
 use Rattle.std.proofs.Common.{◌≡◌, ◌∙◌, ◌↔◌, List, [], true, IfOk, sym, subst}
-use Rattle.std.proofs.lemmas.Result.{IfOk-weaker}
-use Rattle.epx_types.specs.declared.id.Id.{Id}
-use Rattle.epx_types.specs.Contents.{Contents}
-use Rattle.epx_types.specs.Done.{remaining}
-use Rattle.epx_types.specs.Instances.{Instance}
-use Rattle.epx_types.proofs.remaining.RemainingLemmas.{remaining-nil}
+use Rattle.epx_types.proofs.Common.{IfOk-weaker, Id, Contents, remaining, Instance, remaining-nil}
 use Rattle.epx_picture.specs.Pictures.{IsPicture}
 use Rattle.epx_trace.specs.TraceTexts.{IsTraceText}
 use Rattle.epx_why.specs.WhyTexts.{IsPathText}

@@ -1,4 +1,4 @@
-use Rattle.std.proofs.lemmas.Result.{IfOk-weaker}
+use Rattle.epx_types.proofs.Common.{IfOk-weaker}
 use Rattle.epx_tool.proofs.map_texts.why_of.Goals as goal
 
 pub why_text-requires : goal.why_text-requires

@@ -1,10 +1,9 @@
-use Rattle.std.proofs.Common.{◌≡◌, ◌+◌, ℕ, List, Option, length, inl, inr, refl, ap}
-use Rattle.std.proofs.Common.{sym, ◌∙◌, subst, arith}
-use Rattle.std.specs.Prelude.{IfSome}
-use Rattle.epx_types.specs.declared.fault.Fault.TheVariants.{TooManyLogs, Read, Write}
+use Rattle.std.proofs.Common.{◌≡◌, ◌+◌, ℕ, List, Option, length, inl, inr, refl, ap, sym, ◌∙◌}
+use Rattle.std.proofs.Common.{subst, arith, IfSome}
+use Rattle.epx_types.proofs.Common.{TooManyLogs, Read, max_log_bytes}
+use Rattle.epx_types.specs.declared.fault.Fault.TheVariants.{Write}
 use Rattle.epx_devices.specs.Deliveries.{IsLogStop}
 use Rattle.epx_devices.specs.Transfers.{ConsumesExactly}
-use Rattle.epx_types.specs.Limits.{max_log_bytes}
 use Rattle.epx_merge.specs.Refusals.{FitLimits}
 use Rattle.epx_merge.proofs.ConsumedLemmas.{nothing_consumed}
 use Rattle.epx_tool.specs.inner.MapQuestions.{IsTaskReading}

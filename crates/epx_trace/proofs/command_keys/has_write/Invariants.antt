@@ -1,6 +1,5 @@
 use Rattle.std.proofs.Common.{◌≡◌, drop}
-use Rattle.std.specs.List.{list_any}
-use Rattle.epx_types.specs.CommandKeys.{written_by, written_keys}
+use Rattle.epx_types.proofs.Common.{list_any, written_by, written_keys}
 use Rattle.epx_trace.specs.Traces.{has_key}
 use Rattle.epx_trace.proofs.command_keys.has_write.Given as goal
 

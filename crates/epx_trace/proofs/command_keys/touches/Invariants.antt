@@ -1,6 +1,5 @@
 use Rattle.std.proofs.Common.{◌≡◌, drop}
-use Rattle.std.specs.List.{list_any}
-use Rattle.epx_types.specs.CommandKeys.{touched_by, touched_keys}
+use Rattle.epx_types.proofs.Common.{list_any, touched_by, touched_keys}
 use Rattle.epx_trace.specs.Traces.{has_key}
 use Rattle.epx_trace.proofs.command_keys.touches.Given as goal
 

@@ -1,5 +1,5 @@
 use Rattle.std.proofs.Common.{◌≡◌, ◌++◌, map, drop}
-use Rattle.epx_types.specs.Execution.{execute}
+use Rattle.epx_types.proofs.Common.{execute}
 use Rattle.epx_trace.specs.Traces.{trace_of}
 use Rattle.epx_trace.proofs.execution.trace_of.Given as goal
 

@@ -1,5 +1,5 @@
 use Rattle.std.proofs.Common.{arith}
-use Rattle.epx_types.proofs.commands.CommandLemmas.{apply_writes-writes_of}
+use Rattle.epx_types.proofs.Common.{apply_writes-writes_of}
 use Rattle.epx_txn.proofs.evaluation.apply_with_room.Goals as goal
 
 pub returns-clause-after : goal.returns-clause-after

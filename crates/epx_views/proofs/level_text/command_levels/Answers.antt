@@ -1,7 +1,5 @@
-use Rattle.std.proofs.Common.{List, map, ap, ◌∙◌, subst}
-use Rattle.std.specs.Prelude.{IfOk}
-use Rattle.epx_types.specs.declared.op.Op.{Op}
-use Rattle.epx_types.specs.Levels.{AreLevels}
+use Rattle.std.proofs.Common.{List, map, ap, ◌∙◌, subst, IfOk}
+use Rattle.epx_types.proofs.Common.{Op, AreLevels}
 use Rattle.epx_views.proofs.level_text.command_levels.Goals as goal
 
 pub returns : goal.returns

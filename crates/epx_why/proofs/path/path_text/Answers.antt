@@ -1,11 +1,9 @@
 use Rattle.std.proofs.Common.{◌≡◌, ℕ, suc, ◌∷◌, ◌∙◌, map, List, ap, subst, sym, inl, inr}
-use Rattle.std.proofs.lemmas.Result.{IfOk-weaker}
-use Rattle.std.proofs.lemmas.Option.{slice_get_within, MatchOption-at_some, MatchOption-at_none}
-use Rattle.epx_graph.specs.Graphs.{edges_of}
-use Rattle.epx_graph.specs.GraphOf.{IsGraphOf}
+use Rattle.epx_types.proofs.Common.{IfOk-weaker, slice_get_within}
+use Rattle.std.proofs.lemmas.Option.{MatchOption-at_some, MatchOption-at_none}
+use Rattle.epx_graph.proofs.Common.{edges_of, IsGraphOf, LeadsTo}
 use Rattle.epx_why.specs.WhyLines.{path_line, none_line}
 use Rattle.epx_why.specs.WhyTexts.{IsPathText}
-use Rattle.epx_graph.specs.NodeSteps.{LeadsTo}
 use Rattle.epx_why.specs.inner.NodeWalks.{id_at, IsFirstNodePath}
 use Rattle.epx_why.proofs.WalkLemmas.{no_start, no_end, no_path, first_path, first_walk_within}
 use Rattle.epx_why.proofs.path.path_text.Goals as goal

@@ -1,5 +1,5 @@
 use Rattle.std.proofs.Common.{List, ℕ, subst, arith}
-use Rattle.std.proofs.lemmas.List.{take_all}
+use Rattle.epx_types.proofs.Common.{take_all}
 use Rattle.epx_why.specs.inner.NodeWalks.{AreFewest}
 use Rattle.epx_why.proofs.TargetLemmas.{fewest_without, fewest_with}
 use Rattle.epx_why.proofs.walk.fewest_steps.Goals as goal

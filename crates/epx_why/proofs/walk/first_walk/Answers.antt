@@ -1,5 +1,5 @@
 use Rattle.std.proofs.Common.{◌≡◌, ◌-◌, suc, sym, subst, subst₂, arith}
-use Rattle.epx_graph.specs.Graphs.{edges_of}
+use Rattle.epx_graph.proofs.Common.{edges_of}
 use Rattle.epx_why.specs.inner.NodeWalks.{IsFewest, IsNext, IsWalkBegun}
 use Rattle.epx_why.proofs.WalkLemmas.{begun_first, begun_more, begun_end, fewest_on}
 use Rattle.epx_why.proofs.walk.first_walk.Goals as goal

@@ -1,6 +1,6 @@
 use Rattle.std.proofs.Common.{◌≡◌, List, Some, slice_get}
-use Rattle.std.proofs.lemmas.Result.{IfOk-weaker}
-use Rattle.epx_graph.specs.GraphOf.{IsGraphOf}
+use Rattle.epx_types.proofs.Common.{IfOk-weaker}
+use Rattle.epx_graph.proofs.Common.{IsGraphOf}
 use Rattle.epx_why.specs.Needs.{AreNeedsOf}
 use Rattle.epx_why.specs.inner.NodeNeeds.{AreNeedsIn}
 use Rattle.epx_why.proofs.NodeNeedLemmas.{needs_along, needs_of_node}

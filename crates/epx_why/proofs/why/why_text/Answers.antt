@@ -1,12 +1,8 @@
 use Rattle.std.proofs.Common.{◌≡◌, ◌++◌, ◌<◌, ◌≤◌, ◌∙◌, ℕ, Bool, true, false, List, [], flat_map}
-use Rattle.std.proofs.Common.{codes, Some}
-use Rattle.std.proofs.Common.{slice_get, Contains, sym, ap, subst, inl, inr}
-use Rattle.std.proofs.lemmas.Bool.{cases_lt}
-use Rattle.std.proofs.lemmas.Result.{IfOk-weaker}
-use Rattle.std.proofs.lemmas.Option.{slice_get_within}
-use Rattle.epx_types.specs.declared.id.Id.{Id}
-use Rattle.epx_types.specs.ExecutionOrder.{Ranked, IsExecutionOrder}
-use Rattle.epx_graph.specs.GraphOf.{IsGraphOf}
+use Rattle.std.proofs.Common.{codes, Some, slice_get, Contains, sym, ap, subst, inl, inr}
+use Rattle.epx_types.proofs.Common.{cases_lt, IfOk-weaker, slice_get_within, Id, Ranked}
+use Rattle.epx_types.proofs.Common.{IsExecutionOrder}
+use Rattle.epx_graph.proofs.Common.{IsGraphOf}
 use Rattle.epx_report.specs.ReportLines.{waiting_line}
 use Rattle.epx_report.specs.ViewLines.{missing_line}
 use Rattle.epx_why.specs.WhyLines.{need_line, ready_line}

@@ -1,5 +1,5 @@
 use Rattle.std.proofs.Common.{◌∙◌, ap, map, sym, get_or}
-use Rattle.std.proofs.lemmas.List.{map_push}
+use Rattle.epx_types.proofs.Common.{map_push}
 use Rattle.serde_json.specs.View.{view}
 use Rattle.epx_why.specs.WhyLines.{id_data}
 use Rattle.epx_why.proofs.MapStepLemmas.{id_at-is}

@@ -1,5 +1,5 @@
 use Rattle.std.proofs.Common.{codes, refl}
-use Rattle.std.proofs.lemmas.Result.{IfOk-weaker}
+use Rattle.epx_types.proofs.Common.{IfOk-weaker}
 use Rattle.clap.specs.Words.{Rule, with_rule}
 use Rattle.epx_words.specs.App.{flag_rule, logs_rule, numbers_app}
 use Rattle.epx_words.proofs.CommandLemmas.{with_argument}

@@ -1,5 +1,5 @@
 use Rattle.std.proofs.Common.{refl}
-use Rattle.std.proofs.lemmas.Result.{IfOk-weaker}
+use Rattle.epx_types.proofs.Common.{IfOk-weaker}
 use Rattle.epx_words.specs.App.{logs_rule, numbers_app}
 use Rattle.epx_words.proofs.CommandLemmas.{with_argument}
 use Rattle.epx_words.proofs.commands.logs_subcommand.Goals as goal

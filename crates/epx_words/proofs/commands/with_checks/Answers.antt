@@ -1,5 +1,5 @@
 use Rattle.std.proofs.Common.{codes, refl}
-use Rattle.std.proofs.lemmas.Result.{IfOk-weaker}
+use Rattle.epx_types.proofs.Common.{IfOk-weaker}
 use Rattle.clap.specs.Words.{App, with_subcommand}
 use Rattle.epx_words.specs.App.{base_app, finding_app, list_app, runs_app}
 use Rattle.epx_words.proofs.CommandLemmas.{with_command}

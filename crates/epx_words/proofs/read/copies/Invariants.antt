@@ -1,5 +1,5 @@
 use Rattle.std.proofs.Common.{◌≡◌, map, take}
-use Rattle.std.specs.Prelude.{string_bytes}
+use Rattle.epx_types.proofs.Common.{string_bytes}
 use Rattle.epx_words.proofs.read.copies.Given as goal
 
 abbrev pub invariant-loop-text : goal.invariant-loop-text

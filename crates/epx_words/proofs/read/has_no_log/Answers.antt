@@ -1,7 +1,6 @@
 use Rattle.std.proofs.Common.{◌≡◌, ◌∙◌, [], ◌∷◌, Bool, List, ap, codes, length, map, sym, true}
-use Rattle.std.proofs.Common.{arith, eqb-true, refl}
+use Rattle.std.proofs.Common.{arith, eqb-true, refl, option_map, unwrap_or}
 use Rattle.std.specs.Bool.{◌==◌}
-use Rattle.std.specs.Prelude.{option_map, unwrap_or}
 use Rattle.clap.specs.Words.{found_of, rows_of}
 use Rattle.clap.proofs.WalkLemmas.{raw_values-rows}
 use Rattle.epx_words.specs.SubcommandRows.{logs_in}

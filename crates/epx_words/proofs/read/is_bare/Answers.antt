@@ -1,9 +1,7 @@
-use Rattle.std.proofs.Common.{◌≡◌, ◌∙◌, Some, ap, codes, get_or, inl, inr, length, map}
-use Rattle.std.proofs.Common.{sym, true, arith, []}
-use Rattle.std.proofs.lemmas.List.{length-map}
-use Rattle.std.specs.Prelude.{option_map, slice_get}
-use Rattle.std.proofs.lemmas.Option.{slice_get-get_or, slice_get-map}
-use Rattle.std.proofs.lemmas.Slice.Eq.{bytes_eq-Decides}
+use Rattle.std.proofs.Common.{◌≡◌, ◌∙◌, Some, ap, codes, get_or, inl, inr, length, map, sym, true}
+use Rattle.std.proofs.Common.{arith, [], option_map, slice_get}
+use Rattle.epx_types.proofs.Common.{length-map, slice_get-get_or, bytes_eq-Decides}
+use Rattle.std.proofs.lemmas.Option.{slice_get-map}
 use Rattle.epx_words.specs.Requests.{IsBare}
 use Rattle.epx_words.proofs.read.is_bare.Goals as goal
 

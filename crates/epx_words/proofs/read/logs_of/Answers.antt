@@ -1,6 +1,5 @@
-use Rattle.std.proofs.Common.{◌≡◌, ◌∙◌, [], ap, codes, map, sym}
-use Rattle.std.specs.Prelude.{option_map, string_bytes, unwrap_or}
-use Rattle.std.proofs.lemmas.Result.{IfOk-weaker}
+use Rattle.std.proofs.Common.{◌≡◌, ◌∙◌, [], ap, codes, map, sym, option_map, unwrap_or}
+use Rattle.epx_types.proofs.Common.{string_bytes, IfOk-weaker}
 use Rattle.clap.specs.Words.{found_of, rows_of}
 use Rattle.clap.proofs.WalkLemmas.{raw_values-rows}
 use Rattle.epx_words.specs.SubcommandRows.{logs_in}

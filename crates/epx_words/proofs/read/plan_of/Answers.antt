@@ -1,10 +1,10 @@
 use Rattle.std.proofs.Common.{◌≡◌, ◌≤◌, codes, ℕ, List, Option, Some, Result, refl, subst, sym}
 use Rattle.std.proofs.Common.{rules}
-use Rattle.std.specs.Option.{IfSome, IsSome}
-use Rattle.std.specs.Str.Parse.{ExplainsUnsignedError, HasUnsignedDigitsIfOk, ParsesUnsigned}
+use Rattle.epx_types.proofs.Common.{IsSome, ParsesUnsigned, PlanNumbers}
+use Rattle.std.specs.Option.{IfSome}
+use Rattle.std.specs.Str.Parse.{ExplainsUnsignedError, HasUnsignedDigitsIfOk}
 use Rattle.std.specs.declared.num.ParseIntError.{ParseIntError}
 use Rattle.clap.specs.Words.{found_of, one_of, rows_of}
-use Rattle.epx_types.specs.Pieces.{PlanNumbers}
 use Rattle.epx_words.specs.SubcommandRows.{IsNumberOf}
 use Rattle.epx_words.proofs.NumberLemmas.{number_read}
 use Rattle.epx_words.proofs.read.plan_of.Goals as goal

@@ -1,8 +1,8 @@
-use Rattle.std.proofs.Common.{◌≡◌, ◌∙◌, Some, None, ap, codes, subst, sym, true≢false}
-use Rattle.std.specs.Prelude.{MatchOption, option_map}
+use Rattle.std.proofs.Common.{◌≡◌, ◌∙◌, Some, None, ap, codes, subst, sym, true≢false, MatchOption}
+use Rattle.std.proofs.Common.{option_map}
 use Rattle.clap.specs.Words.{found_of, rows_of, first_of}
 use Rattle.clap.proofs.WalkLemmas.{first_value-rows}
-use Rattle.epx_types.specs.Keys.{FitsKey}
+use Rattle.epx_types.proofs.Common.{FitsKey}
 use Rattle.epx_words.proofs.task_of.trace_task.Goals as goal
 
 pub returns-in_err-get_str-clause-none : goal.returns-in_err-get_str-clause-none

@@ -1,8 +1,7 @@
 use Rattle.std.proofs.Common.{◌∙◌, ◌+◌, max, List, map, fold, sym, ap₂, subst, flat_map, arith}
-use Rattle.std.proofs.lemmas.List.{with_items_is}
+use Rattle.epx_types.proofs.Common.{with_items_is, accesses_of}
 use Rattle.epx_apply.specs.declared.key_table.TableAccess.{TableAccess}
 use Rattle.epx_apply.specs.declared.key_table.KeyLevels.{KeyLevels}
-use Rattle.epx_types.specs.CommandKeys.{accesses_of}
 use Rattle.epx_apply.specs.inner.KeyTables.{Table, IsKeyTableOf, level_for, raise}
 use Rattle.epx_apply.proofs.KeyTableLemmas.{AddsAccesses-nil, adds_more_accesses}
 use Rattle.epx_apply.proofs.KeyTableLemmas.{adds_all_accesses, keys_within, level_small, added_by}

@@ -1,5 +1,5 @@
 use Rattle.std.proofs.Common.{take, flat_map}
-use Rattle.epx_types.specs.CommandKeys.{accesses_of}
+use Rattle.epx_types.proofs.Common.{accesses_of}
 use Rattle.epx_apply.specs.inner.KeyTables.{AddsAccesses}
 use Rattle.epx_apply.proofs.key_table.KeyTable.push_command.Given as goal
 

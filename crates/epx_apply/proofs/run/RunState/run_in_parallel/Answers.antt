@@ -1,6 +1,5 @@
 use Rattle.std.proofs.Common.{◌∙◌, ap}
-use Rattle.epx_types.specs.Rearrangements.{commands_at}
-use Rattle.epx_types.specs.Writes.{apply_writes}
+use Rattle.epx_types.proofs.Common.{commands_at, apply_writes}
 use Rattle.epx_apply.specs.inner.Effects.{op_lists_of, put_replies}
 use Rattle.epx_store.proofs.MergeLemmas.{writes_in}
 use Rattle.epx_apply.proofs.LevelEffectLemmas.{no_key_twice, merged, replied}

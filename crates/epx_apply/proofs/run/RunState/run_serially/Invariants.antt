@@ -1,6 +1,5 @@
 use Rattle.std.proofs.Common.{◌≡◌, length, drop}
-use Rattle.epx_types.specs.Execution.{execute}
-use Rattle.epx_types.specs.Rearrangements.{commands_at}
+use Rattle.epx_types.proofs.Common.{execute, commands_at}
 use Rattle.epx_apply.specs.inner.Effects.{op_lists_of, put_replies}
 use Rattle.epx_apply.proofs.run.RunState.run_serially.Given as goal
 

@@ -1,6 +1,5 @@
 use Rattle.std.proofs.Common.{◌≡◌, ℕ, ◌<◌, List, Bool, length, get_or, ap, ◌∙◌, arith}
-use Rattle.std.proofs.lemmas.List.{get_or_read}
-use Rattle.std.proofs.lemmas.List.Elements.{All-get_or}
+use Rattle.epx_types.proofs.Common.{get_or_read, All-get_or}
 use Rattle.epx_components.specs.Partitions.{ComponentParts, parts, component_of, number_for}
 use Rattle.epx_audit.specs.declared.batch.SourceBatch.{SourceBatch}
 use Rattle.epx_audit.specs.inner.Batches.{IsWhole}

@@ -1,6 +1,6 @@
 use Rattle.std.proofs.Common.{◌≡◌, inl, inr, get_or, IsTrue, subst, arith}
-use Rattle.std.proofs.lemmas.Bool.{cases_lt}
-use Rattle.epx_graph.specs.Graphs.{edges_of}
+use Rattle.epx_types.proofs.Common.{cases_lt}
+use Rattle.epx_graph.proofs.Common.{edges_of}
 use Rattle.epx_audit.specs.inner.DoubtfulKeys.{IsRelatedOrFree}
 use Rattle.epx_audit.specs.inner.SourceBits.{has_bit}
 use Rattle.epx_audit.proofs.BitLemmas.{no_bit}

@@ -1,10 +1,9 @@
 use Rattle.std.proofs.Common.{◌≡◌, ◌-◌, get_or, sym, ◌∙◌, refl, arith}
-use Rattle.epx_graph.specs.Graphs.{edges_of}
-use Rattle.epx_graph.specs.NodePaths.{NodeReaches}
+use Rattle.epx_graph.proofs.Common.{edges_of, NodeReaches}
 use Rattle.epx_components.proofs.NodePathLemmas.{reaches_itself, reaches_edge, reaches_on}
 use Rattle.epx_audit.proofs.ReachIndexLemmas.{chain_next, chain_on}
 use Rattle.epx_audit.proofs.reach_index.Chain.next.Goals as goal
-use Rattle.epx_types.proofs.commands.EqualityLemmas.{ids_decide}
+use Rattle.epx_types.proofs.Common.{ids_decide}
 
 pub returns-then-eq : goal.returns-then-eq
 returns-then-eq c =

@@ -1,6 +1,6 @@
 use Rattle.std.proofs.Common.{◌≡◌, ℕ, ◌+◌, ◌<◌, List, set, length, get_or, sym, subst, arith}
-use Rattle.std.proofs.lemmas.List.{get_or_read}
-use Rattle.epx_graph.specs.Graphs.{edges_of}
+use Rattle.epx_types.proofs.Common.{get_or_read}
+use Rattle.epx_graph.proofs.Common.{edges_of}
 use Rattle.epx_audit.specs.inner.ReachIndexes.{IsChain}
 use Rattle.epx_audit.proofs.ReachIndexLemmas.{AreChains, chains_next, chains_all}
 use Rattle.epx_audit.proofs.reach_index.ReachIndex.of.Goals as goal

@@ -1,4 +1,4 @@
-use Rattle.epx_graph.specs.Graphs.{edges_of}
+use Rattle.epx_graph.proofs.Common.{edges_of}
 use Rattle.epx_audit.specs.inner.ReachIndexes.{IsChain}
 use Rattle.epx_audit.proofs.ReachIndexLemmas.{AreChains}
 use Rattle.epx_audit.proofs.reach_index.ReachIndex.of.Given as goal

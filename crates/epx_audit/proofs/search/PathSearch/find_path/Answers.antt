@@ -1,7 +1,6 @@
 use Rattle.std.proofs.Common.{◌∷◌, [], inl, inr, Contains, sym, subst, ◌∙◌}
-use Rattle.std.proofs.lemmas.List.Elements.{Contains-append_left, Contains-push}
-use Rattle.epx_graph.specs.Graphs.{edges_of}
-use Rattle.epx_graph.proofs.GraphNodeLemmas.{edge_within}
+use Rattle.epx_types.proofs.Common.{Contains-append_left, Contains-push}
+use Rattle.epx_graph.proofs.Common.{edges_of, edge_within}
 use Rattle.epx_components.proofs.NodePathLemmas.{reaches_edge, reaches_on}
 use Rattle.epx_audit.proofs.search.PathSearch.find_path.Goals as goal
 

@@ -1,6 +1,5 @@
 use Rattle.std.proofs.Common.{◌≡◌, ◌<◌, ℕ, length, Contains}
-use Rattle.epx_graph.specs.Graphs.{edges_of}
-use Rattle.epx_graph.specs.NodePaths.{NodeReaches}
+use Rattle.epx_graph.proofs.Common.{edges_of, NodeReaches}
 use Rattle.epx_audit.proofs.search.PathSearch.find_path.Given as goal
 
 abbrev pub invariant-loop : goal.invariant-loop

@@ -1,8 +1,6 @@
-use Rattle.std.proofs.Common.{inl, inr, Contains, length, length-set, get_or, subst, ap}
-use Rattle.std.proofs.Common.{◌∙◌}
-use Rattle.std.proofs.lemmas.List.Elements.{Contains-get_or, Contains-push_cases}
-use Rattle.epx_graph.specs.Graphs.{edges_of}
-use Rattle.epx_graph.proofs.GraphNodeLemmas.{edge_within}
+use Rattle.std.proofs.Common.{inl, inr, Contains, length, length-set, get_or, subst, ap, ◌∙◌}
+use Rattle.epx_types.proofs.Common.{Contains-get_or, Contains-push_cases}
+use Rattle.epx_graph.proofs.Common.{edges_of, edge_within}
 use Rattle.epx_components.proofs.NodePathLemmas.{reaches_edge, reaches_on}
 use Rattle.epx_audit.proofs.search.PathSearch.open_targets.Goals as goal
 use Rattle.epx_audit.proofs.search.PathSearch.open_targets.Goals.{then-index-position+then-index-self+in_ok-push}

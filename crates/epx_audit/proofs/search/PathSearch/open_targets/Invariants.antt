@@ -1,5 +1,5 @@
 use Rattle.std.proofs.Common.{◌≡◌, ◌⊎◌, ℕ, length, Contains}
-use Rattle.epx_graph.specs.Graphs.{edges_of}
+use Rattle.epx_graph.proofs.Common.{edges_of}
 use Rattle.epx_audit.proofs.search.PathSearch.open_targets.Given as goal
 
 abbrev pub invariant-loop-target : goal.invariant-loop-target

@@ -1,9 +1,6 @@
 use Rattle.std.proofs.Common.{◌≡◌, ◌<◌, length, get_or, arith, IsTrue}
-use Rattle.std.proofs.lemmas.List.{get_or_read}
-use Rattle.std.proofs.lemmas.List.Elements.{All-get_or}
-use Rattle.std.proofs.lemmas.Result.{IfOk-weaker}
-use Rattle.epx_graph.specs.Graphs.{edges_of}
-use Rattle.epx_graph.specs.NodePaths.{NodeReaches}
+use Rattle.epx_types.proofs.Common.{get_or_read, All-get_or, IfOk-weaker}
+use Rattle.epx_graph.proofs.Common.{edges_of, NodeReaches}
 use Rattle.epx_components.proofs.NodePathLemmas.{reaches_edge, reaches_on}
 use Rattle.epx_audit.proofs.search.PathSearch.reaches.Goals as goal
 use Rattle.epx_audit.proofs.search.PathSearch.reaches.Goals.{then-reaches_by_chain-via-then-reaches_by_chain}

@@ -1,5 +1,5 @@
 use Rattle.std.proofs.Common.{◌≡◌, [], ◌∷◌, ◌++◌, ◌+◌, ◌∙◌, sym, ap, refl, length, arith}
-use Rattle.std.proofs.lemmas.Result.{on_ok_weaker}
+use Rattle.epx_types.proofs.Common.{on_ok_weaker}
 use Rattle.epx_committed.specs.inner.LineIndexes.{mark_of}
 use Rattle.epx_committed.specs.inner.LineRows.{firsts_at}
 use Rattle.epx_committed.proofs.FirstLineLemmas.{known_row, named_row, known_line}

@@ -1,8 +1,5 @@
 use Rattle.std.proofs.Common.{map, sym, ap, subst, ◌∙◌}
-use Rattle.std.proofs.lemmas.Option.{slice_get_read}
-use Rattle.epx_types.specs.Ids.{IsRising}
-use Rattle.epx_types.specs.CommittedMap.{ids_of, position_of}
-use Rattle.epx_types.proofs.commands.EqualityLemmas.{ids_decide}
+use Rattle.epx_types.proofs.Common.{slice_get_read, IsRising, ids_of, position_of, ids_decide}
 use Rattle.epx_committed.specs.declared.rows.Row.{Row}
 use Rattle.epx_committed.proofs.MergedMapLemmas.{rising_at, found_position}
 use Rattle.epx_committed.proofs.MergedMapLemmas.{position_among, position_there}
@@ -23,7 +20,7 @@ pub returns-then-eq-clause-position : goal.returns-then-eq-clause-position
 returns-then-eq-clause-position c =
     let same = (ids_decide c.index.result.now.id c.args.id).0 (sym c.eq.ensures ∙ c.if-eq.true) in
     let rows = c.self.inside.rows in
-    let k = c.in-Some-guess.position in
+    let k = c.in-Some-hint.position in
     let row = slice_get_read rows.items c.len.result k c.index.result.now
     (c.len.ensures ∙ rows.ok.0) c.if-position-len.true c.index.ensures in
     sym (found_position c.self.inside.lists.items rows.items c.self.invariant.0 k

@@ -1,5 +1,5 @@
 use Rattle.std.proofs.Common.{sym}
-use Rattle.epx_types.proofs.committed.PositionLemmas.{position_of-within, instance_of-position}
+use Rattle.epx_types.proofs.Common.{position_of-within, instance_of-position}
 use Rattle.epx_committed.proofs.MergedMapLemmas.{instance_nowhere}
 use Rattle.epx_committed.proofs.merged.Merged.get.Goals as goal
 

@@ -1,6 +1,5 @@
 use Rattle.std.proofs.Common.{◌∷◌, ◌++◌, [], length, refl, ap, sym, ◌∙◌, arith}
-use Rattle.std.proofs.lemmas.List.{take_all}
-use Rattle.std.proofs.lemmas.Option.{slice_get_read}
+use Rattle.epx_types.proofs.Common.{take_all, slice_get_read}
 use Rattle.epx_committed.specs.inner.LineRows.{instances_at}
 use Rattle.epx_committed.proofs.MergedMapLemmas.{length_at}
 use Rattle.epx_committed.proofs.TakenEntryLemmas.{named_now, later_lines_stay, next_taken}

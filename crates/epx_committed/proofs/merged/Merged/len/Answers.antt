@@ -1,6 +1,5 @@
 use Rattle.std.proofs.Common.{length, sym, ap, subst, ◌∙◌}
-use Rattle.epx_types.specs.Ids.{IsRising}
-use Rattle.epx_types.specs.CommittedMap.{ids_of}
+use Rattle.epx_types.proofs.Common.{IsRising, ids_of}
 use Rattle.epx_committed.proofs.MergedMapLemmas.{length_at, rising_at}
 use Rattle.epx_committed.proofs.merged.Merged.len.Goals as goal
 

@@ -1,5 +1,5 @@
 use Rattle.std.proofs.Common.{map, slice_get, sym, ap, ◌∙◌, arith}
-use Rattle.epx_types.specs.Instances.{Instance}
+use Rattle.epx_types.proofs.Common.{Instance}
 use Rattle.epx_committed.proofs.MergedMapLemmas.{within_rows, row_there, seq_stands}
 use Rattle.epx_committed.proofs.merged.Merged.seq_at.Goals as goal
 

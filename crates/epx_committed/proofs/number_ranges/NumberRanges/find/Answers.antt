@@ -1,5 +1,5 @@
 use Rattle.std.proofs.Common.{ap, ◌∙◌}
-use Rattle.std.proofs.lemmas.List.{get_or_read}
+use Rattle.epx_types.proofs.Common.{get_or_read}
 use Rattle.epx_committed.specs.inner.NumberRanges.{range_of}
 use Rattle.epx_committed.proofs.NumberRangeLemmas.{found_in}
 use Rattle.epx_committed.proofs.number_ranges.NumberRanges.find.Goals as goal

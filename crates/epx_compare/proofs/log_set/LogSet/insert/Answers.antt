@@ -1,8 +1,6 @@
-use Rattle.std.proofs.Common.{◌≡◌, ◌∙◌, ◌≢◌, ◌==◌, ◌||◌, Bool, true, false}
-use Rattle.std.proofs.Common.{inl, inr, sym, ap, arith}
-use Rattle.std.specs.Int.{bit_at, w64}
-use Rattle.std.proofs.lemmas.Bool.{cases_Bool}
-use Rattle.std.proofs.lemmas.Bool.Decides.{nat_tests}
+use Rattle.std.proofs.Common.{◌≡◌, ◌∙◌, ◌≢◌, ◌==◌, ◌||◌, Bool, true, false, inl, inr, sym, ap}
+use Rattle.std.proofs.Common.{arith}
+use Rattle.epx_types.proofs.Common.{bit_at, w64, cases_Bool, nat_tests}
 use Rattle.std.proofs.lemmas.Nat.Bits.{bit_at_set_same, bit_at_set_other}
 use Rattle.epx_compare.proofs.log_set.LogSet.insert.Goals as goal
 

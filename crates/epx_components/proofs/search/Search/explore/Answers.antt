@@ -1,5 +1,5 @@
 use Rattle.std.proofs.Common.{◌+◌, length, arith, refl}
-use Rattle.epx_graph.specs.Graphs.{edges_of}
+use Rattle.epx_graph.proofs.Common.{edges_of}
 use Rattle.epx_components.proofs.RootLemmas.{root_search}
 use Rattle.epx_components.specs.inner.SearchStates.{state}
 use Rattle.epx_components.proofs.search.Search.explore.Goals as goal

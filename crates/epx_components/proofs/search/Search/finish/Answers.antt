@@ -1,6 +1,7 @@
 use Rattle.std.proofs.Common.{◌≡◌, ◌-◌, ◌<◌, ◌++◌, length, take, drop, arith, get_or, sym, refl}
 use Rattle.std.proofs.Common.{◌∙◌, ap}
-use Rattle.std.proofs.lemmas.List.{with_items_is, get_or_read, take_rest}
+use Rattle.epx_types.proofs.Common.{with_items_is, get_or_read}
+use Rattle.std.proofs.lemmas.List.{take_rest}
 use Rattle.epx_components.proofs.CloseLemmas.{closes_group}
 use Rattle.epx_components.proofs.search.Search.finish.Goals as goal
 

@@ -1,7 +1,6 @@
 use Rattle.std.proofs.Common.{◌<◌, length, arith}
-use Rattle.std.proofs.lemmas.List.{get_or_read}
-use Rattle.std.proofs.lemmas.Result.{on_ok_weaker}
-use Rattle.epx_graph.specs.Graphs.{edges_of}
+use Rattle.epx_types.proofs.Common.{get_or_read, on_ok_weaker}
+use Rattle.epx_graph.proofs.Common.{edges_of}
 use Rattle.epx_components.proofs.EdgeLemmas.{edge_to}
 use Rattle.epx_components.proofs.FollowLemmas.{follow_less, follow_keeps, if_both, stays_on_top}
 use Rattle.epx_components.proofs.PathEndLemmas.{open_below}

@@ -1,5 +1,5 @@
 use Rattle.std.proofs.Common.{arith, rules, false, ◌≡◌}
-use Rattle.epx_graph.specs.Graphs.{edges_of}
+use Rattle.epx_graph.proofs.Common.{edges_of}
 use Rattle.epx_components.proofs.PathEndLemmas.{open_below}
 use Rattle.epx_components.specs.inner.SearchStates.{state}
 use Rattle.epx_components.proofs.search.Search.follow_edges.Goals as goal

@@ -1,7 +1,6 @@
 use Rattle.std.proofs.Common.{◌≡◌, ℕ, ◌-◌, List, length, arith, sym, ◌∙◌, ap, take, subst}
-use Rattle.std.proofs.lemmas.List.{get_or_read}
-use Rattle.std.proofs.lemmas.Result.{on_ok_weaker}
-use Rattle.epx_graph.specs.Graphs.{edges_of}
+use Rattle.epx_types.proofs.Common.{get_or_read, on_ok_weaker}
+use Rattle.epx_graph.proofs.Common.{edges_of}
 use Rattle.epx_components.proofs.FinishLemmas.{finish_keeps}
 use Rattle.epx_components.proofs.LookLemmas.{pop_keeps}
 use Rattle.epx_components.proofs.PathEndLemmas.{open_below, top_open}

@@ -1,5 +1,5 @@
 -- An empty body. The borrow is opened and closed at another ghost value.
-use Rattle.std.proofs.Common.{ℕ, List, [], ◌∷◌, ◌++◌, refl, MutBor}
+use Rattle.std.proofs.Common.{ℕ, List, [], ◌∷◌, ◌++◌, refl, MutBor, Bor, ◌<◌, ◌^◌, length}
 use seplogic.Ra.Ura.{Ura}
 use mir.Syntax.{named}
 use mir.Val.{Val, vunit, vptr}
@@ -33,12 +33,10 @@ use Rattle.epx_devices.specs.contracts.transferred.Transferred.note.Key.{name as
 use Rattle.epx_devices.specs.contracts.transferred.Transferred.note as it
 use Rattle.epx_devices.proofs.transferred.Transferred.note.Statement as stated
 use Rattle.epx_devices.proofs.transferred.Transferred.note.Code as code
-use denote.Ref.{Bor}
 use denote.Builtin.{u8}
 use denote.Exit.{yes}
 use denote.Slice.{ShrSlice, slice_val, shr_slice_vals, shr_slice_Tells}
 use denote.Triple.Walked.{stay_none_slice, Goes-none_slice}
-use Rattle.std.proofs.Common.{◌<◌, ◌^◌, length}
 
 abbrev Arg : Type 0
 Arg = MutBor Transferred × (Bor (List ℕ) × Unit {0})

@@ -1,5 +1,5 @@
 use Rattle.std.proofs.Common.{sym, ◌∙◌, rules}
-use Rattle.std.proofs.lemmas.Bool.{eqb-true}
+use Rattle.epx_types.proofs.Common.{eqb-true}
 use Rattle.epx_executor.proofs.FilingMapLemmas.{AreListedUnder-emptied, AreListedUnder-kept}
 use Rattle.epx_executor.proofs.blockers.Blockers.forget_old.Goals as goal
 

@@ -1,5 +1,5 @@
 use Rattle.std.proofs.Common.{List, sym, subst, inl, inr}
-use Rattle.epx_types.proofs.lists.MembershipLemmas.{Contains-nil}
+use Rattle.epx_types.proofs.Common.{Contains-nil}
 use Rattle.epx_executor.specs.declared.done_runs.Run.{Run}
 use Rattle.epx_executor.specs.Runs.{IsInRuns}
 use Rattle.epx_executor.proofs.RunLemmas.{Contains-ids_in, from_ids_in}

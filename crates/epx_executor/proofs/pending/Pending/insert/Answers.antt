@@ -1,5 +1,5 @@
 use Rattle.std.proofs.Common.{subst, sym}
-use Rattle.epx_types.proofs.lists.IdListLemmas.{rising_from_strict}
+use Rattle.epx_types.proofs.Common.{rising_from_strict}
 use Rattle.epx_executor.proofs.PendingLemmas.{AreKeyed, keyed_after_insert, members_after_insert}
 use Rattle.epx_executor.proofs.pending.Pending.insert.Goals as goal
 

@@ -1,19 +1,14 @@
 use Rattle.std.proofs.Common.{◌≡◌, ◌⊎◌, ◌↔◌, ◌+◌, Bool, true, not, List, [], ◌∷◌, ◌++◌, take}
 use Rattle.std.proofs.Common.{Contains, sym, ap, ◌∙◌, subst, inl, inr, arith}
-use Rattle.epx_types.specs.declared.id.Id.{Id}
-use Rattle.epx_types.specs.Done.{is_among}
-use Rattle.epx_types.specs.Instances.{Instance}
-use Rattle.epx_types.proofs.remaining.RemainingLemmas.{is_among_cases}
+use Rattle.epx_types.proofs.Common.{Id, is_among, Instance, is_among_cases}
 use Rattle.epx_executor.proofs.PendingLemmas.{AreInserted, all_inserted, done_next, inserted_next}
 use Rattle.epx_executor.proofs.PendingLemmas.{none_found, noted, noted_push, one_found, there_next}
 use Rattle.epx_executor.proofs.RemainderLemmas.{from_among, was_done, was_left}
 use Rattle.epx_executor.proofs.pending.Pending.insert_left.Goals as goal
-use Rattle.epx_executor.proofs.pending.Pending.insert_left.Goals.{
-  then-is_left+then-is_none+in_ok-push+in_ok-copy+in_ok-insert,
-  else-is_left,
-  else-is_left-via-then-is_left+else-is_none,
-  else-is_left-via-else-is_left,
-}
+use Rattle.epx_executor.proofs.pending.Pending.insert_left.Goals.{then-is_left+then-is_none+in_ok-push+in_ok-copy+in_ok-insert}
+use Rattle.epx_executor.proofs.pending.Pending.insert_left.Goals.{else-is_left}
+use Rattle.epx_executor.proofs.pending.Pending.insert_left.Goals.{else-is_left-via-then-is_left+else-is_none}
+use Rattle.epx_executor.proofs.pending.Pending.insert_left.Goals.{else-is_left-via-else-is_left}
 
 pub returns-in_err-push-clause-noted : goal.returns-in_err-push-clause-noted
 returns-in_err-push-clause-noted c =

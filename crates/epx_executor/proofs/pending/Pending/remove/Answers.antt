@@ -1,6 +1,5 @@
 use Rattle.std.proofs.Common.{subst}
-use Rattle.epx_types.specs.Ids.{IsRising}
-use Rattle.epx_types.proofs.lists.IdListLemmas.{rising_from_strict}
+use Rattle.epx_types.proofs.Common.{IsRising, rising_from_strict}
 use Rattle.epx_executor.proofs.PendingLemmas.{keyed_after_remove, members_after_remove}
 use Rattle.epx_executor.proofs.pending.Pending.remove.Goals as goal
 

@@ -1,6 +1,5 @@
 use Rattle.std.proofs.Common.{take}
-use Rattle.epx_types.specs.CommittedMap.{ids_of}
-use Rattle.epx_types.specs.Ids.{IsRising}
+use Rattle.epx_types.proofs.Common.{ids_of, IsRising}
 use Rattle.epx_executor.proofs.PendingLemmas.{AreWithout}
 use Rattle.epx_executor.proofs.pending.Pending.remove_all.Given as goal
 

@@ -1,6 +1,5 @@
 use Rattle.std.proofs.Common.{List, [], ◌∷◌, Bor, map, sym, ap, subst, ◌∙◌, arith}
-use Rattle.std.proofs.lemmas.List.{map-append}
-use Rattle.epx_types.specs.Instances.{Instance}
+use Rattle.epx_types.proofs.Common.{map-append, Instance}
 use Rattle.epx_executor.proofs.PendingLemmas.{AreSome, some_found, some_missed, some_all}
 use Rattle.epx_executor.proofs.pending.Pending.some_entries.Goals as goal
 use Rattle.epx_executor.proofs.pending.Pending.some_entries.Goals.{in-Some+in_ok-push, in_default}

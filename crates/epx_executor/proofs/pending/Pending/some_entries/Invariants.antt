@@ -1,5 +1,5 @@
 use Rattle.std.proofs.Common.{Bor, map, take}
-use Rattle.epx_types.specs.Instances.{Instance}
+use Rattle.epx_types.proofs.Common.{Instance}
 use Rattle.epx_executor.proofs.PendingLemmas.{AreSome}
 use Rattle.epx_executor.proofs.pending.Pending.some_entries.Given as goal
 

@@ -1,5 +1,5 @@
 use Rattle.std.proofs.Common.{◌-◌, length, subst}
-use Rattle.std.proofs.lemmas.Result.{IfOk-weaker}
+use Rattle.epx_types.proofs.Common.{IfOk-weaker}
 use Rattle.epx_graph.specs.Graphs.{DependencyGraph}
 use Rattle.epx_rows.specs.Rows.{AreTransposed}
 use Rattle.epx_graph.proofs.BuildLemmas.{transpose_padded}

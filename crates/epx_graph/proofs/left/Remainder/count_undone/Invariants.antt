@@ -1,5 +1,5 @@
 use Rattle.std.proofs.Common.{◌≡◌, ◌≤◌, length, take}
-use Rattle.epx_types.specs.Done.{remaining_ids}
+use Rattle.epx_types.proofs.Common.{remaining_ids}
 use Rattle.epx_graph.proofs.left.Remainder.count_undone.Given as goal
 
 abbrev pub invariant-loop-id : goal.invariant-loop-id

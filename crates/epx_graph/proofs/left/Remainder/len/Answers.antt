@@ -1,6 +1,5 @@
 use Rattle.std.proofs.Common.{◌≡◌, ◌∙◌, length, sym, ap, arith}
-use Rattle.std.proofs.lemmas.Bool.Decides.{nat_tests}
-use Rattle.epx_types.proofs.remaining.RemainingLemmas.{IsRising-remaining}
+use Rattle.epx_types.proofs.Common.{nat_tests, IsRising-remaining}
 use Rattle.epx_graph.proofs.RemainderLemmas.{all_left}
 use Rattle.epx_graph.proofs.left.Remainder.len.Goals as goal
 

@@ -1,5 +1,5 @@
 use Rattle.std.proofs.Common.{◌≡◌, ◌<◌, ◌∙◌, length, sym, arith}
-use Rattle.std.proofs.lemmas.Bool.Decides.{nat_tests}
+use Rattle.epx_types.proofs.Common.{nat_tests}
 use Rattle.epx_graph.proofs.RemainderLemmas.{found_there, found_left, found_done, found_missing}
 use Rattle.epx_graph.proofs.left.Remainder.look_up.Goals as goal
 

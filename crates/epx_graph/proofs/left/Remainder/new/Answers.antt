@@ -1,7 +1,6 @@
 use Rattle.std.proofs.Common.{◌≡◌, ◌++◌, ◌∷◌, [], Contains, Some, length, sym, ap, subst, ◌∙◌}
 use Rattle.std.proofs.Common.{arith}
-use Rattle.epx_types.specs.Instances.{Instance}
-use Rattle.epx_types.proofs.lists.ListPositionLemmas.{slice_get-from_map}
+use Rattle.epx_types.proofs.Common.{Instance, slice_get-from_map}
 use Rattle.epx_graph.specs.inner.Remainder.{RemainderView}
 use Rattle.epx_graph.proofs.RemainderLemmas.{tables_skip, tables_more}
 use Rattle.epx_graph.proofs.left.Remainder.new.Goals as goal

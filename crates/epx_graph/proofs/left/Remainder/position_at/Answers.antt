@@ -1,5 +1,5 @@
 use Rattle.std.proofs.Common.{◌≡◌, ◌<◌, length, sym, subst, arith}
-use Rattle.std.proofs.lemmas.Bool.Decides.{nat_tests}
+use Rattle.epx_types.proofs.Common.{nat_tests}
 use Rattle.epx_graph.specs.inner.Remainder.{RemainderView, rest_of}
 use Rattle.epx_graph.proofs.RemainderLemmas.{position_as_in_map, position_from_table}
 use Rattle.epx_graph.proofs.left.Remainder.position_at.Goals as goal

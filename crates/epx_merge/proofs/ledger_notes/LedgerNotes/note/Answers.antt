@@ -1,4 +1,4 @@
-use Rattle.std.proofs.lemmas.Result.{MatchResult-weaker}
+use Rattle.epx_types.proofs.Common.{MatchResult-weaker}
 use Rattle.epx_merge.proofs.LedgerNoteLemmas.{bad_pending, pending_noted}
 use Rattle.epx_merge.proofs.ledger_notes.LedgerNotes.note.Goals as goal
 

@@ -1,9 +1,8 @@
-use Rattle.std.proofs.Common.{◌≡◌, ◌≤◌, ◌+◌, ◌-◌, ◌^◌, ◌%◌, ◌∷◌, ◌∙◌, [], suc, ap, sym, subst}
-use Rattle.std.proofs.Common.{refl, inl, length, map, take, drop, arith, rules}
-use Rattle.std.proofs.lemmas.List.{length-append, length-map, drop_at}
+use Rattle.std.proofs.Common.{◌≡◌, ◌≤◌, ◌+◌, ◌-◌, ◌^◌, ◌%◌, ◌∷◌, ◌∙◌, [], suc, ap, sym, subst, refl}
+use Rattle.std.proofs.Common.{inl, length, map, take, drop, arith, rules}
+use Rattle.epx_types.proofs.Common.{length-append, length-map, drop_at, max_log_bytes}
 use Rattle.epx_lines.specs.Lines.{lines_of}
 use Rattle.epx_lines.specs.Meaning.{meaning_of}
-use Rattle.epx_types.specs.Limits.{max_log_bytes}
 use Rattle.epx_merge.specs.LogLines.{meaning_at, meanings_in}
 use Rattle.epx_merge.specs.RedundantLines.{DropsCached, IsRedundantIn}
 use Rattle.epx_merge.specs.declared.line_batch.Span.{Span}

@@ -1,7 +1,6 @@
 use Rattle.std.proofs.Common.{◌≡◌, ◌≤◌, ◌+◌, ◌-◌, ◌++◌, suc, List, [], length, map, drop}
-use Rattle.std.specs.List.{All}
+use Rattle.epx_types.proofs.Common.{All, max_log_bytes}
 use Rattle.epx_lines.specs.Lines.{lines_of}
-use Rattle.epx_types.specs.Limits.{max_log_bytes}
 use Rattle.epx_merge.specs.LogLines.{MeaningAt, meanings_in}
 use Rattle.epx_merge.specs.RedundantLines.{DropsCached, IsNextBatch}
 use Rattle.epx_merge.proofs.LineBatchLemmas.{IsWithin, line_at}

@@ -1,5 +1,5 @@
 use Rattle.std.proofs.Common.{arith}
-use Rattle.epx_graph.specs.Graphs.{edges_of}
+use Rattle.epx_graph.proofs.Common.{edges_of}
 use Rattle.epx_components.specs.Partitions.{parts}
 use Rattle.epx_ranking.proofs.EndLemmas.{ends_below_exact}
 use Rattle.epx_ranking.proofs.check.ends.find_ends_below.Goals as goal

@@ -1,8 +1,6 @@
-use Rattle.std.proofs.Common.{◌≡◌, ◌<◌, None, length, get_or, sym, ap, ◌∙◌, subst₂}
-use Rattle.std.proofs.Common.{arith, subst, IsTrue}
-use Rattle.std.proofs.lemmas.Bool.{false≢true}
-use Rattle.std.proofs.lemmas.List.{get_or_read}
-use Rattle.std.proofs.lemmas.List.Elements.{All-get_or}
+use Rattle.std.proofs.Common.{◌≡◌, ◌<◌, None, length, get_or, sym, ap, ◌∙◌, subst₂, arith, subst}
+use Rattle.std.proofs.Common.{IsTrue}
+use Rattle.epx_types.proofs.Common.{false≢true, get_or_read, All-get_or}
 use Rattle.epx_components.specs.Partitions.{parts, component_of}
 use Rattle.epx_components.specs.ReadyMarks.{is_marked}
 use Rattle.epx_ranking.proofs.LeftOutLemmas.{left_out_kept, left_out_step}

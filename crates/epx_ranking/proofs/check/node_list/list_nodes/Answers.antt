@@ -1,7 +1,5 @@
 use Rattle.std.proofs.Common.{◌+◌, sym, ◌∙◌, subst₂, arith, false, IsTrue}
-use Rattle.std.proofs.lemmas.Bool.{false≢true}
-use Rattle.std.proofs.lemmas.List.{get_or_read}
-use Rattle.std.proofs.lemmas.Option.{slice_get_within, slice_get-get_or}
+use Rattle.epx_types.proofs.Common.{false≢true, get_or_read, slice_get_within, slice_get-get_or}
 use Rattle.epx_ranking.proofs.NodeListLemmas.{earlier_from_mark, listed_step, ready_once_step}
 use Rattle.epx_ranking.specs.inner.NodeLists.{AreListed}
 use Rattle.epx_components.specs.ReadyMarks.{is_marked}

@@ -1,6 +1,6 @@
 use Rattle.std.proofs.Common.{List}
-use Rattle.epx_types.specs.Instances.{Instance}
-use Rattle.epx_graph.specs.GraphOf.{IsGraphOf}
+use Rattle.epx_types.proofs.Common.{Instance}
+use Rattle.epx_graph.proofs.Common.{IsGraphOf}
 use Rattle.epx_ranking.specs.inner.NodeLists.{AreListed}
 use Rattle.epx_ranking.specs.OrderFaults.{ReadyOnce}
 use Rattle.epx_ranking.proofs.check.node_list.list_nodes.Given as goal

@@ -1,5 +1,5 @@
 use Rattle.std.proofs.Common.{◌≡◌, true, false, sym, ap, ◌∙◌, rules}
-use Rattle.epx_types.specs.Done.{is_among}
+use Rattle.epx_types.proofs.Common.{is_among}
 use Rattle.epx_report.proofs.IdSetLemmas.{found_rising, found_late}
 use Rattle.epx_report.proofs.id_set.IdSet.contains.Goals as goal
 

@@ -1,8 +1,6 @@
 use Rattle.std.proofs.Common.{◌≡◌, true, false, not, sym, ap, ◌∙◌, subst, rules}
-use Rattle.std.specs.BTreeSet.{insert_key}
-use Rattle.epx_types.specs.Ids.{id_cmp}
-use Rattle.epx_types.specs.Done.{is_among}
-use Rattle.epx_report.specs.inner.Seen.{last, is_after_last}
+use Rattle.epx_types.proofs.Common.{insert_key, id_cmp, is_among}
+use Rattle.epx_report.specs.inner.Progress.{last, is_after_last}
 use Rattle.epx_report.specs.inner.IdSets.{with_late, AreRisingAndLate}
 use Rattle.epx_report.proofs.IdSetLemmas.{above_is_new, pushed, with_late-pushed, found_rising}
 use Rattle.epx_report.proofs.IdSetLemmas.{found_late, already_there, late_inserted}

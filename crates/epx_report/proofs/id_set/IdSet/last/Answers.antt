@@ -1,5 +1,5 @@
 use Rattle.std.proofs.Common.{◌≡◌, option_copied, ap, ◌∙◌, rules}
-use Rattle.epx_report.specs.inner.Seen.{last}
+use Rattle.epx_report.specs.inner.Progress.{last}
 use Rattle.epx_report.proofs.IdSetLemmas.{last-with_late}
 use Rattle.epx_report.proofs.id_set.IdSet.last.Goals as goal
 

@@ -1,9 +1,6 @@
 use Rattle.std.proofs.Common.{◌≡◌, ◌∙◌, ◌++◌, false, length, sym, ap₂, subst, rules}
 use Rattle.std.specs.FinMap as contents
-use Rattle.std.specs.List.{list_any}
-use Rattle.std.specs.List.Sorted.{IsPermutation}
-use Rattle.epx_types.specs.Done.{is_among}
-use Rattle.epx_types.specs.Ids.{IsRising}
+use Rattle.epx_types.proofs.Common.{list_any, IsPermutation, is_among, IsRising}
 use Rattle.epx_report.specs.Bases.{BaseParts}
 use Rattle.epx_report.specs.inner.BaseReadings.{put_pairs}
 use Rattle.epx_report.proofs.LinesByKindLemmas.{parts_of_base}

@@ -1,5 +1,5 @@
 use Rattle.std.proofs.Common.{◌++◌, ◌∷◌, [], drop, ap, ◌∙◌}
-use Rattle.std.proofs.lemmas.List.{drop-append-le}
+use Rattle.epx_types.proofs.Common.{drop-append-le}
 use Rattle.epx_rows.specs.OpenRows.{OpenRowView}
 use Rattle.epx_rows.specs.inner.RowEnds.{rows_from}
 use Rattle.epx_rows.proofs.RowLemmas.{rows_kept}

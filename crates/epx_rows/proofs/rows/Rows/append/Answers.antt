@@ -1,7 +1,6 @@
 use Rattle.std.proofs.Common.{◌≡◌, ◌+◌, ◌≤◌, ◌<◌, ◌++◌, length, map, All, ℕ, sym, ap, subst, ◌∙◌}
 use Rattle.std.proofs.Common.{arith}
-use Rattle.std.proofs.lemmas.List.{length-append}
-use Rattle.std.proofs.lemmas.List.Elements.{All-weaker}
+use Rattle.epx_types.proofs.Common.{length-append, All-weaker}
 use Rattle.epx_rows.proofs.RowAppendLemmas.{ends_within, both_ends, both_rows}
 use Rattle.epx_rows.proofs.rows.Rows.append.Goals as goal
 

@@ -1,6 +1,6 @@
 use Rattle.std.proofs.Common.{◌≡◌, map, drop}
 use Rattle.std.specs.FinMap as contents
-use Rattle.epx_types.proofs.keys.SortedEntryLemmas.{write_all}
+use Rattle.epx_types.proofs.Common.{write_all}
 use Rattle.epx_store.proofs.few_writes.FewWrites.tree.Given as goal
 
 abbrev pub invariant-loop-key : goal.invariant-loop-key

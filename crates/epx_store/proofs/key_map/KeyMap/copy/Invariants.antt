@@ -1,6 +1,6 @@
 use Rattle.std.proofs.Common.{◌≡◌}
 use Rattle.std.specs.FinMap as contents
-use Rattle.epx_types.proofs.keys.SortedEntryLemmas.{write_all}
+use Rattle.epx_types.proofs.Common.{write_all}
 use Rattle.epx_store.proofs.key_map.KeyMap.copy.Given as goal
 
 abbrev pub invariant-loop-key : goal.invariant-loop-key

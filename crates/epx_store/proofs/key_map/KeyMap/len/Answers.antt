@@ -1,6 +1,6 @@
 use Rattle.std.proofs.Common.{◌∙◌, sym, ap, length}
 use Rattle.std.specs.FinMap as contents
-use Rattle.epx_types.proofs.keys.SortedEntryLemmas.{entries-from_entries}
+use Rattle.epx_types.proofs.Common.{entries-from_entries}
 use Rattle.epx_store.proofs.TreeEntryLemmas.{is_sorted-from_order}
 use Rattle.epx_store.proofs.key_map.KeyMap.len.Goals as goal
 

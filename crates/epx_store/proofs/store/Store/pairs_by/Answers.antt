@@ -1,5 +1,5 @@
 use Rattle.std.proofs.Common.{ap, ◌∙◌}
-use Rattle.std.proofs.lemmas.Result.{IfOk-weaker}
+use Rattle.epx_types.proofs.Common.{IfOk-weaker}
 use Rattle.std.specs.FinMap as contents
 use Rattle.epx_store.proofs.UniqueKeyLemmas.{entries-placed}
 use Rattle.epx_store.proofs.store.Store.pairs_by.Goals as goal

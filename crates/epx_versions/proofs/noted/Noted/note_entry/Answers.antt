@@ -1,7 +1,6 @@
 use Rattle.std.proofs.Common.{◌≡◌, ◌∙◌, ◌∷◌, ◌++◌, [], Some, slice_get, refl, sym, ap, subst}
-use Rattle.std.specs.List.{AllZip}
+use Rattle.epx_types.proofs.Common.{AllZip, Placed}
 use Rattle.indexmap.specs.IndexSet.{insert_key}
-use Rattle.epx_types.specs.PlacedLines.{Placed}
 use Rattle.epx_versions.specs.declared.noted.NotedLine.{NotedLine}
 use Rattle.epx_versions.specs.LineVersions.{versions_of}
 use Rattle.epx_versions.specs.SameInstances.{same_instance}

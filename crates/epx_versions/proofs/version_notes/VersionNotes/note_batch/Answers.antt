@@ -1,6 +1,5 @@
 use Rattle.std.proofs.Common.{◌≡◌, ◌∙◌, [], List, Vec, refl, sym, subst}
-use Rattle.std.proofs.lemmas.List.{nil_from_length}
-use Rattle.std.specs.declared.alloc.Global.{Global}
+use Rattle.epx_types.proofs.Common.{nil_from_length, Global}
 use Rattle.epx_versions.specs.declared.read_line.ReadLine.{ReadLine}
 use Rattle.epx_versions.specs.inner.BatchNotes.{IsNotedUpTo}
 use Rattle.epx_versions.proofs.NotedBatchLemmas.{noting_none, noting_piece, noting_all}

@@ -1,5 +1,5 @@
 use Rattle.std.proofs.Common.{List, [], Vec}
-use Rattle.std.specs.declared.alloc.Global.{Global}
+use Rattle.epx_types.proofs.Common.{Global}
 use Rattle.epx_merge.specs.LinePieces.{ArePiecesOf}
 use Rattle.epx_merge.specs.LogLines.{MeaningAt}
 use Rattle.epx_versions.specs.declared.read_line.ReadLine.{ReadLine}

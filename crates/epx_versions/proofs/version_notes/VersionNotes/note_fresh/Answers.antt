@@ -1,7 +1,5 @@
 use Rattle.std.proofs.Common.{◌≡◌, ◌∙◌, ◌++◌, ◌∷◌, [], Some, slice_get, sym, ap, option_map}
-use Rattle.std.proofs.lemmas.Result.{IfOk-weaker}
-use Rattle.epx_types.specs.Instances.{Instance}
-use Rattle.epx_types.specs.PlacedLines.{Placed}
+use Rattle.epx_types.proofs.Common.{IfOk-weaker, Instance, Placed}
 use Rattle.epx_merge.specs.LogLines.{bad_lines_among, placed_among}
 use Rattle.epx_versions.specs.KnownLines.{meaning_of_version}
 use Rattle.epx_versions.specs.LineVersions.{versions_of}

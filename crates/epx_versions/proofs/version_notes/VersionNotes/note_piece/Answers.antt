@@ -1,5 +1,5 @@
 use Rattle.std.proofs.Common.{◌≡◌, ◌∙◌, ◌++◌, [], List, sym, subst}
-use Rattle.std.proofs.lemmas.List.{nil_from_length}
+use Rattle.epx_types.proofs.Common.{nil_from_length}
 use Rattle.epx_merge.specs.LogLines.{MeaningAt}
 use Rattle.epx_versions.specs.declared.read_line.ReadLine.{ReadLine}
 use Rattle.epx_versions.specs.inner.BatchNotes.{IsNotedUpTo}

@@ -1,6 +1,5 @@
 use Rattle.std.proofs.Common.{◌∙◌, length, sym, ap}
-use Rattle.std.proofs.lemmas.List.{length-map}
-use Rattle.epx_types.specs.Instances.{Instance}
+use Rattle.epx_types.proofs.Common.{length-map, Instance}
 use Rattle.epx_versions.specs.declared.hashed_version.HashedVersion.{HashedVersion}
 use Rattle.epx_versions.proofs.versions.Versions.len.Goals as goal
 

@@ -14,7 +14,7 @@ use Rattle.epx_report.specs.declared.form.BaseLine.{BaseLine}
 use Rattle.epx_report.specs.declared.form.BaseLine.TheVariants.{Header, Done, Reply, Waiting, Store}
 
 -- what the lines so far say
-pub record Seen : Type 0 where
+pub record Progress : Type 0 where
   -- the counts of the first line; None before it
   pub counts : Option Counts
   -- the instances of done lines and of reply lines, rising
@@ -27,7 +27,7 @@ pub record Seen : Type 0 where
   pub stored : List (List ℕ × ℤ)
 
 -- before the first line
-abbrev pub nothing_seen : Seen
+abbrev pub nothing_seen : Progress
 nothing_seen = record { counts = None; done = []; replies = 0; waiting = []; stored = [] }
 
 -- the next state, if the line is allowed at its position
@@ -48,7 +48,7 @@ is_after_last cmp (Some y) x = is_lt (cmp y x)
 
 -- a done line: before all reply, waiting and store lines, with a greater Id than the last done
 -- line
-abbrev pub after_done : Seen → Id → Option Seen
+abbrev pub after_done : Progress → Id → Option Progress
 after_done s x =
     if (s.replies == 0) && (length s.waiting == 0) && (length s.stored == 0) && is_after_last
     id_cmp (last s.done) x
@@ -56,14 +56,14 @@ after_done s x =
 
 -- a reply line: while replies are missing (so there was no waiting and no store line), for an
 -- instance that is not done yet
-abbrev pub after_reply : Counts → Seen → Id → Option Seen
+abbrev pub after_reply : Counts → Progress → Id → Option Progress
 after_reply c s x =
     if nat_lt s.replies c.executed && not (is_among s.done x)
     then Some (record s { done = insert_key id_cmp s.done x; replies = s.replies + 1 }) else None
 
 -- a waiting line: after all replies, while waiting lines are missing (so there was no store line),
 -- for an instance that is not done, with a greater Id than the last waiting line
-abbrev pub after_waiting : Counts → Seen → Id → Option Seen
+abbrev pub after_waiting : Counts → Progress → Id → Option Progress
 after_waiting c s x =
     if (s.replies == c.executed) && nat_lt (length s.waiting) c.waiting && is_after_last id_cmp
     (last s.waiting) x && not (is_among s.done x)
@@ -71,14 +71,14 @@ after_waiting c s x =
 
 -- a store line: after all replies and all waiting lines, with a greater key than the last store
 -- line
-abbrev pub after_store : Counts → Seen → List ℕ → ℤ → Option Seen
+abbrev pub after_store : Counts → Progress → List ℕ → ℤ → Option Progress
 after_store c s k v =
     if (s.replies == c.executed) && (length s.waiting == c.waiting) && is_after_last key_cmp
     (option_map (λ p. p.0) (last s.stored)) k
     then Some (record s { stored = s.stored ++ (k, v) ∷ [] }) else None
 
 -- the header is the first line and no other
-abbrev pub after_with : Option Counts → Seen → BaseLine → Option Seen
+abbrev pub after_with : Option Counts → Progress → BaseLine → Option Progress
 after_with None s (Header c) = Some (record s { counts = Some c })
 after_with None s line = None
 after_with (Some c) s (Header d) = None
@@ -87,15 +87,15 @@ after_with (Some c) s (Reply x) = after_reply c s x
 after_with (Some c) s (Waiting x) = after_waiting c s x
 after_with (Some c) s (Store k v) = after_store c s k v
 
-unfoldable pub after : Seen → BaseLine → Option Seen
+unfoldable pub after : Progress → BaseLine → Option Progress
 after s line = after_with s.counts s line
 
 -- ---- the end
 
-abbrev pub is_complete_with : Option Counts → Seen → Bool
+abbrev pub is_complete_with : Option Counts → Progress → Bool
 is_complete_with None s = false
 is_complete_with (Some c) s = (s.replies == c.executed) && (length s.waiting == c.waiting)
 
 -- no line is missing
-abbrev pub is_complete : Seen → Bool
+abbrev pub is_complete : Progress → Bool
 is_complete s = is_complete_with s.counts s

@@ -1,4 +1,4 @@
-//! Guesses of the positions of instances in a list by rising Id.
+//! Hints of the positions of instances in a list by rising Id.
 ghost use Rattle.std.specs.Iterator.{IsFinite};
 
 use epx_types::{Id, Memory};
@@ -21,7 +21,7 @@ struct Block {
 
 impl Block {
     /// The position of the instance with a number of this block, if it is noted.
-    fn guess(&self, number: u64) -> Option<usize> {
+    fn hint(&self, number: u64) -> Option<usize> {
         let mark = 1_u64 << (number % BLOCK_NUMBERS);
         if self.marks & mark == 0 {
             return None;
@@ -31,38 +31,38 @@ impl Block {
     }
 }
 
-/// Guesses the position of an instance in a list by rising Id from its number, without a search.
+/// Hints at the position of an instance in a list by rising Id by its number, without a search.
 ///
-/// A guess is only a hint, which the caller checks. An instance may have none if the numbers of
+/// A hint may be wrong, so the caller checks it. An instance may have none if the numbers of
 /// its replica have wide gaps: there are at most `SPARE_BLOCKS` more blocks than instances.
 #[derive(Debug, Drop)]
-pub struct Guesses {
+pub struct PositionHints {
     blocks: Vec<Block>,
     /// For each replica: add this to a number's block number to get the index of its block.
     offsets: [Option<u64>; 256],
 }
 
-impl Guesses {
-    /// Guesses for no instances.
-    pub fn new(alloc: Global) -> Guesses {
-        Guesses {
+impl PositionHints {
+    /// Hints for no instances.
+    pub fn new(alloc: Global) -> PositionHints {
+        PositionHints {
             blocks: Vec::new(alloc),
             offsets: [None; 256],
         }
     }
 
-    /// Guesses for the instances of a list by rising Id.
-    pub fn of<I: Iterator<Item = Id> + Drop>(alloc: Global, ids: I) -> Result<Guesses, Memory>
+    /// Hints for the instances of a list by rising Id.
+    pub fn of<I: Iterator<Item = Id> + Drop>(alloc: Global, ids: I) -> Result<PositionHints, Memory>
         requires can { I.can_next ids }
         requires ends { IsFinite (I.remaining ids) }
     {
-        let mut guesses = Guesses::new(alloc);
+        let mut hints = PositionHints::new(alloc);
         let mut position: usize = 0;
         for id in ids {
-            guesses.note(id, position)?;
+            hints.note(id, position)?;
             position = position.wrapping_add(1);
         }
-        Ok(guesses)
+        Ok(hints)
     }
 
     /// Records the position of an instance. Call it by rising Id.
@@ -100,10 +100,10 @@ impl Guesses {
         Ok(())
     }
 
-    /// A guess of the position of an instance, if it has one.
-    pub fn guess(&self, id: Id) -> Option<usize> {
+    /// A hint of the position of an instance, if it has one.
+    pub fn hint(&self, id: Id) -> Option<usize> {
         let offset = self.offsets[id.replica as usize]?;
         let index = offset.wrapping_add(id.number / BLOCK_NUMBERS);
-        self.blocks.get(index as usize)?.guess(id.number)
+        self.blocks.get(index as usize)?.hint(id.number)
     }
 }
