@@ -1,9 +1,9 @@
 -- Every committed map has a report and its views, and every list of logs has an answer.
 use Rattle.std.proofs.Common.{◌≢◌, ℕ, List, [], Result, Ok, Err, refl, inl, inr}
 use Rattle.std.specs.FinMap as contents
-use Rattle.epx_types.proofs.Common.{Fault, IsRising, Instance, ids_of, commands_in, execute}
-use Rattle.epx_types.proofs.Common.{ranked_ids, execution_order_exists, waiting_list_exists}
-use Rattle.epx_types.proofs.Common.{levels_exist}
+use Rattle.epx_types.proofs.Common.{IsRising, Instance, ids_of, commands_in, execute, ranked_ids}
+use Rattle.epx_types.proofs.Common.{execution_order_exists, waiting_list_exists, levels_exist}
+use Rattle.epx_types.specs.declared.fault.Fault.{Fault}
 use Rattle.epx_types.specs.declared.fault.Fault.TheVariants.{Memory}
 use Rattle.epx_merge.proofs.ExistenceLemmas.{answered_always}
 use Rattle.epx_audit.proofs.LeastUncoveredLemmas.{covered_or_not}

@@ -1,8 +1,9 @@
 -- Logs and an extra input have an answer. It is required that the input is bad, or every committed
 -- map has a text for it.
 use Rattle.std.proofs.Common.{◌≢◌, ◌⊎◌, ◌<◌, ℕ, List, length, Result, Ok, Err, inl, inr, arith}
-use Rattle.epx_types.proofs.Common.{cases_lt, Fault, TooManyLogs, LogTooLong, BadBase, IsRising}
-use Rattle.epx_types.proofs.Common.{Instance, ids_of, max_logs, max_log_bytes}
+use Rattle.epx_types.proofs.Common.{cases_lt, IsRising, Instance, ids_of, max_logs, max_log_bytes}
+use Rattle.epx_types.specs.declared.fault.Fault.{Fault}
+use Rattle.epx_types.specs.declared.fault.Fault.TheVariants.{TooManyLogs, LogTooLong, BadBase}
 use Rattle.epx_types.specs.declared.fault.Fault.TheVariants.{Memory}
 use Rattle.epx_merge.proofs.ExistenceLemmas.{answered_always, long_cases}
 use Rattle.epx_tool.specs.WithInput.{IsShort, AnswersWithInput}

@@ -2,8 +2,8 @@
 -- replies as the report says.
 use Rattle.std.proofs.Common.{ℕ, List, Ok, Err, refl, inl, inr}
 use Rattle.std.specs.FinMap as contents
-use Rattle.epx_types.proofs.Common.{Id, Instance, ranked_ids, IsLawfulPrefix}
-use Rattle.epx_types.proofs.Common.{IsExecutionOrder-IsLawful}
+use Rattle.epx_types.proofs.Common.{Instance, ranked_ids, IsLawfulPrefix, IsExecutionOrder-IsLawful}
+use Rattle.epx_types.specs.declared.id.Id.{Id}
 use Rattle.epx_merge.specs.Acceptance.{IsAccepted}
 use Rattle.epx_report.specs.Lists.{IsList}
 use Rattle.epx_report.specs.ViewLines.{lawful_line}

@@ -1,12 +1,12 @@
 -- A base and a committed map have exactly one text, where the base is not bad.
 use Rattle.std.proofs.Common.{◌≡◌, ◌⊎◌, ℕ, List, refl, sym, ap₂, ◌∙◌, subst, inl, inr}
-use Rattle.epx_types.proofs.Common.{Id, Contents, IsRising, Instance, ids_of, commands_in}
-use Rattle.epx_types.proofs.Common.{remaining, execute, ranked_ids, IsRising-remaining}
+use Rattle.epx_types.proofs.Common.{Contents, IsRising, Instance, ids_of, commands_in, remaining}
+use Rattle.epx_types.proofs.Common.{execute, ranked_ids, IsRising-remaining}
 use Rattle.epx_types.proofs.Common.{IsExecutionOrder-unique, IsWaitingList-unique}
 use Rattle.epx_types.proofs.Common.{execution_order_exists, waiting_list_exists}
+use Rattle.epx_types.specs.declared.id.Id.{Id}
 use Rattle.epx_report.specs.Bases.{IsBadBase}
-use Rattle.epx_report.proofs.BaseLemmas.{base_or_bad_base, base_is_no_bad_base}
-use Rattle.epx_report.proofs.BaseLemmas.{base_says_one_thing}
+use Rattle.epx_report.proofs.BaseLemmas.{base_or_bad_base, base_is_no_bad_base, base_says_one_thing}
 use Rattle.epx_tool.specs.ResumedReport.{IsReportAfter, resumed_text}
 use Rattle.epx_tool.specs.Resumption.{IsResumedText}
 

@@ -3,9 +3,10 @@ use Rattle.std.proofs.Common.{◌≡◌, ◌∙◌, ◌++◌, ℕ, suc, List, []
 use Rattle.std.proofs.Common.{flat_map, refl, sym, ap, subst, inl, inr}
 use Rattle.std.proofs.lemmas.Grind.{flat_map-append}
 use Rattle.epx_types.proofs.Common.{Contains-append_left, Contains-append_right}
-use Rattle.epx_types.proofs.Common.{Contains-append_cases, Why, Place, Agree, IsCommittedBy}
-use Rattle.epx_types.proofs.Common.{Instance, Placed, Contains-nil, Contains-head, Contains-cons}
-use Rattle.epx_types.proofs.Common.{Contains-cons_cases}
+use Rattle.epx_types.proofs.Common.{Contains-append_cases, Agree, IsCommittedBy, Instance, Placed}
+use Rattle.epx_types.proofs.Common.{Contains-nil, Contains-head, Contains-cons, Contains-cons_cases}
+use Rattle.epx_types.specs.declared.fault.Why.{Why}
+use Rattle.epx_types.specs.declared.place.Place.{Place}
 use Rattle.epx_lines.specs.Lines.{lines_of}
 use Rattle.epx_lines.specs.Meaning.{meaning_of}
 use Rattle.epx_lines.specs.declared.Line.{Line}

@@ -3,10 +3,12 @@ use Rattle.std.proofs.Common.{◌≡◌, ◌∙◌, ◌<◌, ◌≤◌, ◌^◌,
 use Rattle.std.proofs.Common.{map, fold, Bool, true, false, Option, Some, None, codes, unwrap_or}
 use Rattle.std.proofs.Common.{refl, sym, ap, option_map, append_assoc, subst, arith, inl, inr}
 use Rattle.std.proofs.Common.{Contains, FitsSigned}
-use Rattle.epx_types.proofs.Common.{cases_Bool, AllByRecursion, Id, Op, command_on, touched_keys}
+use Rattle.epx_types.proofs.Common.{cases_Bool, AllByRecursion, command_on, touched_keys}
 use Rattle.epx_types.proofs.Common.{commands_in, Contents, remaining, execute, IsExecutionOrder}
 use Rattle.epx_types.proofs.Common.{ranked_ids, Instance, IsReady, Contains-from_map}
 use Rattle.epx_types.proofs.Common.{IsExecutionOrder-IsLawful, remaining-nil}
+use Rattle.epx_types.specs.declared.id.Id.{Id}
+use Rattle.epx_types.specs.declared.op.Op.{Op}
 use Rattle.std.specs.FinMap as contents
 use Rattle.json.proofs.Printed.Utf8.{IsUtf8-are_ascii}
 use Rattle.serde_json.specs.Data.{Data, depth}
@@ -22,9 +24,8 @@ use Rattle.epx_report.proofs.BaseRangeLemmas.{FitsContents, empty_fits}
 use Rattle.epx_report.proofs.ExecutionRangeLemmas.{execute_fits}
 use Rattle.epx_report.proofs.LineFeedLemmas.{lines_of-unbroken}
 use Rattle.epx_report.proofs.LineRangeLemmas.{FitsCommand, FitsInstance}
-use Rattle.epx_report.proofs.WrittenDataLemmas.{IsPlain, IsWritable-unsigned}
-use Rattle.epx_report.proofs.WrittenDataLemmas.{IsWritable-of_integer, json_of-compact_text}
-use Rattle.epx_report.proofs.WrittenDataLemmas.{is_unbroken-compact_text}
+use Rattle.epx_report.proofs.WrittenDataLemmas.{IsPlain, IsWritable-unsigned, IsWritable-of_integer}
+use Rattle.epx_report.proofs.WrittenDataLemmas.{json_of-compact_text, is_unbroken-compact_text}
 use Rattle.epx_trace.specs.declared.touch.Touch.{Touch}
 use Rattle.epx_trace.specs.declared.touch.Touch.TheVariants.{Write, Read}
 use Rattle.epx_trace.specs.Traces.{IdCommand, has_key, trace_of, touch_of, writes_key}

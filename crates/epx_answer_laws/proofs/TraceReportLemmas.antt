@@ -1,9 +1,11 @@
 -- The store of a report has what the last write of a key's trace leaves.
 use Rattle.std.proofs.Common.{◌≡◌, ◌∙◌, ℕ, List, [], ◌∷◌, map, fold, Bool, None, ℤ, refl, sym, ap}
 use Rattle.std.specs.FinMap as contents
-use Rattle.epx_types.proofs.Common.{Id, Op, key_cmp, Instance, commands_in, instance_of}
-use Rattle.epx_types.proofs.Common.{ops_or_empty, execute, Ranked, IsExecutionOrder, ranked_ids}
+use Rattle.epx_types.proofs.Common.{key_cmp, Instance, commands_in, instance_of, ops_or_empty}
+use Rattle.epx_types.proofs.Common.{execute, Ranked, IsExecutionOrder, ranked_ids}
 use Rattle.epx_types.proofs.Common.{IsExecutionOrder-unique}
+use Rattle.epx_types.specs.declared.id.Id.{Id}
+use Rattle.epx_types.specs.declared.op.Op.{Op}
 use Rattle.epx_trace.specs.Traces.{IdCommand, trace_of}
 use Rattle.epx_trace.specs.TraceLaws.{value_left}
 use Rattle.epx_trace.specs.TraceTexts.{IsTraceText, command_of, ordered_commands}

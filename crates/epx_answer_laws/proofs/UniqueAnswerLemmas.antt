@@ -2,11 +2,11 @@
 use Rattle.std.proofs.Common.{◌≡◌, ◌≢◌, ℕ, List, Result, Ok, Err, inl, inr, sym, ap, ap₂, ◌∙◌, []}
 use Rattle.std.proofs.Common.{subst}
 use Rattle.std.specs.FinMap as contents
-use Rattle.epx_types.proofs.Common.{Fault, Instance, execute, IsExecutionOrder-unique, AreLevels}
+use Rattle.epx_types.proofs.Common.{Instance, execute, IsExecutionOrder-unique, AreLevels}
 use Rattle.epx_types.proofs.Common.{ranked_ids, commands_in, AreLevels-unique, IsWaitingList-unique}
+use Rattle.epx_types.specs.declared.fault.Fault.{Fault}
 use Rattle.epx_types.specs.declared.fault.Fault.TheVariants.{Memory}
-use Rattle.epx_merge.proofs.UniquenessLemmas.{accepted_unique, accepted_not_refused}
-use Rattle.epx_merge.proofs.UniquenessLemmas.{refusal_unique}
+use Rattle.epx_merge.proofs.UniquenessLemmas.{accepted_unique, accepted_not_refused, refusal_unique}
 use Rattle.epx_tool.specs.Report.{IsReport, report_text}
 use Rattle.epx_views.specs.OrderText.{IsOrderText, order_text}
 use Rattle.epx_views.specs.LevelText.{IsLevelText, level_text}

@@ -1,11 +1,11 @@
 -- Logs and an extra input have at most one answer.
 use Rattle.std.proofs.Common.{◌≡◌, ◌≢◌, ◌⊎◌, ◌<◌, ◌≤◌, ◌++◌, ℕ, List, [], ◌∷◌, length, Result, Ok}
 use Rattle.std.proofs.Common.{Err, refl, sym, ap, ◌∙◌, subst, inl, inr, arith}
-use Rattle.epx_types.proofs.Common.{cases_lt, Fault, TooManyLogs, LogTooLong, BadLine}
-use Rattle.epx_types.proofs.Common.{TooManyInstances, Disagree, Read, BadBase, Instance, max_logs}
-use Rattle.epx_types.proofs.Common.{max_log_bytes}
-use Rattle.epx_types.specs.declared.fault.Fault.TheVariants.{Memory}
-use Rattle.epx_types.specs.declared.fault.Fault.TheVariants.{Write}
+use Rattle.epx_types.proofs.Common.{cases_lt, Instance, max_logs, max_log_bytes}
+use Rattle.epx_types.specs.declared.fault.Fault.{Fault}
+use Rattle.epx_types.specs.declared.fault.Fault.TheVariants.{TooManyLogs, LogTooLong, BadLine}
+use Rattle.epx_types.specs.declared.fault.Fault.TheVariants.{TooManyInstances, Disagree, Read}
+use Rattle.epx_types.specs.declared.fault.Fault.TheVariants.{BadBase, Memory, Write}
 use Rattle.epx_merge.specs.Refusals.{IsFirstTooLong, IsRefusal}
 use Rattle.epx_merge.specs.Acceptance.{IsAccepted}
 use Rattle.epx_merge.proofs.UniquenessLemmas.{accepted_unique, accepted_not_refused}

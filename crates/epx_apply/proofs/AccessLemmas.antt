@@ -3,9 +3,10 @@
 use Rattle.std.proofs.Common.{◌≡◌, ℕ, Bool, true, List, [], ◌∷◌, ◌++◌, map, filter, flat_map}
 use Rattle.std.proofs.Common.{Contains, refl, sym, ap, subst, ◌∙◌, inl, inr}
 use Rattle.epx_types.proofs.Common.{map-append, Contains-append_left, Contains-append_right}
-use Rattle.epx_types.proofs.Common.{Contains-append_cases, Op, accesses_of, touched_by, written_by}
+use Rattle.epx_types.proofs.Common.{Contains-append_cases, accesses_of, touched_by, written_by}
 use Rattle.epx_types.proofs.Common.{Contains-nil, Contains-map, Contains-from_map, Contains-filter}
 use Rattle.epx_types.proofs.Common.{Contains-from_filter, passes-from_filter}
+use Rattle.epx_types.specs.declared.op.Op.{Op}
 use Rattle.epx_apply.specs.inner.KeyTables.{touched_in, written_in}
 
 -- ---- touched keys

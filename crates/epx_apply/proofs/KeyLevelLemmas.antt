@@ -4,8 +4,9 @@ use Rattle.std.proofs.Common.{◌++◌, length, fold, if◌then◌else◌, Conta
 use Rattle.std.proofs.Common.{◌∙◌, true≢false, arith}
 use Rattle.epx_types.proofs.Common.{cases_lt, cases_eq, cases_Bool, length-set, get_or-set_same}
 use Rattle.epx_types.proofs.Common.{get_or-set_other, Contains-append_left, Contains-push}
-use Rattle.epx_types.proofs.Common.{Contains-push_cases, Op, Contains-nil, Contains-head}
-use Rattle.epx_types.proofs.Common.{Contains-cons, Contains-cons_cases}
+use Rattle.epx_types.proofs.Common.{Contains-push_cases, Contains-nil, Contains-head, Contains-cons}
+use Rattle.epx_types.proofs.Common.{Contains-cons_cases}
+use Rattle.epx_types.specs.declared.op.Op.{Op}
 use Rattle.epx_apply.specs.declared.key_table.KeyLevels.{KeyLevels}
 use Rattle.epx_apply.specs.declared.key_table.TableAccess.{TableAccess}
 use Rattle.epx_apply.specs.inner.KeyTables.{no_levels, key_levels_at, IsLevelAbove, level_for}

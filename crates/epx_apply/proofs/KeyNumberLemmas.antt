@@ -4,7 +4,8 @@ use Rattle.std.proofs.Common.{◌++◌, length, map, get_or, Contains, Some, if�
 use Rattle.std.proofs.Common.{refl, sym, ap, subst, ◌∙◌, true≢false, Bor}
 use Rattle.epx_types.proofs.Common.{bytes_eq, list_any, cases_Bool, map-append, slice_get_within}
 use Rattle.epx_types.proofs.Common.{get_or_from_slice_get, bytes_eq-Decides, Contains-nil}
-use Rattle.epx_types.proofs.Common.{Contains-cons_cases, Op}
+use Rattle.epx_types.proofs.Common.{Contains-cons_cases}
+use Rattle.epx_types.specs.declared.op.Op.{Op}
 use Rattle.epx_types.proofs.lists.ListPositionLemmas.{slice_get-map}
 use Rattle.epx_apply.specs.declared.key_table.TableAccess.{TableAccess}
 use Rattle.epx_apply.specs.declared.key_table.KeyLevels.{KeyLevels}

@@ -6,9 +6,10 @@ use Rattle.std.proofs.Common.{append_assoc}
 use Rattle.epx_types.proofs.Common.{cases_lt, cases_Bool, map-append, length_push}
 use Rattle.epx_types.proofs.Common.{get_or_append_left, get_or_push, take_all, take_more}
 use Rattle.epx_types.proofs.Common.{flat_map_more, Contains-get_or, Contains-append_left}
-use Rattle.epx_types.proofs.Common.{Contains-push_cases, Op, Conflict, Contains-nil, Contains-map}
+use Rattle.epx_types.proofs.Common.{Contains-push_cases, Conflict, Contains-nil, Contains-map}
 use Rattle.epx_types.proofs.Common.{Contains-from_map, map-agree, Contains-rising_keys}
 use Rattle.epx_types.proofs.Common.{Contains-from_rising_keys, accesses_of, touched_by, written_by}
+use Rattle.epx_types.specs.declared.op.Op.{Op}
 use Rattle.epx_apply.specs.declared.key_table.KeyLevels.{KeyLevels}
 use Rattle.epx_apply.specs.declared.key_table.TableAccess.{TableAccess}
 use Rattle.epx_apply.specs.inner.KeyTables.{Table, no_levels, key_levels_at, key_at}

@@ -1,9 +1,10 @@
 -- The effects of the commands of one level, each over the contents before the level.
 use Rattle.std.proofs.Common.{◌≡◌, ◌∙◌, ℕ, List, [], slice_index_or, map, subst, sym, ap}
-use Rattle.epx_types.proofs.Common.{map-map, Op, NoneConflict, Contents, execute, commands_at}
+use Rattle.epx_types.proofs.Common.{map-map, NoneConflict, Contents, execute, commands_at}
 use Rattle.epx_types.proofs.Common.{apply_writes, HasDistinctKeys, writes_over}
 use Rattle.epx_types.proofs.Common.{replies-none_conflict, final-none_conflict}
 use Rattle.epx_types.proofs.Common.{distinct_keys-none_conflict}
+use Rattle.epx_types.specs.declared.op.Op.{Op}
 use Rattle.std.proofs.lemmas.List.Folds.{flat_map-map}
 use Rattle.epx_types.specs.Writes.{Write}
 use Rattle.epx_store.specs.declared.effect.Effect.{Effect}

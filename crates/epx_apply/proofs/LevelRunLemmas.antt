@@ -1,17 +1,18 @@
 -- Commands executed level by level, up to a level.
 use Rattle.std.proofs.Common.{◌≡◌, ◌<◌, ◌∙◌, ℕ, suc, List, [], ◌++◌, length, slice_index_or, map}
 use Rattle.std.proofs.Common.{Contains, All, refl, sym, ap, ap₂, subst, arith, ext_get_or}
-use Rattle.epx_types.proofs.Common.{map-append, length-map, All-weaker, All-contains_itself, Op}
-use Rattle.epx_types.proofs.Common.{Reply, Abort, Contents, Execution, execute, AreLevels}
-use Rattle.epx_types.proofs.Common.{level_count, level_positions, commands_at, IsRearrangement}
-use Rattle.epx_types.proofs.Common.{length-replies, execute-append, by_level}
-use Rattle.epx_types.proofs.Common.{Contains-from_level_positions, Contains-from_by_level}
-use Rattle.epx_types.proofs.Common.{level_positions-rising, by_level-rearranges, Once}
-use Rattle.epx_types.proofs.Common.{Once-from_AllPairs, final-rearranged, replies-rearranged}
-use Rattle.epx_types.proofs.Common.{agree-from_map}
+use Rattle.epx_types.proofs.Common.{map-append, length-map, All-weaker, All-contains_itself}
+use Rattle.epx_types.proofs.Common.{Contents, Execution, execute, AreLevels, level_count}
+use Rattle.epx_types.proofs.Common.{level_positions, commands_at, IsRearrangement, length-replies}
+use Rattle.epx_types.proofs.Common.{execute-append, by_level, Contains-from_level_positions}
+use Rattle.epx_types.proofs.Common.{Contains-from_by_level, level_positions-rising}
+use Rattle.epx_types.proofs.Common.{by_level-rearranges, Once, Once-from_AllPairs, final-rearranged}
+use Rattle.epx_types.proofs.Common.{replies-rearranged, agree-from_map}
+use Rattle.epx_types.specs.declared.op.Op.{Op}
+use Rattle.epx_types.specs.declared.reply.Reply.{Reply}
+use Rattle.epx_types.specs.declared.reply.Reply.TheVariants.{Abort}
 use Rattle.epx_apply.specs.inner.Effects.{put_replies}
-use Rattle.epx_apply.proofs.ReplyLemmas.{length-put_replies, map-put_replies}
-use Rattle.epx_apply.proofs.ReplyLemmas.{map-put_replies_other}
+use Rattle.epx_apply.proofs.ReplyLemmas.{length-put_replies, map-put_replies, map-put_replies_other}
 
 -- the execution of the commands of the levels below `level`, one level after another
 abbrev pub run_below : List (List Op) → List ℕ → Contents → ℕ → Execution

@@ -2,8 +2,9 @@
 use Rattle.std.proofs.Common.{◌≡◌, ◌<◌, ◌∙◌, ℕ, List, [], ◌∷◌, length, map, get_or, set, Contains}
 use Rattle.std.proofs.Common.{All, refl, sym, ap, ap₂, subst, arith}
 use Rattle.epx_types.proofs.Common.{length-set, get_or-set_same, get_or-set_other, All-head}
-use Rattle.epx_types.proofs.Common.{All-tail, All-weaker, Reply, Contains-head, Contains-cons}
-use Rattle.epx_types.proofs.Common.{map-agree, Once}
+use Rattle.epx_types.proofs.Common.{All-tail, All-weaker, Contains-head, Contains-cons, map-agree}
+use Rattle.epx_types.proofs.Common.{Once}
+use Rattle.epx_types.specs.declared.reply.Reply.{Reply}
 use Rattle.epx_store.specs.declared.effect.Effect.{Effect}
 use Rattle.epx_apply.specs.inner.Effects.{replies_in, put_replies}
 

@@ -1,10 +1,11 @@
 -- A committed map is covered, or it has a least uncovered pair.
 use Rattle.std.proofs.Common.{◌≡◌, ◌⊎◌, List, Contains, refl, sym, subst, inl, inr}
-use Rattle.epx_types.proofs.Common.{Id, Below, UpTo, Instance, ids_of, Conflict, IsCovered, IsReady}
+use Rattle.epx_types.proofs.Common.{Below, UpTo, Instance, ids_of, Conflict, IsCovered, IsReady}
 use Rattle.epx_types.proofs.Common.{Conflict-symm, id_cmp_total, id_cmp-IsAntisymmetric}
 use Rattle.epx_types.proofs.Common.{some_or_none, least_or_none, Conflict-cases, ready_or_waits}
 use Rattle.epx_types.proofs.Common.{IsReady-not_waiting, both_cases, not_cases, Reaches-cases}
 use Rattle.epx_types.proofs.Common.{below_asymm, below_cases, Contains-Id_cases, Id-cases}
+use Rattle.epx_types.specs.declared.id.Id.{Id}
 use Rattle.epx_audit.specs.Uncovered.{IsUncovered, IsLeastUncovered}
 
 Below-cases : (x y : Id) → Below x y ⊎ (¬ Below x y)

@@ -1,9 +1,10 @@
 -- The nodes at the positions of an execution order.
 use Rattle.std.proofs.Common.{◌≡◌, ℕ, ◌<◌, inl, inr, List, length, get_or, slice_get, Some, All}
 use Rattle.std.proofs.Common.{sym, subst, ap, ◌∙◌, arith}
-use Rattle.epx_types.proofs.Common.{get_or_default, slice_get_within, Id, Instance, Ranked}
+use Rattle.epx_types.proofs.Common.{get_or_default, slice_get_within, Instance, Ranked}
 use Rattle.epx_types.proofs.Common.{IsExecutionOrder, Reaches, slice_get-from_map}
 use Rattle.epx_types.proofs.Common.{Contains-slice_get, Reaches-trans}
+use Rattle.epx_types.specs.declared.id.Id.{Id}
 use Rattle.std.proofs.lemmas.Option.{slice_get_cases}
 use Rattle.epx_graph.proofs.Common.{DependencyGraph, edges_of, IsGraphOf, committed_count}
 use Rattle.epx_graph.proofs.Common.{node_reaches}

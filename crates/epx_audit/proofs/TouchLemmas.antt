@@ -1,9 +1,10 @@
 -- The touches of commands are those of their keys.
 use Rattle.std.proofs.Common.{◌≡◌, ℕ, Bool, true, List, filter, refl, subst, Contains}
-use Rattle.epx_types.proofs.Common.{DefaultHasher, Op, accesses_of, touched_by, written_by}
+use Rattle.epx_types.proofs.Common.{DefaultHasher, accesses_of, touched_by, written_by}
 use Rattle.epx_types.proofs.Common.{touched_keys, written_keys, Contains-from_rising_keys}
 use Rattle.epx_types.proofs.Common.{Contains-map, Contains-from_map, Contains-from_filter}
 use Rattle.epx_types.proofs.Common.{passes-from_filter, Contains-flat_map, Contains-from_flat_map}
+use Rattle.epx_types.specs.declared.op.Op.{Op}
 use Rattle.epx_audit.specs.declared.touches.KeyUse.{KeyUse}
 use Rattle.epx_audit.specs.inner.Touches.{touch, touches_by, hashed_touches}
 

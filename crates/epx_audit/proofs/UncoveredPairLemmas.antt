@@ -1,9 +1,10 @@
 -- Nodes that are not settled are those of an uncovered pair.
 use Rattle.std.proofs.Common.{◌≡◌, ◌⊎◌, inl, inr, ℕ, ◌<◌, List, Bool, length, slice_get, Some}
 use Rattle.std.proofs.Common.{Contains, refl, sym, subst, ap, ◌∙◌, arith}
-use Rattle.epx_types.proofs.Common.{cases_lt, slice_get_within, Id, IsRising, Instance, Conflict}
+use Rattle.epx_types.proofs.Common.{cases_lt, slice_get_within, IsRising, Instance, Conflict}
 use Rattle.epx_types.proofs.Common.{IsCovered, Reaches, IsReady, IsRising-same, Conflict-symm}
 use Rattle.epx_types.proofs.Common.{Contains-slice_get}
+use Rattle.epx_types.specs.declared.id.Id.{Id}
 use Rattle.epx_graph.proofs.Common.{DependencyGraph, edges_of, IsGraphOf, committed_count}
 use Rattle.epx_graph.proofs.Common.{node_instance, node_of_committed, node_order, node_reaches}
 use Rattle.epx_audit.specs.inner.NodeConflicts.{IsSettled, IsUnsettled, IsPartner}

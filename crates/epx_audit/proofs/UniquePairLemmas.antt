@@ -1,7 +1,8 @@
 -- A map with an uncovered pair is not covered, and it has only one least uncovered pair.
 use Rattle.std.proofs.Common.{◌≡◌, ◌≢◌, inl, inr, List, sym, ◌∙◌, subst}
-use Rattle.epx_types.proofs.Common.{Id, Instance, IsCovered, id_cmp_total, UpTo-antisymm}
-use Rattle.epx_types.proofs.Common.{below_asymm, below_irrefl, Below, IsReady}
+use Rattle.epx_types.proofs.Common.{Instance, IsCovered, id_cmp_total, UpTo-antisymm, below_asymm}
+use Rattle.epx_types.proofs.Common.{below_irrefl, Below, IsReady}
+use Rattle.epx_types.specs.declared.id.Id.{Id}
 use Rattle.epx_audit.specs.Uncovered.{IsUncovered, IsLeastUncovered}
 
 pub uncovered_not_covered : (m : List Instance) (x y : Id) → IsUncovered m x y → ¬ IsCovered m

@@ -17,12 +17,12 @@ mod words;
 
 use crate::script::run_scripts;
 use crate::test_runtime::TestRuntime;
-use crate::word_lists::{lists_with_input, word_lists};
+use crate::word_lists::{calls_of, lists_with_input, words_of};
 use epx_devices::{StdSink, StdSource};
 use epx_program::{InputKind, start};
-use std::env;
 use std::io::{self, ErrorKind};
 use std::process::ExitCode;
+use std::{env, fs};
 
 /// The log that `epx` has as its input.
 const INPUT: &str =
@@ -33,7 +33,9 @@ fn main(rt: HostRuntime) -> io::Result<ExitCode> {
         return Ok(ExitCode::SUCCESS);
     }
 
-    for words in word_lists() {
+    let calls = calls_of(rt.alloc(), fs::read_to_string(&rt, "calls.txt")?.as_str())?;
+    for call in calls.as_str().lines() {
+        let words = &words_of(rt.alloc(), call)?;
         println!(rt; "== {words:?}")?;
         let host = TestRuntime { rt: &rt, words };
         let args = env::args(&host);

@@ -10,7 +10,7 @@ use std::rt::{Env, Files};
 use std::thread::Threads;
 
 /// The word that `epx` gets as a byte that is not UTF-8.
-pub(crate) const NOT_UTF_8: &str = "not UTF-8";
+pub(crate) const NOT_UTF_8: &str = "not_UTF-8";
 
 /// The given runtime with other words. Its standard error goes to standard output.
 #[derive(Clone, Copy)]

@@ -3,8 +3,9 @@ use Rattle.std.proofs.Common.{◌≡◌, ◌≢◌, ℕ, ◌+◌, List, [], ◌�
 use Rattle.std.proofs.Common.{Some, IfSome, Vec, get_or, length, slice_get, unwrap_or, append-nil}
 use Rattle.std.proofs.Common.{sym, ap, subst, subst₂, ◌∙◌, arith}
 use Rattle.epx_types.proofs.Common.{Global, length-map, length-append, map-append, nil_from_length}
-use Rattle.epx_types.proofs.Common.{All-contains, All-push, get_or_from_slice_get, Id, Placed}
+use Rattle.epx_types.proofs.Common.{All-contains, All-push, get_or_from_slice_get, Placed}
 use Rattle.epx_types.proofs.Common.{slice_get-from_map, Contains-slice_get, Contains-map}
+use Rattle.epx_types.specs.declared.id.Id.{Id}
 use Rattle.epx_committed.specs.declared.ledger.Disagreement.{Disagreement}
 use Rattle.epx_committed.specs.declared.ledger.FirstLines.{FirstLines}
 use Rattle.epx_committed.specs.declared.rows.Row.{Row}

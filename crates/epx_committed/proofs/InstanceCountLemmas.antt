@@ -1,12 +1,11 @@
 -- Lines have one list of distinct Ids.
 use Rattle.std.proofs.Common.{◌≡◌, ◌⊎◌, inl, inr, List, map, length, Contains, ap, ◌∙◌, subst}
 use Rattle.std.proofs.Common.{arith}
-use Rattle.epx_types.proofs.Common.{cases_lt, Id, ids_of, IsCommittedBy, Instance, Placed}
-use Rattle.epx_types.proofs.Common.{id_cmp_total, id_cmp-IsAntisymmetric, Contains-map}
-use Rattle.epx_types.proofs.Common.{Contains-from_map, IsRising-from_AllPairs, same_ids}
-use Rattle.epx_types.proofs.Common.{rising_list, max_instances}
-use Rattle.epx_committed.specs.InstanceCounts.{AreNamedBy, FewInstances}
-use Rattle.epx_committed.specs.InstanceCounts.{ManyInstances}
+use Rattle.epx_types.proofs.Common.{cases_lt, ids_of, IsCommittedBy, Instance, Placed, id_cmp_total}
+use Rattle.epx_types.proofs.Common.{id_cmp-IsAntisymmetric, Contains-map, Contains-from_map}
+use Rattle.epx_types.proofs.Common.{IsRising-from_AllPairs, same_ids, rising_list, max_instances}
+use Rattle.epx_types.specs.declared.id.Id.{Id}
+use Rattle.epx_committed.specs.InstanceCounts.{AreNamedBy, FewInstances, ManyInstances}
 
 named_within : (lines : List Placed) (xs ys : List Id) → AreNamedBy lines xs → AreNamedBy lines ys
     → (z : Id) → Contains xs z → Contains ys z

@@ -2,10 +2,10 @@
 use Rattle.std.proofs.Common.{◌≡◌, inl, inr, List, [], ◌∷◌, map, Contains, Some, None, slice_get}
 use Rattle.std.proofs.Common.{IsPermutation, refl, sym, subst, ◌∙◌}
 use Rattle.epx_types.proofs.Common.{IsDistinct, IsSorted, IsPermutation-sym, Contains-permutation}
-use Rattle.epx_types.proofs.Common.{Id, id_cmp, UpTo, IsRising, Instance, Placed, Agree, Differ}
-use Rattle.epx_types.proofs.Common.{ids_of, IsCommittedBy, Contains-nil, Contains-head}
-use Rattle.epx_types.proofs.Common.{Contains-cons, Contains-map, Contains-from_map}
-use Rattle.epx_types.proofs.Common.{Contains-Id_cases}
+use Rattle.epx_types.proofs.Common.{id_cmp, UpTo, IsRising, Instance, Placed, Agree, Differ, ids_of}
+use Rattle.epx_types.proofs.Common.{IsCommittedBy, Contains-nil, Contains-head, Contains-cons}
+use Rattle.epx_types.proofs.Common.{Contains-map, Contains-from_map, Contains-Id_cases}
+use Rattle.epx_types.specs.declared.id.Id.{Id}
 use Rattle.epx_committed.specs.declared.ledger.Disagreement.{Disagreement}
 use Rattle.epx_committed.specs.InstanceCounts.{AreNamedBy}
 use Rattle.epx_committed.specs.MergedLines.{IsDisagreementAt}

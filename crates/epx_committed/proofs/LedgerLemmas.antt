@@ -1,8 +1,9 @@
 -- One more line in a ledger.
 use Rattle.std.proofs.Common.{◌≡◌, ◌≢◌, ◌⊎◌, inl, inr, List, [], ◌∷◌, ◌++◌, map, Contains, refl}
 use Rattle.std.proofs.Common.{sym, ap, subst, ◌∙◌, append_assoc, append-nil}
-use Rattle.epx_types.proofs.Common.{Contains-append_left, Contains-push, Contains-push_cases, Id}
+use Rattle.epx_types.proofs.Common.{Contains-append_left, Contains-push, Contains-push_cases}
 use Rattle.epx_types.proofs.Common.{Placed, Differ, Contains-map, Contains-from_map}
+use Rattle.epx_types.specs.declared.id.Id.{Id}
 use Rattle.epx_committed.specs.declared.ledger.Disagreement.{Disagreement}
 use Rattle.epx_committed.specs.Ledgers.{LedgerView, IsFirstWhere, IsLineOf, IsDisagreementOf}
 use Rattle.epx_committed.specs.Ledgers.{IsLedgerOf, NotesLines}

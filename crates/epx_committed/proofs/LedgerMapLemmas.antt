@@ -1,8 +1,9 @@
 -- A ledger as the hash maps hold it: what a look-up finds.
 use Rattle.std.proofs.Common.{◌≡◌, ◌≢◌, inl, inr, Bool, true, false, List, [], ◌∷◌, ◌++◌, Contains}
 use Rattle.std.proofs.Common.{Option, None, Some, is_some, refl, sym, ap, subst, ◌∙◌}
-use Rattle.epx_types.proofs.Common.{lookup, cases_Bool, Id, Placed, Contains-nil}
-use Rattle.epx_types.proofs.Common.{Contains-cons_cases, ids_decide}
+use Rattle.epx_types.proofs.Common.{lookup, cases_Bool, Placed, Contains-nil, Contains-cons_cases}
+use Rattle.epx_types.proofs.Common.{ids_decide}
+use Rattle.epx_types.specs.declared.id.Id.{Id}
 use Rattle.std.proofs.lemmas.Map.Views.{Contains-from_lookup}
 use Rattle.epx_types.specs.contracts.id.IdPartialEq.TheImpl as id_eq
 use Rattle.epx_committed.specs.declared.ledger.Disagreement.{Disagreement}

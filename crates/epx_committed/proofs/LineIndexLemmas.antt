@@ -4,8 +4,9 @@ use Rattle.std.proofs.Common.{Contains, Some, AllPairs, get_or, slice_get, refl,
 use Rattle.std.proofs.Common.{◌∙◌, add-one, arith}
 use Rattle.epx_types.proofs.Common.{length_push, get_or_push, get_or_append_left}
 use Rattle.epx_types.proofs.Common.{Contains-push_cases, all_pairs_push, slice_get-get_or}
-use Rattle.epx_types.proofs.Common.{slice_get_within, get_or_from_slice_get, Id, Id-cases}
+use Rattle.epx_types.proofs.Common.{slice_get_within, get_or_from_slice_get, Id-cases}
 use Rattle.epx_types.proofs.Common.{Contains-slice_get}
+use Rattle.epx_types.specs.declared.id.Id.{Id}
 use Rattle.epx_committed.specs.declared.line_index.LineIndex.{LineIndex}
 use Rattle.epx_committed.specs.inner.LineIndexes.{IsIndexOf, IsMarkIn, mark_of}
 

@@ -1,9 +1,10 @@
 -- Lines sorted by place.
 use Rattle.std.proofs.Common.{◌≡◌, inl, inr, ◌<◌, List, [], ◌∷◌, ◌++◌, Contains, sym, ap, subst}
 use Rattle.std.proofs.Common.{◌∙◌, arith}
-use Rattle.epx_types.proofs.Common.{nat_tests, Contains-append_cases, Place, Placed, Earlier}
+use Rattle.epx_types.proofs.Common.{nat_tests, Contains-append_cases, Placed, Earlier}
 use Rattle.epx_types.proofs.Common.{HaveDistinctPlaces, place_cmp_total, Contains-head}
 use Rattle.epx_types.proofs.Common.{Contains-cons, Contains-nil, Contains-cons_cases, below_irrefl}
+use Rattle.epx_types.specs.declared.place.Place.{Place}
 use Rattle.epx_committed.specs.LineOrder.{AreSortedBy, IsSortedByPlace}
 
 pub earlier_line : (p q : Place) → p.log ≡ q.log → p.line < q.line → Earlier p q

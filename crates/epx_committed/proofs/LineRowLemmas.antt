@@ -4,9 +4,10 @@ use Rattle.std.proofs.Common.{Contains, Some, slice_get, option_map, option_and_
 use Rattle.std.proofs.Common.{IsPermutation, refl, sym, ap, subst, ◌∙◌, arith}
 use Rattle.epx_types.proofs.Common.{IsDistinct, IsSorted, Global, length-map, All-head, All-tail}
 use Rattle.epx_types.proofs.Common.{All-weaker, IsPermutation-map, IsDistinct-IsPermutation}
-use Rattle.epx_types.proofs.Common.{IsDistinct-from_AllPairs, slice_get_within, Id, id_cmp}
-use Rattle.epx_types.proofs.Common.{Instance, Placed, ids_of, IsCommittedBy, ids_decide, ids_flip}
+use Rattle.epx_types.proofs.Common.{IsDistinct-from_AllPairs, slice_get_within, id_cmp, Instance}
+use Rattle.epx_types.proofs.Common.{Placed, ids_of, IsCommittedBy, ids_decide, ids_flip}
 use Rattle.epx_types.proofs.Common.{max_instances}
+use Rattle.epx_types.specs.declared.id.Id.{Id}
 use Rattle.std.proofs.lemmas.List.Elements.{filter_map-append}
 use Rattle.std.proofs.lemmas.List.Sorted.{All-permutation}
 use Rattle.std.proofs.lemmas.Option.{option_and_then_some}
@@ -14,8 +15,7 @@ use Rattle.epx_types.proofs.lists.ListPositionLemmas.{slice_get-map}
 use Rattle.epx_committed.specs.declared.ledger.FirstLines.{FirstLines}
 use Rattle.epx_committed.specs.declared.rows.Row.{Row}
 use Rattle.epx_committed.specs.declared.rows.TheConstants.{NO_LIST}
-use Rattle.epx_committed.specs.InstanceCounts.{AreNamedBy, FewInstances}
-use Rattle.epx_committed.specs.InstanceCounts.{ManyInstances}
+use Rattle.epx_committed.specs.InstanceCounts.{AreNamedBy, FewInstances, ManyInstances}
 use Rattle.epx_committed.specs.Ledgers.{IsLedgerOf}
 use Rattle.epx_committed.specs.MergedLines.{IsMerged}
 use Rattle.epx_committed.specs.inner.FirstLines.{AreFirstLines, ledger_view}

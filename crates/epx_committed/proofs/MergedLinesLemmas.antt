@@ -1,12 +1,13 @@
 -- Lines that are sorted by place commit a map, or have a fault for which they commit none.
 use Rattle.std.proofs.Common.{◌≡◌, ◌≢◌, ◌⊎◌, inl, inr, List, [], ◌∷◌, Contains, refl, sym, ap}
 use Rattle.std.proofs.Common.{subst, ◌∙◌}
-use Rattle.epx_types.proofs.Common.{Id, Fault, TooManyInstances, Disagree, IsRising, UpTo, Instance}
-use Rattle.epx_types.proofs.Common.{Placed, Agree, Differ, IsFirstDisagreement, ids_of}
-use Rattle.epx_types.proofs.Common.{IsCommittedBy, Id-cases, Contains-nil, Contains-head}
-use Rattle.epx_types.proofs.Common.{Contains-cons, Contains-cons_cases, Contains-from_map}
-use Rattle.epx_types.proofs.Common.{some_or_none, least_or_none}
-use Rattle.epx_types.specs.declared.fault.Fault.TheVariants.{Memory}
+use Rattle.epx_types.proofs.Common.{IsRising, UpTo, Instance, Placed, Agree, Differ}
+use Rattle.epx_types.proofs.Common.{IsFirstDisagreement, ids_of, IsCommittedBy, Id-cases}
+use Rattle.epx_types.proofs.Common.{Contains-nil, Contains-head, Contains-cons, Contains-cons_cases}
+use Rattle.epx_types.proofs.Common.{Contains-from_map, some_or_none, least_or_none}
+use Rattle.epx_types.specs.declared.id.Id.{Id}
+use Rattle.epx_types.specs.declared.fault.Fault.{Fault}
+use Rattle.epx_types.specs.declared.fault.Fault.TheVariants.{TooManyInstances, Disagree, Memory}
 use Rattle.epx_committed.specs.InstanceCounts.{AreNamedBy}
 use Rattle.epx_committed.specs.Ledgers.{IsFirstWhere, IsLineOf}
 use Rattle.epx_committed.specs.LineOrder.{IsSortedByPlace}

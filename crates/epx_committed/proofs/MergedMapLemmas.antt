@@ -1,15 +1,14 @@
 -- The committed map, from rows that name its lines.
 use Rattle.std.proofs.Common.{◌≡◌, ◌<◌, ℕ, get_or, arith, List, map, length, MatchOption, Option}
 use Rattle.std.proofs.Common.{None, Some, slice_get, Contains, refl, sym, ap, subst, subst₂, ◌∙◌}
-use Rattle.epx_types.proofs.Common.{length-map, All-contains, slice_get_read, Id, IsRising}
-use Rattle.epx_types.proofs.Common.{Instance, Placed, ids_of, instance_of, position_of}
-use Rattle.epx_types.proofs.Common.{Contains-map, instance_of_iff, Contains-slice_get}
-use Rattle.epx_types.proofs.Common.{slice_get-from_Contains, slice_get-from_map}
-use Rattle.epx_types.proofs.Common.{position_of-instance, position_of-found}
+use Rattle.epx_types.proofs.Common.{length-map, All-contains, slice_get_read, IsRising, Instance}
+use Rattle.epx_types.proofs.Common.{Placed, ids_of, instance_of, position_of, Contains-map}
+use Rattle.epx_types.proofs.Common.{instance_of_iff, Contains-slice_get, slice_get-from_Contains}
+use Rattle.epx_types.proofs.Common.{slice_get-from_map, position_of-instance, position_of-found}
+use Rattle.epx_types.specs.declared.id.Id.{Id}
 use Rattle.epx_types.proofs.lists.ListPositionLemmas.{slice_get-map}
 use Rattle.epx_committed.specs.declared.rows.Row.{Row}
-use Rattle.epx_committed.specs.inner.LineRows.{line_at, instances_at, NamesItsLine}
-use Rattle.epx_committed.specs.inner.LineRows.{AreLineRows}
+use Rattle.epx_committed.specs.inner.LineRows.{line_at, instances_at, NamesItsLine, AreLineRows}
 use Rattle.epx_committed.proofs.LineRowLemmas.{Lists, instances_under, ids_under, stands_under}
 
 module _ (lists : Lists) (rows : List Row) (h : AreLineRows lists rows) where

@@ -1,7 +1,8 @@
 -- What ranges of numbers say of a list of Ids.
 use Rattle.std.proofs.Common.{◌≡◌, inl, inr, ℕ, ◌+◌, ◌<◌, ◌≤◌, List, [], Some, get_or, set, IfSome}
 use Rattle.std.proofs.Common.{None, Option, length, slice_get, refl, sym, ap, subst, ◌∙◌, arith}
-use Rattle.epx_types.proofs.Common.{cases_lt, cases_eq, get_or-set_same, get_or-set_other, Id}
+use Rattle.epx_types.proofs.Common.{cases_lt, cases_eq, get_or-set_same, get_or-set_other}
+use Rattle.epx_types.specs.declared.id.Id.{Id}
 use Rattle.epx_committed.specs.declared.number_ranges.NumberRange.{NumberRange}
 use Rattle.epx_committed.specs.inner.NumberRanges.{AreRangesIn, IsInRange, Lengthens, position_in}
 use Rattle.epx_committed.specs.inner.NumberRanges.{range_of}

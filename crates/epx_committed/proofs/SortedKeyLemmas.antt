@@ -2,9 +2,10 @@
 use Rattle.std.proofs.Common.{◌≡◌, inl, inr, ◌+◌, ◌<◌, List, ◌∷◌, length, get_or, Contains}
 use Rattle.std.proofs.Common.{true≢false, sym, subst, ◌∙◌, arith}
 use Rattle.epx_types.proofs.Common.{IsDistinct, IsSorted, is_lt, sorted_far, ranks_by}
-use Rattle.epx_types.proofs.Common.{AllPairs-from_IsDistinct, Id, id_cmp, Below, UpTo, IsRising}
+use Rattle.epx_types.proofs.Common.{AllPairs-from_IsDistinct, id_cmp, Below, UpTo, IsRising}
 use Rattle.epx_types.proofs.Common.{id_cmp_total, id_cmp-IsAntisymmetric, IsRising-from_neighbours}
 use Rattle.epx_types.proofs.Common.{below_cases, ids_decide}
+use Rattle.epx_types.specs.declared.id.Id.{Id}
 use Rattle.epx_committed.proofs.LedgerMapLemmas.{same_id}
 
 not_below : (xs : List Id) → IsSorted id_cmp xs → (i j : _) (d : Id) → i < j → j < length xs

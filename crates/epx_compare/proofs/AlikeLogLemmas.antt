@@ -3,9 +3,10 @@ use Rattle.std.proofs.Common.{◌≡◌, ◌<◌, ◌==◌, ◌&&◌, ◌∙◌,
 use Rattle.std.proofs.Common.{get_or, List, [], ◌∷◌, length, Contains, Some, slice_get, flat_map}
 use Rattle.std.proofs.Common.{refl, sym, ap, subst, inl, inr, arith}
 use Rattle.epx_types.proofs.Common.{Decides, cases_Bool, nat_tests, slice_get-get_or}
-use Rattle.epx_types.proofs.Common.{slice_get_within, Id, Instance, IsCommittedBy, Placed}
+use Rattle.epx_types.proofs.Common.{slice_get_within, Instance, IsCommittedBy, Placed}
 use Rattle.epx_types.proofs.Common.{IsRising-same, slice_get-from_Contains, Contains-slice_get}
 use Rattle.epx_types.proofs.Common.{Contains-nil, Contains-head}
+use Rattle.epx_types.specs.declared.id.Id.{Id}
 use Rattle.epx_committed.specs.InstanceCounts.{AreNamedBy}
 use Rattle.epx_merge.specs.Acceptance.{IsAccepted}
 use Rattle.epx_merge.specs.LogLines.{placed_of, bad_lines_of}

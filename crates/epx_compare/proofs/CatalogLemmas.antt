@@ -2,7 +2,8 @@
 use Rattle.std.proofs.Common.{◌≡◌, ℕ, ◌<◌, List, [], ◌∷◌, length, map, All, Some, slice_get, suc}
 use Rattle.std.proofs.Common.{refl, ap}
 use Rattle.epx_types.proofs.Common.{AllByRecursion, AllZip, All-from_recursion, slice_get_within}
-use Rattle.epx_types.proofs.Common.{Id, Instance, Placed}
+use Rattle.epx_types.proofs.Common.{Instance, Placed}
+use Rattle.epx_types.specs.declared.id.Id.{Id}
 use Rattle.epx_versions.specs.declared.noted.NotedLine.{NotedLine}
 use Rattle.epx_versions.specs.NotedRows.{IsRowOf}
 

@@ -1,8 +1,9 @@
 -- Every list of logs has one answer when it is compared, except for out of memory.
 use Rattle.std.proofs.Common.{◌≡◌, ◌≢◌, ℕ, List, length, Result, Ok, Err, inl, inr, refl, ap, arith}
-use Rattle.epx_types.proofs.Common.{cases_lt, Fault, TooManyLogs, LogTooLong, TooManyInstances}
-use Rattle.epx_types.proofs.Common.{max_logs}
-use Rattle.epx_types.specs.declared.fault.Fault.TheVariants.{Memory}
+use Rattle.epx_types.proofs.Common.{cases_lt, max_logs}
+use Rattle.epx_types.specs.declared.fault.Fault.{Fault}
+use Rattle.epx_types.specs.declared.fault.Fault.TheVariants.{TooManyLogs, LogTooLong}
+use Rattle.epx_types.specs.declared.fault.Fault.TheVariants.{TooManyInstances, Memory}
 use Rattle.epx_committed.proofs.InstanceCountLemmas.{few_or_many, not_few_and_many}
 use Rattle.epx_merge.specs.LogLines.{placed_of}
 use Rattle.epx_merge.proofs.ExistenceLemmas.{long_cases}

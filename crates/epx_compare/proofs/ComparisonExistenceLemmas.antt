@@ -1,9 +1,10 @@
 -- All logs have a comparison: the Ids that it prints exist.
 use Rattle.std.proofs.Common.{◌⊎◌, inl, inr, ℕ, List, Contains, length, flat_map, refl}
 use Rattle.epx_types.proofs.Common.{IsEquivalence, list_any, cases_Bool, Contains-from_any}
-use Rattle.epx_types.proofs.Common.{list_any-from_Contains, Id, Placed, id_cmp_total}
+use Rattle.epx_types.proofs.Common.{list_any-from_Contains, Placed, id_cmp_total}
 use Rattle.epx_types.proofs.Common.{id_cmp-IsAntisymmetric, Contains-flat_map}
 use Rattle.epx_types.proofs.Common.{Contains-from_flat_map, IsRising-from_AllPairs, rising_list}
+use Rattle.epx_types.specs.declared.id.Id.{Id}
 use Rattle.std.specs.Cmp.{decided}
 use Rattle.epx_merge.specs.LogLines.{placed_of, bad_lines_of}
 use Rattle.epx_compare.specs.Comparisons.{IsComparison, comparison_text}

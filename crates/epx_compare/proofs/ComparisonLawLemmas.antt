@@ -1,6 +1,7 @@
 -- Logs say one thing against each other: their lines determine the Ids that a comparison prints.
 use Rattle.std.proofs.Common.{◌≡◌, ◌∙◌, ℕ, List, length, sym, subst}
-use Rattle.epx_types.proofs.Common.{Id, Placed, same_ids}
+use Rattle.epx_types.proofs.Common.{Placed, same_ids}
+use Rattle.epx_types.specs.declared.id.Id.{Id}
 use Rattle.epx_merge.specs.LogLines.{placed_of, bad_lines_of}
 use Rattle.epx_compare.specs.Comparisons.{IsComparison, comparison_text}
 use Rattle.epx_compare.specs.MissingDeps.{AreMissingDeps}

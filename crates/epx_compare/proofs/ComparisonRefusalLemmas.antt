@@ -1,9 +1,9 @@
 -- Why logs that are read are not compared.
 use Rattle.std.proofs.Common.{◌≡◌, ℕ, List, []}
-use Rattle.epx_types.proofs.Common.{Fault, TooManyLogs, LogTooLong, BadLine, TooManyInstances}
-use Rattle.epx_types.proofs.Common.{Disagree, Read, BadBase}
-use Rattle.epx_types.specs.declared.fault.Fault.TheVariants.{Memory}
-use Rattle.epx_types.specs.declared.fault.Fault.TheVariants.{Write}
+use Rattle.epx_types.specs.declared.fault.Fault.{Fault}
+use Rattle.epx_types.specs.declared.fault.Fault.TheVariants.{TooManyLogs, LogTooLong, BadLine}
+use Rattle.epx_types.specs.declared.fault.Fault.TheVariants.{TooManyInstances, Disagree, Read}
+use Rattle.epx_types.specs.declared.fault.Fault.TheVariants.{BadBase, Memory, Write}
 use Rattle.epx_merge.specs.ReadFaults.{IsReadFault}
 use Rattle.epx_merge.proofs.MemoryLogLemmas.{IsLimitRefusal}
 use Rattle.epx_compare.specs.ComparisonAnswers.{IsComparisonRefusal}

@@ -1,6 +1,7 @@
 -- What a comparison of logs says, in two clauses and in one.
 use Rattle.std.proofs.Common.{◌≡◌, ◌↔◌, ℕ, List, Result, Ok, Err, true, IfOk}
-use Rattle.epx_types.proofs.Common.{MatchResult, Fault}
+use Rattle.epx_types.proofs.Common.{MatchResult}
+use Rattle.epx_types.specs.declared.fault.Fault.{Fault}
 use Rattle.epx_compare.specs.declared.comparison.Comparison.{Comparison}
 use Rattle.epx_compare.specs.ComparisonAnswers.{Compares, IsComparisonResult}
 use Rattle.epx_compare.specs.Comparisons.{HasFindings}

@@ -3,11 +3,12 @@ use Rattle.std.proofs.Common.{◌≡◌, ◌∙◌, ◌↔◌, inl, inr, ℕ, �
 use Rattle.std.proofs.Common.{[], ◌∷◌, length, map, filter, All, Contains, Option, Some, None}
 use Rattle.std.proofs.Common.{slice_get, refl, sym, ap, subst}
 use Rattle.epx_types.proofs.Common.{list_any, option_map_or, cases_Bool, All-contains_itself}
-use Rattle.epx_types.proofs.Common.{All-weaker, slice_get_within, Id, IsRising, Instance, Placed}
+use Rattle.epx_types.proofs.Common.{All-weaker, slice_get_within, IsRising, Instance, Placed}
 use Rattle.epx_types.proofs.Common.{slice_get-from_Contains, Contains-slice_get, slice_get-from_map}
 use Rattle.epx_types.proofs.Common.{Contains-nil, Contains-head, Contains-cons, Contains-cons_cases}
 use Rattle.epx_types.proofs.Common.{Contains-filter, Contains-from_filter, Contains-flat_map}
 use Rattle.epx_types.proofs.Common.{Contains-from_flat_map, rising_position_is_unique}
+use Rattle.epx_types.specs.declared.id.Id.{Id}
 use Rattle.std.specs.Cmp.{first_so, second_so}
 use Rattle.std.proofs.lemmas.List.Folds.{list_any_at}
 use Rattle.epx_rows.specs.Rows.{row_of}

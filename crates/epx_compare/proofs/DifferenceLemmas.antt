@@ -2,8 +2,9 @@
 use Rattle.std.proofs.Common.{◌≡◌, ◌∙◌, ◌==◌, ℕ, Bool, true, false, cond, not, List, [], ◌∷◌, Some}
 use Rattle.std.proofs.Common.{map, filter, slice_get, refl, sym, ap, arith, inl, inr, AllPairs}
 use Rattle.epx_types.proofs.Common.{AllZip, cases_lt, nat_tests, AllPairs-filter}
-use Rattle.epx_types.proofs.Common.{AllPairs-slice_get, AllPairs-from_parts, passes-from_filter, Id}
+use Rattle.epx_types.proofs.Common.{AllPairs-slice_get, AllPairs-from_parts, passes-from_filter}
 use Rattle.epx_types.proofs.Common.{Instance, Placed}
+use Rattle.epx_types.specs.declared.id.Id.{Id}
 use Rattle.std.proofs.lemmas.Bool.{not-true}
 use Rattle.epx_compare.specs.Differences.{lines_of_id, places_of}
 use Rattle.epx_versions.specs.LineVersions.{versions_of}

@@ -1,7 +1,9 @@
 -- The line of an instance that lines commit differently.
 use Rattle.std.proofs.Common.{◌≡◌, ◌∙◌, ◌∷◌, ◌++◌, ℕ, false, List, [], map, refl, sym, ap, codes}
 use Rattle.std.proofs.Common.{append-nil}
-use Rattle.epx_types.proofs.Common.{map-map, Id, Place, Placed}
+use Rattle.epx_types.proofs.Common.{map-map, Placed}
+use Rattle.epx_types.specs.declared.id.Id.{Id}
+use Rattle.epx_types.specs.declared.place.Place.{Place}
 use Rattle.serde_json.specs.Data.{Data, string}
 use Rattle.serde_json.specs.Written.{has_float, compact_text}
 use Rattle.epx_lines.proofs.FloatLemmas.{no_float-items}

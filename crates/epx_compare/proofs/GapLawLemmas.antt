@@ -1,11 +1,12 @@
 -- The gaps of rising Ids are the longest runs of those that are lacked.
 use Rattle.std.proofs.Common.{◌≡◌, ◌⊎◌, ◌<◌, ◌≤◌, ◌==◌, ◌&&◌, ◌∙◌, ℕ, Bool, true, false, not, List}
 use Rattle.std.proofs.Common.{[], ◌∷◌, Contains, AllPairs, refl, sym, ap, subst, inl, inr, arith}
-use Rattle.epx_types.proofs.Common.{Decides, cases_Bool, nat_tests, Id, Below, IsRising}
+use Rattle.epx_types.proofs.Common.{Decides, cases_Bool, nat_tests, Below, IsRising}
 use Rattle.epx_types.proofs.Common.{AllPairs-from_parts, AllPairs-head, AllPairs-tail}
 use Rattle.epx_types.proofs.Common.{AllPairs-slice_get, AllPairs-from_slice_get, Contains-nil}
 use Rattle.epx_types.proofs.Common.{Contains-head, Contains-cons, Contains-cons_cases}
 use Rattle.epx_types.proofs.Common.{AllPairs-from_IsRising, Below-parts}
+use Rattle.epx_types.specs.declared.id.Id.{Id}
 use Rattle.epx_compare.specs.Gaps.{Gap, gaps_of, goes_on, widened}
 use Rattle.epx_compare.specs.GapLaws.{AreGaps, HasLackedEnds, IsBetween, IsInGap, IsLacked}
 use Rattle.epx_compare.specs.GapLaws.{first_lacked, last_of}

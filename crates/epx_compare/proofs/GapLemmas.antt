@@ -1,7 +1,8 @@
 -- The gaps of a list of Ids, from one position on.
 use Rattle.std.proofs.Common.{◌≡◌, ◌∙◌, ℕ, ◌+◌, ◌<◌, Bool, true, false, List, ◌∷◌, length, drop}
 use Rattle.std.proofs.Common.{get_or, ap, not, suc, arith, if◌then◌else◌, ◌&&◌, ◌==◌}
-use Rattle.epx_types.proofs.Common.{drop-cons, slice_get-get_or, Id}
+use Rattle.epx_types.proofs.Common.{drop-cons, slice_get-get_or}
+use Rattle.epx_types.specs.declared.id.Id.{Id}
 use Rattle.epx_compare.specs.declared.log_set.LogSet.{LogSet}
 use Rattle.epx_compare.specs.Gaps.{gaps_of, goes_on, widened}
 use Rattle.epx_compare.specs.inner.LogMarks.{IsMarking, is_log_marked}

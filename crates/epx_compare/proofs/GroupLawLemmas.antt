@@ -1,10 +1,12 @@
 -- Lines have their places in one group exactly if they commit the same.
 use Rattle.std.proofs.Common.{◌≡◌, ◌&&◌, ◌∙◌, Bool, true, false, List, filter, Contains, Some}
 use Rattle.std.proofs.Common.{slice_get, refl, sym, ap, subst, arith}
-use Rattle.epx_types.proofs.Common.{list_any, Id, Place, Instance, Placed, HaveDistinctPlaces}
+use Rattle.epx_types.proofs.Common.{list_any, Instance, Placed, HaveDistinctPlaces}
 use Rattle.epx_types.proofs.Common.{AllPairs-from_slice_get, slice_get-from_map, Contains-map}
 use Rattle.epx_types.proofs.Common.{Contains-from_map, Contains-filter, Contains-from_filter}
 use Rattle.epx_types.proofs.Common.{passes-from_filter}
+use Rattle.epx_types.specs.declared.id.Id.{Id}
+use Rattle.epx_types.specs.declared.place.Place.{Place}
 use Rattle.epx_compare.specs.Differences.{groups_of, places_of}
 use Rattle.epx_compare.specs.GroupLaws.{AreGroups, DependentsHaveLines}
 use Rattle.epx_compare.proofs.DependencyLemmas.{line_of_version, version_of_line}

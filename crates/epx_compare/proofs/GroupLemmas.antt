@@ -4,8 +4,9 @@ use Rattle.std.proofs.Common.{filter, length, slice_get, slice_index_or, All, Co
 use Rattle.std.proofs.Common.{ap, subst, arith}
 use Rattle.epx_types.proofs.Common.{nat_tests, length-map, get_or_default, Contains-get_or, map-map}
 use Rattle.epx_types.proofs.Common.{slice_get_within, get_or_from_slice_get, slice_get-from_map}
-use Rattle.epx_types.proofs.Common.{map-agree, passes-from_filter, rising_position_is_unique, Id}
+use Rattle.epx_types.proofs.Common.{map-agree, passes-from_filter, rising_position_is_unique}
 use Rattle.epx_types.proofs.Common.{IsRising, Instance, Placed}
+use Rattle.epx_types.specs.declared.id.Id.{Id}
 use Rattle.epx_types.proofs.lists.ListPositionLemmas.{slice_get-map}
 use Rattle.epx_merge.specs.LogLines.{BadLineAt}
 use Rattle.epx_rows.specs.PositionGroups.{AreGroupsOf}
@@ -19,8 +20,7 @@ use Rattle.epx_versions.specs.SameInstances.{same_id}
 use Rattle.epx_compare.specs.inner.Catalogs.{IsCatalogOf, version_ids}
 use Rattle.epx_versions.specs.inner.EqualVersions.{ids_decide}
 use Rattle.epx_compare.specs.inner.NumberedVersions.{version_at, place_at}
-use Rattle.epx_compare.proofs.DifferenceLemmas.{versions_of-own, places_by_number}
-use Rattle.epx_compare.proofs.DifferenceLemmas.{places_of-own}
+use Rattle.epx_compare.proofs.DifferenceLemmas.{versions_of-own, places_by_number, places_of-own}
 use Rattle.epx_compare.proofs.PositionLemmas.{at_passing}
 
 -- ---- values at positions

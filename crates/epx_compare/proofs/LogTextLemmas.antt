@@ -2,7 +2,8 @@
 use Rattle.std.proofs.Common.{◌≡◌, ◌∙◌, ◌+◌, ◌==◌, ℕ, zero, suc, List, [], ◌∷◌, ◌++◌, cond}
 use Rattle.std.proofs.Common.{count_by, Bool, true, false, filter, length, map, refl, sym, ap}
 use Rattle.std.proofs.Common.{append-nil, append_assoc, arith}
-use Rattle.epx_types.proofs.Common.{AllZip, Place, Instance, Placed}
+use Rattle.epx_types.proofs.Common.{AllZip, Instance, Placed}
+use Rattle.epx_types.specs.declared.place.Place.{Place}
 use Rattle.std.proofs.lemmas.List.Sums.{length-filter}
 use Rattle.epx_versions.specs.declared.noted.NotedBadLine.{NotedBadLine}
 use Rattle.epx_versions.specs.declared.noted.NotedLine.{NotedLine}

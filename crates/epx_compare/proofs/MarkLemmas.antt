@@ -1,8 +1,10 @@
 -- The marks of a log say which instances it has lines of.
 use Rattle.std.proofs.Common.{◌≡◌, ◌∙◌, ◌==◌, ◌&&◌, ◌||◌, ℕ, List, [], ◌∷◌, zero, suc, map, Some}
 use Rattle.std.proofs.Common.{slice_get, slice_index, refl, sym, ap, arith}
-use Rattle.epx_types.proofs.Common.{list_any, AllZip, Decides, nat_tests, Id, Place, IsRising}
-use Rattle.epx_types.proofs.Common.{Instance, Placed, rising_position_is_unique}
+use Rattle.epx_types.proofs.Common.{list_any, AllZip, Decides, nat_tests, IsRising, Instance}
+use Rattle.epx_types.proofs.Common.{Placed, rising_position_is_unique}
+use Rattle.epx_types.specs.declared.id.Id.{Id}
+use Rattle.epx_types.specs.declared.place.Place.{Place}
 use Rattle.std.specs.Bool.{one_answer}
 use Rattle.epx_versions.specs.declared.noted.NotedLine.{NotedLine}
 use Rattle.epx_compare.specs.Gaps.{has_line}

@@ -4,9 +4,10 @@ use Rattle.std.proofs.Common.{◌||◌, List, [], ◌∷◌, take, Contains, Som
 use Rattle.std.proofs.Common.{subst, if◌then◌else◌, count_by, Ordering, Less, Equal, Greater, is_lt}
 use Rattle.std.proofs.Common.{is_eq}
 use Rattle.epx_types.proofs.Common.{IsEquivalence, list_any, cases_Bool, count_by_more_no}
-use Rattle.epx_types.proofs.Common.{count_by_more_yes, slice_get_within, get_or_from_slice_get, Id}
+use Rattle.epx_types.proofs.Common.{count_by_more_yes, slice_get_within, get_or_from_slice_get}
 use Rattle.epx_types.proofs.Common.{Below, IsRising, id_cmp, AllPairs-head, Contains-slice_get}
 use Rattle.epx_types.proofs.Common.{AllPairs-from_IsRising, ids_decide as eq_decides}
+use Rattle.epx_types.specs.declared.id.Id.{Id}
 use Rattle.std.specs.Cmp.{decided}
 use Rattle.std.proofs.lemmas.List.Folds.{list_any_more}
 use Rattle.epx_types.specs.contracts.id.IdPartialEq.TheImpl as id_eq

@@ -4,11 +4,12 @@ use Rattle.std.proofs.Common.{◌&&◌, ◌++◌, cond, List, [], ◌∷◌, len
 use Rattle.std.proofs.Common.{Some, refl, sym, ap, subst, arith, true≢false, is_lt, count_by}
 use Rattle.std.specs.Cmp.{first_so, second_so}
 use Rattle.epx_types.proofs.Common.{list_any, IsDistinct, IsSorted, keys_of, cases_Bool, sorted_far}
-use Rattle.epx_types.proofs.Common.{ranks_by, sum_by-cons, AllPairs-from_IsDistinct, Id, Below}
+use Rattle.epx_types.proofs.Common.{ranks_by, sum_by-cons, AllPairs-from_IsDistinct, Below}
 use Rattle.epx_types.proofs.Common.{IsRising, id_cmp, Instance, Placed, id_cmp_total}
 use Rattle.epx_types.proofs.Common.{id_cmp-IsAntisymmetric, Contains-head, Contains-cons}
 use Rattle.epx_types.proofs.Common.{Contains-map, Contains-from_map, IsRising-from_neighbours}
 use Rattle.epx_types.proofs.Common.{below_cases, ids_decide as eq_decides}
+use Rattle.epx_types.specs.declared.id.Id.{Id}
 use Rattle.std.proofs.lemmas.Bool.{not-true}
 use Rattle.std.proofs.lemmas.List.Concat.{flat_map-cons}
 use Rattle.std.proofs.lemmas.List.Folds.{flat_map-map}

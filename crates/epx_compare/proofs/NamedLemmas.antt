@@ -1,6 +1,7 @@
 -- The Ids of a catalog are those of its lines.
 use Rattle.std.proofs.Common.{◌∙◌, List, ap}
-use Rattle.epx_types.proofs.Common.{Id, IsRising, Instance, Placed, Contains-map, Contains-from_map}
+use Rattle.epx_types.proofs.Common.{IsRising, Instance, Placed, Contains-map, Contains-from_map}
+use Rattle.epx_types.specs.declared.id.Id.{Id}
 use Rattle.epx_committed.specs.InstanceCounts.{AreNamedBy}
 use Rattle.epx_merge.specs.LogLines.{BadLineAt}
 use Rattle.epx_compare.specs.declared.catalog.Catalog.{Catalog}

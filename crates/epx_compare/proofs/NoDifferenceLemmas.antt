@@ -3,13 +3,14 @@ use Rattle.std.proofs.Common.{◌≡◌, ◌≢◌, ◌↔◌, ℕ, ◌∷◌, �
 use Rattle.std.proofs.Common.{Contains, flat_map, codes, refl, sym, ap, subst, inl, inr, arith, ◌∙◌}
 use Rattle.epx_types.proofs.Common.{Decides, list_any, Contains-head, Contains-cons}
 use Rattle.epx_types.proofs.Common.{Contains-cons_cases, Contains-filter, Contains-from_filter}
-use Rattle.epx_types.proofs.Common.{passes-from_filter, Agree, Instance, Placed, Fault, TooManyLogs}
-use Rattle.epx_types.proofs.Common.{LogTooLong, BadLine, TooManyInstances, Disagree, Read, BadBase}
-use Rattle.epx_types.proofs.Common.{Id}
+use Rattle.epx_types.proofs.Common.{passes-from_filter, Agree, Instance, Placed}
+use Rattle.epx_types.specs.declared.fault.Fault.{Fault}
+use Rattle.epx_types.specs.declared.fault.Fault.TheVariants.{TooManyLogs, LogTooLong, BadLine}
+use Rattle.epx_types.specs.declared.fault.Fault.TheVariants.{TooManyInstances, Disagree, Read}
+use Rattle.epx_types.specs.declared.fault.Fault.TheVariants.{BadBase, Memory, Write}
+use Rattle.epx_types.specs.declared.id.Id.{Id}
 use Rattle.serde_json.specs.Data.{Data}
 use Rattle.serde_json.specs.Written.{compact_text}
-use Rattle.epx_types.specs.declared.fault.Fault.TheVariants.{Memory}
-use Rattle.epx_types.specs.declared.fault.Fault.TheVariants.{Write}
 use Rattle.epx_committed.proofs.InstanceCountLemmas.{not_few_and_many}
 use Rattle.epx_committed.specs.InstanceCounts.{AreNamedBy, FewInstances}
 use Rattle.epx_merge.proofs.ExistenceLemmas.{answered_always}

@@ -4,8 +4,10 @@ use Rattle.std.proofs.Common.{Contains, slice_get, append-nil, refl, sym, ap, su
 use Rattle.std.proofs.Common.{arith, Some}
 use Rattle.std.proofs.lemmas.Grind.{flat_map-append}
 use Rattle.epx_types.proofs.Common.{Contains-append_left, Contains-append_right}
-use Rattle.epx_types.proofs.Common.{Contains-append_cases, Place, Why, Placed, Contains-nil}
-use Rattle.epx_types.proofs.Common.{Contains-head, Contains-cons_cases}
+use Rattle.epx_types.proofs.Common.{Contains-append_cases, Placed, Contains-nil, Contains-head}
+use Rattle.epx_types.proofs.Common.{Contains-cons_cases}
+use Rattle.epx_types.specs.declared.place.Place.{Place}
+use Rattle.epx_types.specs.declared.fault.Why.{Why}
 use Rattle.epx_lines.specs.Lines.{lines_of}
 use Rattle.epx_lines.specs.Meaning.{meaning_of}
 use Rattle.epx_lines.specs.declared.Line.{Line}

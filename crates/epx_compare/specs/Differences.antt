@@ -1,14 +1,12 @@
 -- How the lines of an instance differ: in which members, and which of them commit the same.
-use Rattle.std.specs.Prelude.{ℕ, ◌∷◌, ◌++◌, Bool, not, List, [], map, filter, codes}
-use Rattle.std.specs.Prelude.{if◌then◌else◌}
+use Rattle.std.specs.Prelude.{ℕ, ◌∷◌, ◌++◌, Bool, not, List, [], map, filter, codes, if◌then◌else◌}
 use Rattle.std.specs.List.{list_any}
 use Rattle.epx_types.specs.declared.id.Id.{Id}
 use Rattle.epx_types.specs.declared.place.Place.{Place}
 use Rattle.epx_types.specs.Instances.{Instance}
 use Rattle.epx_types.specs.PlacedLines.{Placed}
 use Rattle.epx_versions.specs.LineVersions.{versions_of}
-use Rattle.epx_versions.specs.SameInstances.{same_id, same_seq, same_deps, same_ops}
-use Rattle.epx_versions.specs.SameInstances.{same_instance}
+use Rattle.epx_versions.specs.SameInstances.{same_id, same_seq, same_deps, same_ops, same_instance}
 
 -- the lines of an instance
 abbrev pub lines_of_id : List Placed → Id → List Placed

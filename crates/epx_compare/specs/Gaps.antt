@@ -1,6 +1,5 @@
 -- The instances that a log lacks, in gaps: longest runs of instances of one replica.
-use Rattle.std.specs.Prelude.{ℕ, ◌==◌, ◌&&◌, ◌∷◌, Bool, false, not, List, []}
-use Rattle.std.specs.Prelude.{if◌then◌else◌}
+use Rattle.std.specs.Prelude.{ℕ, ◌==◌, ◌&&◌, ◌∷◌, Bool, false, not, List, [], if◌then◌else◌}
 use Rattle.std.specs.List.{list_any}
 use Rattle.epx_types.specs.declared.id.Id.{Id}
 use Rattle.epx_types.specs.PlacedLines.{Placed}

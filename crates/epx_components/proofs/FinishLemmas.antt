@@ -9,8 +9,7 @@ use Rattle.std.proofs.lemmas.List.{get_or-append_right}
 use Rattle.epx_components.proofs.CloseLemmas.{WasOpen, was_unseen, was_open, was_closed}
 use Rattle.epx_components.proofs.CloseLemmas.{stays_open, is_closed, stays_closed, MayLead-close}
 use Rattle.epx_components.proofs.PathEndLemmas.{rising_last}
-use Rattle.epx_components.proofs.StartLemmas.{IsInGroupFrom-untake, AreRisingBelow-take}
-use Rattle.epx_components.proofs.StartLemmas.{first_take}
+use Rattle.epx_components.proofs.StartLemmas.{IsInGroupFrom-untake, AreRisingBelow-take, first_take}
 use Rattle.epx_components.specs.inner.SearchInvariants.{AreFinished, IsSearch}
 use Rattle.epx_components.specs.inner.SearchStates.{SearchState, visit_of}
 use Rattle.epx_components.specs.inner.SearchSteps.{Closes, IsFinished}

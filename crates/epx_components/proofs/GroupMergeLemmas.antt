@@ -4,8 +4,7 @@ use Rattle.epx_types.proofs.Common.{cases_lt}
 use Rattle.epx_graph.proofs.Common.{NodeReaches}
 use Rattle.epx_components.proofs.NodePathLemmas.{reaches_on}
 use Rattle.epx_components.proofs.VisitLemmas.{MayLead-take}
-use Rattle.epx_components.proofs.StartLemmas.{IsInGroupFrom-untake, AreRisingBelow-take}
-use Rattle.epx_components.proofs.StartLemmas.{first_take}
+use Rattle.epx_components.proofs.StartLemmas.{IsInGroupFrom-untake, AreRisingBelow-take, first_take}
 use Rattle.epx_components.specs.inner.SearchInvariants.{IsSearch}
 use Rattle.epx_components.specs.inner.SearchStates.{SearchState, visit_of}
 use Rattle.epx_components.specs.inner.Starts.{IsCutAbove}

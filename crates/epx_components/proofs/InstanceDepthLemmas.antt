@@ -1,6 +1,7 @@
 -- The depth of an instance is that of its node.
 use Rattle.std.proofs.Common.{◌≡◌, ℕ, List, [], ◌∷◌, length, slice_get, Some, refl, ◌∙◌, arith}
-use Rattle.epx_types.proofs.Common.{slice_get_within, Id, Descends, IsDepth, Instance}
+use Rattle.epx_types.proofs.Common.{slice_get_within, Descends, IsDepth, Instance}
+use Rattle.epx_types.specs.declared.id.Id.{Id}
 use Rattle.epx_graph.proofs.Common.{DependencyGraph, edges_of, IsGraphOf, node_id, reached_within}
 use Rattle.epx_graph.proofs.Common.{node_reaches, reached_node}
 use Rattle.epx_components.specs.NodeDepths.{NodeDescends, IsNodeDepth}

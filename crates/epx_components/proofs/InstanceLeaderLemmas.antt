@@ -1,8 +1,8 @@
 -- The leader of an instance is that of its node.
 use Rattle.std.proofs.Common.{◌≡◌, ℕ, ◌<◌, List, length, slice_get, Some, sym, ap, ◌∙◌, inl, inr}
 use Rattle.std.proofs.Common.{arith}
-use Rattle.epx_types.proofs.Common.{cases_lt, Id, IsLeader, Instance, Reaches-trans}
-use Rattle.epx_types.proofs.Common.{Reaches-committed}
+use Rattle.epx_types.proofs.Common.{cases_lt, IsLeader, Instance, Reaches-trans, Reaches-committed}
+use Rattle.epx_types.specs.declared.id.Id.{Id}
 use Rattle.epx_graph.proofs.Common.{DependencyGraph, IsGraph, edges_of, IsGraphOf, reached_within}
 use Rattle.epx_graph.proofs.Common.{node_is_unique, node_committed, node_reaches, node_order}
 use Rattle.epx_graph.proofs.Common.{reached_node}

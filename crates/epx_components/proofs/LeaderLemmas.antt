@@ -1,6 +1,5 @@
 -- The least node of each component, from the last node down.
-use Rattle.std.proofs.Common.{◌≡◌, ℕ, ◌<◌, ◌≤◌, List, length, get_or, sym}
-use Rattle.std.proofs.Common.{ap, arith}
+use Rattle.std.proofs.Common.{◌≡◌, ℕ, ◌<◌, ◌≤◌, List, length, get_or, sym, ap, arith}
 use Rattle.epx_components.specs.NodeComponents.{IsNodeLeader}
 use Rattle.epx_components.specs.Partitions.{ComponentParts, IsPartition, component_of, number_for}
 use Rattle.epx_components.proofs.NodePathLemmas.{reach_falls, reach_below}

@@ -2,8 +2,8 @@
 use Rattle.std.proofs.Common.{◌≡◌, ◌&&◌, ℕ, ◌+◌, ◌<◌, List, [], ◌∷◌, ◌++◌, length, take, get_or}
 use Rattle.std.proofs.Common.{slice_get, Some, Bool, true, false, eqb, is_eq, sym, ap, ◌∙◌, arith}
 use Rattle.epx_types.proofs.Common.{nat_tests, length-map, count_by_more_no, count_by_more_yes}
-use Rattle.epx_types.proofs.Common.{slice_get-get_or, Id, Ranked, ranked_ids, component_count}
-use Rattle.epx_types.proofs.Common.{id_cmp}
+use Rattle.epx_types.proofs.Common.{slice_get-get_or, Ranked, ranked_ids, component_count, id_cmp}
+use Rattle.epx_types.specs.declared.id.Id.{Id}
 use Rattle.std.proofs.lemmas.List.{get_or-map, map_more}
 use Rattle.epx_types.proofs.lists.ListPositionLemmas.{slice_get-map}
 use Rattle.epx_components.specs.Ranks.{ranked, ranked_all}

@@ -1,6 +1,7 @@
 -- The node of an instance is marked as ready exactly if the instance is ready.
 use Rattle.std.proofs.Common.{◌≡◌, ℕ, List, Bool, slice_get, Some, refl, inl, inr, IsTrue}
-use Rattle.epx_types.proofs.Common.{cases_lt, slice_get_within, Id, Instance, IsReady}
+use Rattle.epx_types.proofs.Common.{cases_lt, slice_get_within, Instance, IsReady}
+use Rattle.epx_types.specs.declared.id.Id.{Id}
 use Rattle.epx_graph.proofs.Common.{DependencyGraph, edges_of, IsGraphOf}
 use Rattle.epx_components.proofs.NodePathLemmas.{reaches_itself}
 use Rattle.epx_components.proofs.ReadyNodeLemmas.{ready_from_node, node_from_ready}

@@ -1,6 +1,7 @@
 -- A committed node reaches no missing node exactly if its instance is ready.
 use Rattle.std.proofs.Common.{◌≡◌, ℕ, ◌<◌, List, slice_get, Some, inl, inr, arith}
-use Rattle.epx_types.proofs.Common.{cases_lt, slice_get_within, Id, Instance, IsReady}
+use Rattle.epx_types.proofs.Common.{cases_lt, slice_get_within, Instance, IsReady}
+use Rattle.epx_types.specs.declared.id.Id.{Id}
 use Rattle.epx_graph.proofs.Common.{DependencyGraph, edges_of, IsGraphOf, node_id, reached_within}
 use Rattle.epx_graph.proofs.Common.{node_committed, node_reaches, reached_node}
 use Rattle.epx_components.specs.MissingNodes.{ReachesMissing}

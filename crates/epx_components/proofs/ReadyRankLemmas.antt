@@ -1,8 +1,9 @@
 -- The rank of a ready instance, from the rank of its node.
 use Rattle.std.proofs.Common.{◌≡◌, ℕ, ◌<◌, List, slice_get, Some, Contains, refl, sym, ap, ◌∙◌}
 use Rattle.std.proofs.Common.{subst, IsTrue, arith}
-use Rattle.epx_types.proofs.Common.{Id, IsRanked, IsRising, Instance, instance_of_iff, without_deps}
+use Rattle.epx_types.proofs.Common.{IsRanked, IsRising, Instance, instance_of_iff, without_deps}
 use Rattle.epx_types.proofs.Common.{remaining, Contains-remaining_iff, Contains-left}
+use Rattle.epx_types.specs.declared.id.Id.{Id}
 use Rattle.epx_graph.proofs.Common.{DependencyGraph, IsGraphOf, node_id, node_committed}
 use Rattle.epx_graph.proofs.Common.{node_instance}
 use Rattle.epx_components.proofs.InstanceDepthLemmas.{depth_from_node}

@@ -2,10 +2,11 @@
 use Rattle.std.proofs.Common.{◌≡◌, ℕ, ◌+◌, ◌-◌, ◌≤◌, Bool, false, List, [], ◌∷◌, ◌++◌, length, take}
 use Rattle.std.proofs.Common.{drop, flat_map, Option, refl, sym, ap, ◌∙◌, subst, arith, append-nil}
 use Rattle.std.proofs.Common.{true, None, Some, Ok, Err, rules, IfSome, Result}
-use Rattle.epx_types.proofs.Common.{MatchResult, common_steps, Fault, LogTooLong, max_log_bytes}
-use Rattle.epx_types.proofs.Common.{Appends, Consumes, IsAtEnd}
+use Rattle.epx_types.proofs.Common.{MatchResult, common_steps, max_log_bytes, Appends, Consumes}
+use Rattle.epx_types.proofs.Common.{IsAtEnd}
+use Rattle.epx_types.specs.declared.fault.Fault.{Fault}
+use Rattle.epx_types.specs.declared.fault.Fault.TheVariants.{LogTooLong, Memory}
 use Rattle.std.proofs.lemmas.Grind.{flat_map-append}
-use Rattle.epx_types.specs.declared.fault.Fault.TheVariants.{Memory}
 use Rattle.epx_devices.specs.Deliveries.{ReadStep, AreReads, Delivers}
 use Rattle.epx_devices.specs.declared.transfer.LogPart.{LogPart}
 use Rattle.epx_devices.specs.LogParts.{EndsLog, EndsPart, IsFrontOfLog, IsReadUpTo}

@@ -1,11 +1,13 @@
 -- A call that looks at a part of the pending instances executes what is ready of all.
 use Rattle.std.proofs.Common.{◌≡◌, ◌⊎◌, ◌↔◌, ℕ, List, Contains, Option, None, Some, IfSome}
 use Rattle.std.proofs.Common.{sym, ◌∙◌, subst, inl, inr}
-use Rattle.epx_types.proofs.Common.{Id, Fault, ids_of, remaining, Ranked, ranked_ids, IsRising}
-use Rattle.epx_types.proofs.Common.{Instance, IsReady, WaitsFor, Waiting, waiting_ids}
-use Rattle.epx_types.proofs.Common.{Contains-Id_cases, IsReady-from_no_wait, Contains-map}
-use Rattle.epx_types.proofs.Common.{Contains-from_map, IsExecutionOrder-IsLawful}
-use Rattle.epx_types.proofs.Common.{Contains-remaining_iff, IsRising-remaining}
+use Rattle.epx_types.proofs.Common.{ids_of, remaining, Ranked, ranked_ids, IsRising, Instance}
+use Rattle.epx_types.proofs.Common.{IsReady, WaitsFor, Waiting, waiting_ids, Contains-Id_cases}
+use Rattle.epx_types.proofs.Common.{IsReady-from_no_wait, Contains-map, Contains-from_map}
+use Rattle.epx_types.proofs.Common.{IsExecutionOrder-IsLawful, Contains-remaining_iff}
+use Rattle.epx_types.proofs.Common.{IsRising-remaining}
+use Rattle.epx_types.specs.declared.id.Id.{Id}
+use Rattle.epx_types.specs.declared.fault.Fault.{Fault}
 use Rattle.epx_committed.specs.MergedLines.{IsMerged, IsMergeFault}
 use Rattle.epx_executor.specs.declared.choose.Choice.{Choice}
 use Rattle.epx_executor.specs.CallLines.{call_lines}

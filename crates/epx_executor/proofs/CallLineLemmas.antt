@@ -4,11 +4,13 @@ use Rattle.std.proofs.Common.{◌++◌, length, filter, get_or, take, Contains, 
 use Rattle.std.proofs.Common.{inl, inr, arith, length-take}
 use Rattle.epx_types.proofs.Common.{cases_Bool, nat_tests, length-map, take_more}
 use Rattle.epx_types.proofs.Common.{Contains-append_cases, Contains-append_left}
-use Rattle.epx_types.proofs.Common.{Contains-append_right, Id, Place, ids_of, is_among, Instance}
+use Rattle.epx_types.proofs.Common.{Contains-append_right, ids_of, is_among, Instance}
 use Rattle.epx_types.proofs.Common.{max_instances, Placed, Earlier, Contains-nil, Contains-head}
 use Rattle.epx_types.proofs.Common.{Contains-cons, Contains-cons_cases, Contains-from_map}
 use Rattle.epx_types.proofs.Common.{Contains-filter, Contains-from_filter, passes-from_filter}
 use Rattle.epx_types.proofs.Common.{not_among}
+use Rattle.epx_types.specs.declared.id.Id.{Id}
+use Rattle.epx_types.specs.declared.place.Place.{Place}
 use Rattle.epx_committed.specs.LineOrder.{IsSortedByPlace}
 use Rattle.epx_committed.specs.MergedLines.{IsMerged}
 use Rattle.epx_committed.proofs.InstanceCountLemmas.{named_ids_are_committed}

@@ -2,12 +2,13 @@
 use Rattle.std.proofs.Common.{◌≡◌, ◌⊎◌, ◌↔◌, ◌+◌, ◌<◌, ◌≤◌, ℕ, List, [], ◌∷◌, ◌++◌, length, get_or}
 use Rattle.std.proofs.Common.{take, map, Contains, sym, subst, inl, inr}
 use Rattle.epx_types.proofs.Common.{take_all, take_more, Contains-append_cases}
-use Rattle.epx_types.proofs.Common.{Contains-append_right, Id, ids_of, IsCommitted, remaining}
-use Rattle.epx_types.proofs.Common.{Instance, max_instances, DependsOn, Reaches, IsReady}
-use Rattle.epx_types.proofs.Common.{Reaches-trans, Reaches-dependency, IsReady-reached}
-use Rattle.epx_types.proofs.Common.{Contains-nil, Contains-head, Contains-map, Contains-cons_cases}
+use Rattle.epx_types.proofs.Common.{Contains-append_right, ids_of, IsCommitted, remaining, Instance}
+use Rattle.epx_types.proofs.Common.{max_instances, DependsOn, Reaches, IsReady, Reaches-trans}
+use Rattle.epx_types.proofs.Common.{Reaches-dependency, IsReady-reached, Contains-nil}
+use Rattle.epx_types.proofs.Common.{Contains-head, Contains-map, Contains-cons_cases}
 use Rattle.epx_types.proofs.Common.{Contains-from_map, Contains-remaining_iff, DependsOn-remaining}
 use Rattle.epx_types.proofs.Common.{is_among_cases}
+use Rattle.epx_types.specs.declared.id.Id.{Id}
 use Rattle.epx_executor.specs.inner.Choices.{AgreesWith, AreBlocked, AreFiledIn, IsBlockedIn}
 use Rattle.epx_executor.specs.inner.Choices.{IsChoice, IsNeededBy, IsSortedOut, IsUnion}
 use Rattle.epx_executor.specs.inner.Choices.{NeedsMissing}

@@ -2,12 +2,15 @@
 use Rattle.std.proofs.Common.{◌≡◌, ◌⊎◌, ◌↔◌, ◌≤◌, ◌^◌, ℕ, zero, suc, List, [], ◌∷◌, map, zip}
 use Rattle.std.proofs.Common.{length, arith, Contains, slice_get, Option, None, Some, refl, sym, ap}
 use Rattle.std.proofs.Common.{◌∙◌, subst, inl, inr}
-use Rattle.epx_types.proofs.Common.{length-map, Id, Op, Reply, ids_of, instance_of, ops_or_empty}
-use Rattle.epx_types.proofs.Common.{Contents, execute, remaining, Ranked, ranked_ids}
-use Rattle.epx_types.proofs.Common.{IsExecutionOrder, IsRising, Instance, IsReady, HasRemaining}
-use Rattle.epx_types.proofs.Common.{Waiting, IsRising-same, IsExecutionOrder-IsLawful}
+use Rattle.epx_types.proofs.Common.{length-map, ids_of, instance_of, ops_or_empty, Contents}
+use Rattle.epx_types.proofs.Common.{execute, remaining, Ranked, ranked_ids, IsExecutionOrder}
+use Rattle.epx_types.proofs.Common.{IsRising, Instance, IsReady, HasRemaining, Waiting}
+use Rattle.epx_types.proofs.Common.{IsRising-same, IsExecutionOrder-IsLawful}
 use Rattle.epx_types.proofs.Common.{Contains-remaining_iff, IsRising-remaining, IsReady-in_whole}
 use Rattle.epx_types.proofs.Common.{IsReady-reached}
+use Rattle.epx_types.specs.declared.id.Id.{Id}
+use Rattle.epx_types.specs.declared.op.Op.{Op}
+use Rattle.epx_types.specs.declared.reply.Reply.{Reply}
 use Rattle.epx_laws.specs.DoneLaws.{RemainingIsReadyAlike}
 use Rattle.epx_laws.specs.ResumedRunLaws.{CanResume, run_on}
 use Rattle.epx_executor.specs.declared.choose.Choice.{Choice}

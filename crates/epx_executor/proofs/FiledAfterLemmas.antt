@@ -1,10 +1,11 @@
 -- What is filed after a call waits there.
 use Rattle.std.proofs.Common.{◌≡◌, ◌⊎◌, ℕ, List, [], Contains, Option, None, Some, IfSome, sym}
 use Rattle.std.proofs.Common.{subst, inl, inr}
-use Rattle.epx_types.proofs.Common.{Id, ids_of, IsCommitted, remaining, Ranked, ranked_ids}
-use Rattle.epx_types.proofs.Common.{Instance, Reaches, IsReady, Waiting, waiting_ids}
-use Rattle.epx_types.proofs.Common.{IsReady-reached, Contains-nil, Contains-map, Contains-from_map}
+use Rattle.epx_types.proofs.Common.{ids_of, IsCommitted, remaining, Ranked, ranked_ids, Instance}
+use Rattle.epx_types.proofs.Common.{Reaches, IsReady, Waiting, waiting_ids, IsReady-reached}
+use Rattle.epx_types.proofs.Common.{Contains-nil, Contains-map, Contains-from_map}
 use Rattle.epx_types.proofs.Common.{IsExecutionOrder-IsLawful, Contains-remaining_iff}
+use Rattle.epx_types.specs.declared.id.Id.{Id}
 use Rattle.epx_executor.specs.declared.choose.Choice.{Choice}
 use Rattle.epx_executor.specs.inner.Batches.{IsCallBatch}
 use Rattle.epx_executor.specs.inner.Choices.{AreFiledIn, CanRefile, IsBlockedIn, IsChoice}

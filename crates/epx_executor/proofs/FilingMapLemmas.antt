@@ -5,9 +5,10 @@ use Rattle.std.proofs.Common.{Vec}
 use Rattle.std.specs.List.{items_where_true}
 use Rattle.std.specs.List.Retain.{IsFiltered, ReturnsInTurn}
 use Rattle.std.specs.Option.{MatchOption, is_some}
-use Rattle.epx_types.proofs.Common.{BTreeMap, IsOrdered, get, is_at, cases_Bool, Id, id_cmp}
-use Rattle.epx_types.proofs.Common.{Id-cases, id_cmp_total, id_cmp-IsAntisymmetric, Contains-nil}
+use Rattle.epx_types.proofs.Common.{BTreeMap, IsOrdered, get, is_at, cases_Bool, id_cmp, Id-cases}
+use Rattle.epx_types.proofs.Common.{id_cmp_total, id_cmp-IsAntisymmetric, Contains-nil}
 use Rattle.epx_types.proofs.Common.{Contains-head, Contains-cons, Contains-cons_cases}
+use Rattle.epx_types.specs.declared.id.Id.{Id}
 use Rattle.std.specs.BTreeMap.{Updates}
 use Rattle.std.proofs.lemmas.Map.Views.{btree_map_get_iff, tells_apart}
 use Rattle.epx_executor.specs.inner.Filings.{AreListedUnder, Filings, IsFiled, IsListed}

@@ -6,13 +6,13 @@ use Rattle.std.specs.BTreeSet as sorted
 use Rattle.std.specs.BTreeSet.{BTreeSet}
 use Rattle.epx_types.proofs.Common.{append-nil, append_assoc, length-append, take-append-le}
 use Rattle.epx_types.proofs.Common.{take_all, take_more, Contains-append_cases}
-use Rattle.epx_types.proofs.Common.{Contains-append_left, Contains-append_right, Id, id_cmp}
-use Rattle.epx_types.proofs.Common.{Id-cases, id_cmp_total, id_cmp-IsAntisymmetric}
-use Rattle.epx_types.proofs.Common.{Contains-cons_cases, Contains-head, Contains-nil}
+use Rattle.epx_types.proofs.Common.{Contains-append_left, Contains-append_right, id_cmp, Id-cases}
+use Rattle.epx_types.proofs.Common.{id_cmp_total, id_cmp-IsAntisymmetric, Contains-cons_cases}
+use Rattle.epx_types.proofs.Common.{Contains-head, Contains-nil}
+use Rattle.epx_types.specs.declared.id.Id.{Id}
 use Rattle.std.proofs.lemmas.Map.Keys.{IsDistinct-from_sorted}
 use Rattle.std.proofs.lemmas.Map.Views.{btree_set_contains_iff}
-use Rattle.epx_executor.specs.inner.Filings.{AreAppended, AreSeen, Filings, IsBehind}
-use Rattle.epx_executor.specs.inner.Filings.{IsFiled}
+use Rattle.epx_executor.specs.inner.Filings.{AreAppended, AreSeen, Filings, IsBehind, IsFiled}
 use Rattle.epx_executor.proofs.FilingLemmas.{IsFiled-under, closed_under_behind}
 use Rattle.epx_executor.proofs.FilingLemmas.{length-le_from_filed}
 use Rattle.epx_executor.proofs.FilingMapLemmas.{is_at-apart}

@@ -2,10 +2,11 @@
 use Rattle.std.proofs.Common.{◌≡◌, ℕ, List, length, Option, Some, None, slice_get, unwrap_or, refl}
 use Rattle.std.proofs.Common.{sym, ap, ◌∙◌, arith}
 use Rattle.std.proofs.lemmas.Option.{slice_get_past}
-use Rattle.epx_types.proofs.Common.{Id, ids_of, instance_of, ops_or_empty, position_of, IsRising}
+use Rattle.epx_types.proofs.Common.{ids_of, instance_of, ops_or_empty, position_of, IsRising}
 use Rattle.epx_types.proofs.Common.{Instance, instance_of_iff, position_of-found}
 use Rattle.epx_types.proofs.Common.{position_of-instance, Contains-slice_get}
 use Rattle.epx_types.proofs.Common.{slice_get-from_Contains}
+use Rattle.epx_types.specs.declared.id.Id.{Id}
 
 module _ (m : List Instance) (rising : IsRising (ids_of m)) (x : Id) where
   -- an Id without a position has no instance

@@ -1,9 +1,11 @@
 -- The calls of an executor, one after another.
 use Rattle.std.proofs.Common.{◌≡◌, ◌⊎◌, ◌↔◌, ℕ, List, [], ◌∷◌, Contains, slice_get, Some, refl, sym}
 use Rattle.std.proofs.Common.{subst, inl, inr}
-use Rattle.epx_types.proofs.Common.{Id, Reply, ids_of, IsCovered, Ranked, IsExecutionOrder}
-use Rattle.epx_types.proofs.Common.{IsRising, Instance, IsReady, Contains-nil, Contains-head}
-use Rattle.epx_types.proofs.Common.{Contains-cons, Contains-cons_cases, is_among_cases}
+use Rattle.epx_types.proofs.Common.{ids_of, IsCovered, Ranked, IsExecutionOrder, IsRising, Instance}
+use Rattle.epx_types.proofs.Common.{IsReady, Contains-nil, Contains-head, Contains-cons}
+use Rattle.epx_types.proofs.Common.{Contains-cons_cases, is_among_cases}
+use Rattle.epx_types.specs.declared.id.Id.{Id}
+use Rattle.epx_types.specs.declared.reply.Reply.{Reply}
 use Rattle.epx_laws.specs.ResumedRunLaws.{HasReply, whole_run}
 use Rattle.epx_executor.specs.Commits.{ExecutorView, IsCommit, AllWait}
 use Rattle.epx_executor.specs.ExecutorLaws.{IsSoundFor, CommittingStaysSound}
@@ -12,8 +14,7 @@ use Rattle.epx_executor.specs.ExecutorLaws.{NothingIsHeldBack, new_executor}
 use Rattle.epx_executor.specs.HistoryLaws.{AllCame, AreCommits, Call, CameFrom}
 use Rattle.epx_executor.proofs.CallLineLemmas.{merged_instances}
 use Rattle.epx_executor.proofs.CommitLemmas.{settled_after}
-use Rattle.epx_executor.proofs.RemainderLemmas.{Contains-not_done}
-use Rattle.epx_executor.proofs.RemainderLemmas.{Contains-not_done}
+use Rattle.epx_executor.proofs.RemainderLemmas.{Contains-not_done, Contains-not_done}
 
 pub came_later : (m : List Instance) (call : Call) (calls : List Call) → CameFrom m (call ∷ calls)
     → CameFrom m calls

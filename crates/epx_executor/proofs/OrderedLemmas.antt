@@ -1,9 +1,10 @@
 -- The instances of the execution order of a remaining map: how many they are, and their commands.
 use Rattle.std.proofs.Common.{◌≡◌, ◌≤◌, ◌^◌, List, length, Contains, sym, arith}
-use Rattle.epx_types.proofs.Common.{length-map, Id, commands_in, remaining, Ranked, ranked_ids}
+use Rattle.epx_types.proofs.Common.{length-map, commands_in, remaining, Ranked, ranked_ids}
 use Rattle.epx_types.proofs.Common.{IsExecutionOrder, Instance, max_instances}
 use Rattle.epx_types.proofs.Common.{IsExecutionOrder-IsLawful, ordered_are_few, commands-left}
 use Rattle.epx_types.proofs.Common.{length-remaining, Contains-remaining_iff}
+use Rattle.epx_types.specs.declared.id.Id.{Id}
 
 module _ (done : List Id) (m : List Instance) (order : List Ranked)
     (ordered : IsExecutionOrder (remaining done m) order) where

@@ -1,6 +1,7 @@
 -- Ids that are paired with replies, one after another.
 use Rattle.std.proofs.Common.{◌≡◌, List, ◌++◌, length, zip}
-use Rattle.epx_types.proofs.Common.{Id, Reply}
+use Rattle.epx_types.specs.declared.id.Id.{Id}
+use Rattle.epx_types.specs.declared.reply.Reply.{Reply}
 
 -- the pairs so far, and what is left of both lists
 pub record ArePairedUpTo (ids : List Id) (replies : List Reply) (pairs all : List (Id × Reply))

@@ -1,6 +1,6 @@
 -- A part of a map: what its instances reach, which of them are ready, their order and commands.
 use Rattle.std.proofs.Common.{◌≡◌, ◌↔◌, List, [], ◌∷◌, not, Contains, sym, ap, ◌∙◌, subst, inl, inr}
-use Rattle.epx_types.proofs.Common.{Id, IsRising, Instance, ids_of, instance_of, ops_or_empty}
+use Rattle.epx_types.proofs.Common.{IsRising, Instance, ids_of, instance_of, ops_or_empty}
 use Rattle.epx_types.proofs.Common.{commands_in, IsCommitted, is_among, without_deps, remaining}
 use Rattle.epx_types.proofs.Common.{DependsOn, IsPath, Reaches, IsReady, InOneComponent, Descends}
 use Rattle.epx_types.proofs.Common.{Ranked, IsRanked, IsExecutionOrder, IsRising-same}
@@ -9,6 +9,7 @@ use Rattle.epx_types.proofs.Common.{IsCommitted-from_Contains, Reaches-refl, Rea
 use Rattle.epx_types.proofs.Common.{Reaches-dependency, Reaches-passes, IsReady-reached}
 use Rattle.epx_types.proofs.Common.{Contains-map, Contains-from_map, Contains-filter, map-agree}
 use Rattle.epx_types.proofs.Common.{DependsOn-remaining, from_remaining}
+use Rattle.epx_types.specs.declared.id.Id.{Id}
 use Rattle.epx_executor.specs.Commits.{not_done}
 
 -- ---- paths of a part

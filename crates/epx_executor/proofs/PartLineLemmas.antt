@@ -2,14 +2,15 @@
 use Rattle.std.proofs.Common.{◌≡◌, ◌≢◌, ◌≤◌, ◌+◌, ◌↔◌, ◌⊎◌, List, [], ◌++◌, length, Contains, refl}
 use Rattle.std.proofs.Common.{sym, ◌∙◌, subst, inl, inr, arith}
 use Rattle.epx_types.proofs.Common.{length-map, length-append, Contains-append_cases}
-use Rattle.epx_types.proofs.Common.{Contains-append_left, Contains-append_right, Id, Fault}
-use Rattle.epx_types.proofs.Common.{TooManyLogs, LogTooLong, BadLine, TooManyInstances, Disagree}
-use Rattle.epx_types.proofs.Common.{Read, BadBase, IsRising, Instance, max_instances, Placed, Agree}
-use Rattle.epx_types.proofs.Common.{Differ, IsFirstDisagreement, ids_of, IsRising-same}
-use Rattle.epx_types.proofs.Common.{IsFirstDisagreement-not_Agree, Contains-nil, Contains-map}
-use Rattle.epx_types.proofs.Common.{rising_once, fewer}
-use Rattle.epx_types.specs.declared.fault.Fault.TheVariants.{Memory}
-use Rattle.epx_types.specs.declared.fault.Fault.TheVariants.{Write}
+use Rattle.epx_types.proofs.Common.{Contains-append_left, Contains-append_right, IsRising, Instance}
+use Rattle.epx_types.proofs.Common.{max_instances, Placed, Agree, Differ, IsFirstDisagreement}
+use Rattle.epx_types.proofs.Common.{ids_of, IsRising-same, IsFirstDisagreement-not_Agree}
+use Rattle.epx_types.proofs.Common.{Contains-nil, Contains-map, rising_once, fewer}
+use Rattle.epx_types.specs.declared.id.Id.{Id}
+use Rattle.epx_types.specs.declared.fault.Fault.{Fault}
+use Rattle.epx_types.specs.declared.fault.Fault.TheVariants.{TooManyLogs, LogTooLong, BadLine}
+use Rattle.epx_types.specs.declared.fault.Fault.TheVariants.{TooManyInstances, Disagree, Read}
+use Rattle.epx_types.specs.declared.fault.Fault.TheVariants.{BadBase, Memory, Write}
 use Rattle.epx_committed.specs.InstanceCounts.{AreNamedBy, FewInstances, ManyInstances}
 use Rattle.epx_committed.specs.MergedLines.{IsMerged, IsMergeFault}
 use Rattle.epx_committed.proofs.InstanceCountLemmas.{few_or_many}

@@ -7,10 +7,11 @@ use Rattle.std.proofs.Common.{sym, ap, ◌∙◌, subst, inl, inr}
 use Rattle.epx_types.proofs.Common.{cases_Bool, take_all, take_more, take-append-drop}
 use Rattle.epx_types.proofs.Common.{Contains-append_left, Contains-append_right}
 use Rattle.epx_types.proofs.Common.{Contains-append_cases, is_at, Equal-is, lookup, is_eq}
-use Rattle.epx_types.proofs.Common.{match_ordering, Id, ids_of, id_cmp, Below, BelowAll, IsRising}
+use Rattle.epx_types.proofs.Common.{match_ordering, ids_of, id_cmp, Below, BelowAll, IsRising}
 use Rattle.epx_types.proofs.Common.{Instance, IsRising-same, id_cmp_total, id_cmp-IsAntisymmetric}
 use Rattle.epx_types.proofs.Common.{Contains-nil, Contains-head, Contains-cons, Contains-cons_cases}
 use Rattle.epx_types.proofs.Common.{Contains-map, below_irrefl}
+use Rattle.epx_types.specs.declared.id.Id.{Id}
 use Rattle.std.specs.BTreeMap.{insert_entry}
 use Rattle.std.specs.Cmp.{tied_itself}
 use Rattle.std.specs.Map.{remove_entry}

@@ -1,14 +1,16 @@
 -- What the calls of an executor execute, one after another.
 use Rattle.std.proofs.Common.{◌≡◌, ◌⊎◌, List, [], ◌∷◌, ◌++◌, map, zip, length, Contains, refl, sym}
 use Rattle.std.proofs.Common.{ap, ap₂, ◌∙◌, subst, inl, inr, arith}
-use Rattle.epx_types.proofs.Common.{append_assoc, append-nil, length-map, map-append, Id, Reply}
-use Rattle.epx_types.proofs.Common.{instance_of, ops_or_empty, commands_in, Contents, remaining}
-use Rattle.epx_types.proofs.Common.{remaining_ids, Execution, execute, ranked_ids, Instance}
-use Rattle.epx_types.proofs.Common.{IsLawfulPrefix, IsLawfulFor, IsLawful, IsReady, HasRemaining}
-use Rattle.epx_types.proofs.Common.{execute-append, length-replies, Contains-nil, Contains-head}
+use Rattle.epx_types.proofs.Common.{append_assoc, append-nil, length-map, map-append, instance_of}
+use Rattle.epx_types.proofs.Common.{ops_or_empty, commands_in, Contents, remaining, remaining_ids}
+use Rattle.epx_types.proofs.Common.{Execution, execute, ranked_ids, Instance, IsLawfulPrefix}
+use Rattle.epx_types.proofs.Common.{IsLawfulFor, IsLawful, IsReady, HasRemaining, execute-append}
+use Rattle.epx_types.proofs.Common.{length-replies, Contains-nil, Contains-head}
 use Rattle.epx_types.proofs.Common.{IsExecutionOrder-IsLawful, IsLawfulFor-same}
 use Rattle.epx_types.proofs.Common.{IsLawfulFor-together, IsLawful-part_and_rest}
 use Rattle.epx_types.proofs.Common.{IsLawfulAfter-left, commands_in-left}
+use Rattle.epx_types.specs.declared.id.Id.{Id}
+use Rattle.epx_types.specs.declared.reply.Reply.{Reply}
 use Rattle.std.specs.FinMap as contents
 use Rattle.epx_laws.specs.ResumedRunLaws.{run_on}
 use Rattle.epx_executor.specs.Commits.{ExecutorView, IsCommit}

@@ -3,9 +3,10 @@ use Rattle.std.proofs.Common.{◌≡◌, ◌⊎◌, ◌↔◌, ℕ, ◌+◌, ◌
 use Rattle.std.proofs.Common.{Contains, Option, Some, None, MatchOption, IfSome, unwrap_or, true}
 use Rattle.std.proofs.Common.{false, Result, Ok, Err, OnOk, OnErr, is_ok, sym, ap, ◌∙◌, subst, inl}
 use Rattle.std.proofs.Common.{inr, refl}
-use Rattle.epx_types.proofs.Common.{take_all, Contains-get_or, Id, IsCommitted, Instance, Reaches}
+use Rattle.epx_types.proofs.Common.{take_all, Contains-get_or, IsCommitted, Instance, Reaches}
 use Rattle.epx_types.proofs.Common.{Waiting, waiting_ids, Reaches-trans, Contains-from_map}
 use Rattle.epx_types.proofs.Common.{Contains-map, Contains-nil}
+use Rattle.epx_types.specs.declared.id.Id.{Id}
 use Rattle.epx_executor.specs.declared.choose.Choice.{Choice}
 use Rattle.epx_executor.specs.inner.Choices.{AreFiledIn, AreWithin, CanRefile, IsRefiled}
 use Rattle.epx_executor.specs.inner.Filings.{Filings, IsBlockedBy, IsFiled, IsWay}

@@ -2,12 +2,13 @@
 -- remains.
 use Rattle.std.proofs.Common.{◌≡◌, ◌⊎◌, ◌↔◌, Bool, true, false, not, IsTrue, List, [], ◌∷◌, filter}
 use Rattle.std.proofs.Common.{flat_map, map, ◌&&◌, Contains, refl, sym, ap, ◌∙◌, subst, inl, inr}
-use Rattle.epx_types.proofs.Common.{AllPairs-filter, Id, ids_of, is_among, without_deps, remaining}
+use Rattle.epx_types.proofs.Common.{AllPairs-filter, ids_of, is_among, without_deps, remaining}
 use Rattle.epx_types.proofs.Common.{Below, IsRising, Instance, id_cmp_total, Contains-filter}
 use Rattle.epx_types.proofs.Common.{Contains-from_filter, passes-from_filter, map-agree}
 use Rattle.epx_types.proofs.Common.{Contains-map, Contains-flat_map, Contains-from_flat_map}
 use Rattle.epx_types.proofs.Common.{AllPairs-from_rising_ids, below_irrefl, below_trans}
 use Rattle.epx_types.proofs.Common.{same_rising, is_among_cases, not_among, IsRising-remaining}
+use Rattle.epx_types.specs.declared.id.Id.{Id}
 use Rattle.epx_executor.specs.Commits.{not_done}
 use Rattle.epx_executor.specs.inner.Batches.{AreDoneDeps}
 use Rattle.epx_executor.proofs.FilterLemmas.{filter-agree, filter-twice}

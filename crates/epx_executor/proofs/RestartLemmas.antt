@@ -1,10 +1,12 @@
 -- Executors that hold the same.
 use Rattle.std.proofs.Common.{◌≡◌, ◌↔◌, not, List, [], ◌∷◌, ◌++◌, zip, Contains, refl, sym, ap, ap₂}
 use Rattle.std.proofs.Common.{◌∙◌, subst, inl, inr}
-use Rattle.epx_types.proofs.Common.{Id, Reply, commands_in, IsCommittedBy, is_among, remaining}
-use Rattle.epx_types.proofs.Common.{Execution, execute, Ranked, ranked_ids, IsExecutionOrder}
-use Rattle.epx_types.proofs.Common.{Instance, Placed, IsReady, Contains-nil, Contains-head}
-use Rattle.epx_types.proofs.Common.{Contains-cons, IsExecutionOrder-IsLawful, not_among}
+use Rattle.epx_types.proofs.Common.{commands_in, IsCommittedBy, is_among, remaining, Execution}
+use Rattle.epx_types.proofs.Common.{execute, Ranked, ranked_ids, IsExecutionOrder, Instance, Placed}
+use Rattle.epx_types.proofs.Common.{IsReady, Contains-nil, Contains-head, Contains-cons}
+use Rattle.epx_types.proofs.Common.{IsExecutionOrder-IsLawful, not_among}
+use Rattle.epx_types.specs.declared.id.Id.{Id}
+use Rattle.epx_types.specs.declared.reply.Reply.{Reply}
 use Rattle.epx_laws.specs.AgreementLaws.{CommittedMapIsUnique}
 use Rattle.epx_laws.specs.OrderLaws.{ExecutionOrderIsUnique}
 use Rattle.epx_laws.specs.ResumedRunLaws.{run_on}

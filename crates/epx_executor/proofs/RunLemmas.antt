@@ -8,11 +8,12 @@ use Rattle.epx_types.proofs.Common.{nat_tests, get_or_append_left, get_or_defaul
 use Rattle.epx_types.proofs.Common.{length-append, get_or-append_seam, Contains-append_left}
 use Rattle.epx_types.proofs.Common.{Contains-append_right, Contains-append_cases, All-push, All-pop}
 use Rattle.epx_types.proofs.Common.{All-contains, All-append, Contains-permutation}
-use Rattle.epx_types.proofs.Common.{IsPermutation-sym, all_pairs_push, Id, Below, UpTo}
-use Rattle.epx_types.proofs.Common.{id_cmp_total, id_cmp-IsAntisymmetric, Contains-nil}
-use Rattle.epx_types.proofs.Common.{Contains-head, Contains-cons_cases, Contains-map}
-use Rattle.epx_types.proofs.Common.{Contains-from_map, Contains-flat_map, Contains-from_flat_map}
-use Rattle.epx_types.proofs.Common.{below_trans, below_cases}
+use Rattle.epx_types.proofs.Common.{IsPermutation-sym, all_pairs_push, Below, UpTo, id_cmp_total}
+use Rattle.epx_types.proofs.Common.{id_cmp-IsAntisymmetric, Contains-nil, Contains-head}
+use Rattle.epx_types.proofs.Common.{Contains-cons_cases, Contains-map, Contains-from_map}
+use Rattle.epx_types.proofs.Common.{Contains-flat_map, Contains-from_flat_map, below_trans}
+use Rattle.epx_types.proofs.Common.{below_cases}
+use Rattle.epx_types.specs.declared.id.Id.{Id}
 use Rattle.std.specs.Ordering.{is_some_and, partial_ordering_then}
 use Rattle.std.proofs.lemmas.List.FromFn.{length-range_with_len, get_or-range_with_len}
 use Rattle.epx_graph.proofs.Common.{is_lt-from_lt}

@@ -5,9 +5,10 @@ use Rattle.std.proofs.Common.{sym, ap, subst, ◌∙◌, arith}
 use Rattle.epx_types.proofs.Common.{cases_lt, length-append, length-replicate, get_or_append_left}
 use Rattle.epx_types.proofs.Common.{get_or-replicate, get_or_past, All-append, All-nil}
 use Rattle.epx_types.proofs.Common.{All-from_get_or, All-contains_itself, All-weaker}
-use Rattle.epx_types.proofs.Common.{slice_get_within, slice_get-get_or, Id, IsRising, Instance}
-use Rattle.epx_types.proofs.Common.{ids_of, DependsOn, Contains-nil, slice_get-from_map}
-use Rattle.epx_types.proofs.Common.{Contains-slice_get, DependsOn-listed, DependsOn-committed}
+use Rattle.epx_types.proofs.Common.{slice_get_within, slice_get-get_or, IsRising, Instance, ids_of}
+use Rattle.epx_types.proofs.Common.{DependsOn, Contains-nil, slice_get-from_map, Contains-slice_get}
+use Rattle.epx_types.proofs.Common.{DependsOn-listed, DependsOn-committed}
+use Rattle.epx_types.specs.declared.id.Id.{Id}
 use Rattle.std.proofs.lemmas.List.{get_or-append_right}
 use Rattle.std.proofs.lemmas.List.Elements.{All-replicate}
 use Rattle.epx_graph.specs.Graphs.{edges_of, IsGraph, graph_over}

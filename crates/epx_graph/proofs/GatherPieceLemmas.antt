@@ -6,7 +6,8 @@ use Rattle.std.specs.Result.{IfOk}
 use Rattle.std.proofs.Math.Nat.{mul-le-mul_right}
 use Rattle.std.proofs.Math.Seq.{take-add}
 use Rattle.epx_types.proofs.Common.{drop-drop, map-append, take_all, All-append, All-nil, All-push}
-use Rattle.epx_types.proofs.Common.{slice_get_within, get_or_from_slice_get, Id, IsRising, Instance}
+use Rattle.epx_types.proofs.Common.{slice_get_within, get_or_from_slice_get, IsRising, Instance}
+use Rattle.epx_types.specs.declared.id.Id.{Id}
 use Rattle.std.proofs.lemmas.List.Concat.{flat_map-append}
 use Rattle.epx_claims.specs.Answered.{AreOrderedAnswers}
 use Rattle.epx_graph.specs.inner.Nodes.{positions_of, missing_of, IsGatheredOf}

@@ -5,9 +5,10 @@ use Rattle.std.proofs.Common.{Contains, All, AllPairs, sym, ap, subst, ◌∙◌
 use Rattle.std.specs.List.{cons_option}
 use Rattle.epx_types.proofs.Common.{length-map, length-append, take_at, drop_at, All-contains}
 use Rattle.epx_types.proofs.Common.{All-contains_itself, All-weaker, AllPairs-filter}
-use Rattle.epx_types.proofs.Common.{slice_get_within, get_or_from_slice_get, Id, Below, IsRising}
+use Rattle.epx_types.proofs.Common.{slice_get_within, get_or_from_slice_get, Below, IsRising}
 use Rattle.epx_types.proofs.Common.{Instance, position_of, IsCommitted, Contains-nil}
 use Rattle.epx_types.proofs.Common.{Contains-flat_map, Contains-slice_get, AllPairs-from_IsRising}
+use Rattle.epx_types.specs.declared.id.Id.{Id}
 use Rattle.std.proofs.lemmas.List.Elements.{filter_map-append}
 use Rattle.epx_types.proofs.lists.ListPositionLemmas.{slice_get-map}
 use Rattle.epx_rows.specs.Rows.{row_of}

@@ -3,12 +3,13 @@ use Rattle.std.proofs.Common.{◌≡◌, ◌⊎◌, ◌∙◌, ◌<◌, ℕ, tru
 use Rattle.std.proofs.Common.{flat_map, Contains, Option, Some, None, slice_get, nat_cmp, Ordering}
 use Rattle.std.proofs.Common.{Less, Equal, Greater, is_lt, refl, sym, ap, subst, inl, inr}
 use Rattle.epx_types.proofs.Common.{nat_cmp_total, length-map, slice_get_within}
-use Rattle.epx_types.proofs.Common.{get_or_from_slice_get, take-append_seam, Id, IsRising, Instance}
+use Rattle.epx_types.proofs.Common.{get_or_from_slice_get, take-append_seam, IsRising, Instance}
 use Rattle.epx_types.proofs.Common.{ids_of, IsCommitted, id_cmp_total, id_cmp-IsAntisymmetric}
 use Rattle.epx_types.proofs.Common.{Contains-flat_map, Contains-from_flat_map, AllPairs-slice_get}
 use Rattle.epx_types.proofs.Common.{AllPairs-from_slice_get, IsRising-from_AllPairs}
 use Rattle.epx_types.proofs.Common.{Contains-Id_cases, list_positions, Contains-list_positions}
 use Rattle.epx_types.proofs.Common.{not_cases, AreThose, rising_list}
+use Rattle.epx_types.specs.declared.id.Id.{Id}
 use Rattle.std.specs.Cmp.{ranked}
 use Rattle.std.specs.Ordering.{MatchOrdering}
 use Rattle.std.specs.FinMap.{nat_cmp-IsAntisymmetric}

@@ -1,9 +1,10 @@
 -- The nodes of a graph and their instances.
 use Rattle.std.proofs.Common.{◌≡◌, ◌↔◌, ℕ, ◌+◌, ◌-◌, ◌<◌, ◌≤◌, List, [], ◌∷◌, length, get_or}
 use Rattle.std.proofs.Common.{slice_get, Some, All, Contains, subst, inl, inr, arith}
-use Rattle.epx_types.proofs.Common.{cases_lt, All-contains, All-get_or, slice_get-get_or, Id, Below}
+use Rattle.epx_types.proofs.Common.{cases_lt, All-contains, All-get_or, slice_get-get_or, Below}
 use Rattle.epx_types.proofs.Common.{Contains-nil, slice_get-from_Contains, Contains-slice_get}
 use Rattle.epx_types.proofs.Common.{rising_positions, rising_position_is_unique}
+use Rattle.epx_types.specs.declared.id.Id.{Id}
 use Rattle.epx_graph.specs.Graphs.{DependencyGraph, edges_of, committed_ids, missing_ids, IsGraph}
 use Rattle.epx_graph.specs.NodePaths.{IsNodePath}
 use Rattle.epx_graph.proofs.RisingPositionLemmas.{slice_get-take, slice_get-from_take}

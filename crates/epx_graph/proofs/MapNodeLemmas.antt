@@ -2,8 +2,9 @@
 use Rattle.std.proofs.Common.{◌≡◌, inl, inr, ℕ, ◌+◌, ◌<◌, ◌≤◌, List, [], ◌∷◌, ◌++◌, length, take}
 use Rattle.std.proofs.Common.{Some, slice_get, Contains, sym, ap, subst, ◌∙◌, arith}
 use Rattle.epx_types.proofs.Common.{cases_lt, length-take, length-map, get_or_append_left}
-use Rattle.epx_types.proofs.Common.{get_or_push, length_push, take_at, drop_at, Id, IsRising}
-use Rattle.epx_types.proofs.Common.{Instance, ids_of, IsCommitted, Contains-slice_get}
+use Rattle.epx_types.proofs.Common.{get_or_push, length_push, take_at, drop_at, IsRising, Instance}
+use Rattle.epx_types.proofs.Common.{ids_of, IsCommitted, Contains-slice_get}
+use Rattle.epx_types.specs.declared.id.Id.{Id}
 use Rattle.epx_rows.specs.Rows.{row_of}
 use Rattle.epx_graph.specs.inner.Nodes.{AreMissingIds, AreNodesOf, ArePositionsOf, AreRowsOf}
 use Rattle.epx_graph.proofs.RisingPositionLemmas.{slice_get-take}

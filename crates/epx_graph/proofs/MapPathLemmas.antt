@@ -1,9 +1,10 @@
 -- Paths of the graph of a map are those of the map.
 use Rattle.std.proofs.Common.{◌≡◌, ◌↔◌, ℕ, ◌<◌, List, [], ◌∷◌, length, slice_get, Some, Contains}
 use Rattle.std.proofs.Common.{◌≤◌, refl, sym, ap, subst, ◌∙◌, inl, inr, arith}
-use Rattle.epx_types.proofs.Common.{cases_lt, length-take, length-map, Id, Below, Instance, ids_of}
+use Rattle.epx_types.proofs.Common.{cases_lt, length-take, length-map, Below, Instance, ids_of}
 use Rattle.epx_types.proofs.Common.{IsCommitted, DependsOn, IsPath, Reaches, slice_get-from_map}
 use Rattle.epx_types.proofs.Common.{Reaches-trans, Reaches-dependency, Contains-Id_cases}
+use Rattle.epx_types.specs.declared.id.Id.{Id}
 use Rattle.epx_graph.specs.Graphs.{DependencyGraph, edges_of, committed_ids}
 use Rattle.epx_graph.specs.GraphOf.{IsGraphOf}
 use Rattle.epx_graph.specs.NodePaths.{IsNodePath, NodeReaches}

@@ -5,12 +5,13 @@ use Rattle.std.proofs.Common.{slice_get, Contains, nat_lt, refl, sym, ap, subst,
 use Rattle.std.proofs.Common.{arith}
 use Rattle.std.specs.List.{position_or_len}
 use Rattle.epx_types.proofs.Common.{is_eq, cases_lt, nat_tests, take_more, map_push, All-contains}
-use Rattle.epx_types.proofs.Common.{filter-append, slice_get_within, get_or_from_slice_get, Id}
-use Rattle.epx_types.proofs.Common.{id_cmp, IsRising, Instance, ids_of, position_of, IsCommitted}
+use Rattle.epx_types.proofs.Common.{filter-append, slice_get_within, get_or_from_slice_get, id_cmp}
+use Rattle.epx_types.proofs.Common.{IsRising, Instance, ids_of, position_of, IsCommitted}
 use Rattle.epx_types.proofs.Common.{id_cmp_total, Contains-filter, Contains-from_filter}
 use Rattle.epx_types.proofs.Common.{Contains-flat_map, Contains-from_flat_map, Contains-from_map}
 use Rattle.epx_types.proofs.Common.{Contains-slice_get, position_of-instance}
 use Rattle.epx_types.proofs.Common.{IsCommitted-from_Contains}
+use Rattle.epx_types.specs.declared.id.Id.{Id}
 use Rattle.std.specs.Cmp.{tied_itself}
 use Rattle.std.proofs.lemmas.List.Elements.{filter_passes}
 use Rattle.std.proofs.lemmas.List.Sums.{fails_before_first}

@@ -1,8 +1,9 @@
 -- The Ids of a rising list on both sides of an Id between two neighbours.
 use Rattle.std.proofs.Common.{◌≡◌, ◌-◌, ◌<◌, ◌≤◌, ℕ, List, length, true, get_or, Some, Ordering}
 use Rattle.std.proofs.Common.{Less, Equal, Greater, is_lt, inl, inr, subst, arith}
-use Rattle.epx_types.proofs.Common.{ordering_then, cases_lt, slice_get-get_or, Id, Below, IsRising}
+use Rattle.epx_types.proofs.Common.{ordering_then, cases_lt, slice_get-get_or, Below, IsRising}
 use Rattle.epx_types.proofs.Common.{id_cmp_total, AllPairs-from_IsRising, below_trans}
+use Rattle.epx_types.specs.declared.id.Id.{Id}
 use Rattle.std.specs.Ordering.{partial_ordering_then, is_some_and}
 
 -- `<` of two fields, from their comparisons

@@ -5,13 +5,14 @@ use Rattle.std.proofs.Common.{ap, ◌∙◌, subst, inl, inr, append-nil, arith}
 use Rattle.epx_types.proofs.Common.{cases_lt, append_assoc, length_push, nil_from_length}
 use Rattle.epx_types.proofs.Common.{get_or_append_left, get_or_push, get_or_read, take_all}
 use Rattle.epx_types.proofs.Common.{take_more, filter-append, AllPairs-filter, slice_get_within}
-use Rattle.epx_types.proofs.Common.{slice_get-get_or, Id, Below, IsRising, Instance, ids_of}
+use Rattle.epx_types.proofs.Common.{slice_get-get_or, Below, IsRising, Instance, ids_of}
 use Rattle.epx_types.proofs.Common.{position_of, is_among, without_deps, remaining, remaining_ids}
 use Rattle.epx_types.proofs.Common.{Contains-remaining_iff, IsRising-remaining, is_among_cases}
 use Rattle.epx_types.proofs.Common.{not_among, remaining-nil, remaining_skip, remaining_more}
 use Rattle.epx_types.proofs.Common.{remaining_position, Contains-nil, Contains-slice_get}
 use Rattle.epx_types.proofs.Common.{position_of-instance, position_of-found, AllPairs-from_IsRising}
 use Rattle.epx_types.proofs.Common.{IsRising-from_AllPairs}
+use Rattle.epx_types.specs.declared.id.Id.{Id}
 use Rattle.epx_types.proofs.lists.ListPositionLemmas.{slice_get-map}
 use Rattle.epx_graph.specs.inner.Remainder.{RemainderView, rest_of, IsIdStateOf, IsAtPosition}
 use Rattle.epx_graph.specs.inner.Remainder.{IsPositionLeft, ArePositionTables}
@@ -19,8 +20,7 @@ use Rattle.epx_graph.specs.inner.Nodes.{missing_of, positions_of}
 use Rattle.epx_graph.specs.declared.left.IdState.{IdState}
 use Rattle.epx_graph.specs.declared.left.IdState.TheVariants as found
 use Rattle.epx_graph.proofs.GatherRowLemmas.{positions_skip, positions_take}
-use Rattle.epx_graph.proofs.MissingIdLemmas.{no_position, none_position, lacking_skip}
-use Rattle.epx_graph.proofs.MissingIdLemmas.{lacking_take}
+use Rattle.epx_graph.proofs.MissingIdLemmas.{no_position, none_position, lacking_skip, lacking_take}
 
 -- ---- the Ids of a list that are not done
 

@@ -2,9 +2,10 @@
 use Rattle.std.proofs.Common.{◌≡◌, ℕ, ◌+◌, ◌-◌, ◌<◌, ◌≤◌, List, take, drop, get_or, slice_get, Some}
 use Rattle.std.proofs.Common.{sym, ap, subst, ◌∙◌, inl, inr, arith}
 use Rattle.epx_types.proofs.Common.{cases_lt, length-take, length-drop, get_or-take, get_or-drop}
-use Rattle.epx_types.proofs.Common.{slice_get_within, slice_get-get_or, get_or_from_slice_get, Id}
+use Rattle.epx_types.proofs.Common.{slice_get_within, slice_get-get_or, get_or_from_slice_get}
 use Rattle.epx_types.proofs.Common.{Below, IsRising, below_irrefl, below_asymm, id_cmp_total}
 use Rattle.epx_types.proofs.Common.{rising_positions}
+use Rattle.epx_types.specs.declared.id.Id.{Id}
 
 -- ---- what is taken and dropped
 

@@ -6,13 +6,14 @@ use Rattle.std.specs.List.{cons_option}
 use Rattle.epx_types.proofs.Common.{cases_lt, length-map, take_more, All-get_or, All-contains}
 use Rattle.epx_types.proofs.Common.{Contains-append_left, Contains-append_right}
 use Rattle.epx_types.proofs.Common.{Contains-append_cases, Contains-push, Contains-push_cases}
-use Rattle.epx_types.proofs.Common.{slice_get_within, slice_get-get_or, Id, Below, IsRising}
-use Rattle.epx_types.proofs.Common.{Instance, ids_of, position_of, IsCommitted, Contains-nil}
-use Rattle.epx_types.proofs.Common.{Contains-head, Contains-cons, Contains-cons_cases}
-use Rattle.epx_types.proofs.Common.{Contains-filter, Contains-from_filter, Contains-slice_get}
+use Rattle.epx_types.proofs.Common.{slice_get_within, slice_get-get_or, Below, IsRising, Instance}
+use Rattle.epx_types.proofs.Common.{ids_of, position_of, IsCommitted, Contains-nil, Contains-head}
+use Rattle.epx_types.proofs.Common.{Contains-cons, Contains-cons_cases, Contains-filter}
+use Rattle.epx_types.proofs.Common.{Contains-from_filter, Contains-slice_get}
 use Rattle.epx_types.proofs.Common.{slice_get-from_Contains, AllPairs-head, AllPairs-tail}
 use Rattle.epx_types.proofs.Common.{AllPairs-slice_get, AllPairs-from_parts, AllPairs-append}
 use Rattle.epx_types.proofs.Common.{rising_position_is_unique, position_of-instance}
+use Rattle.epx_types.specs.declared.id.Id.{Id}
 use Rattle.epx_types.proofs.lists.ListPositionLemmas.{slice_get-map}
 use Rattle.epx_graph.specs.inner.Nodes.{positions_of, missing_of, AreNodesOf, ArePositionsOf}
 use Rattle.epx_graph.proofs.MissingIdLemmas.{no_position, lacks-from_missing, lacking_missing}

@@ -4,8 +4,7 @@ use Rattle.std.proofs.Common.{cond, List, [], ◌∷◌, ◌++◌, length, take,
 use Rattle.std.proofs.Common.{Option, Some, None, is_some, Contains, flat_map, refl, sym, ap, subst}
 use Rattle.std.proofs.Common.{◌∙◌, arith}
 use Rattle.epx_types.proofs.Common.{cases_lt, cases_eq, take_more, length-set, length_push}
-use Rattle.epx_types.proofs.Common.{get_or-set_same, get_or-set_other}
-use Rattle.epx_types.proofs.Common.{append-nil, length-drop}
+use Rattle.epx_types.proofs.Common.{get_or-set_same, get_or-set_other, append-nil, length-drop}
 use Rattle.epx_types.proofs.Common.{nil_from_length, take_all, Contains-append_left}
 use Rattle.epx_types.proofs.Common.{Contains-append_right, Contains-append_cases, Contains-push}
 use Rattle.epx_types.proofs.Common.{Contains-push_cases, count_by-le-length, Contains-nil}

@@ -2,10 +2,11 @@
 use Rattle.std.proofs.Common.{◌≡◌, inl, inr, ℕ, ◌+◌, ◌<◌, ◌≤◌, List, [], ◌∷◌, ◌++◌, Option, Some}
 use Rattle.std.proofs.Common.{None, slice_get, Contains, refl, sym, ap, subst, ◌∙◌, arith}
 use Rattle.epx_types.proofs.Common.{cases_lt, map_push, Contains-append_left, Contains-push}
-use Rattle.epx_types.proofs.Common.{Contains-push_cases, slice_get_within, Id, Below, UpTo}
-use Rattle.epx_types.proofs.Common.{IsRising, Instance, Reaches, WaitsFor, Waiting, waiting_ids}
+use Rattle.epx_types.proofs.Common.{Contains-push_cases, slice_get_within, Below, UpTo, IsRising}
+use Rattle.epx_types.proofs.Common.{Instance, Reaches, WaitsFor, Waiting, waiting_ids}
 use Rattle.epx_types.proofs.Common.{IsWaitingList, Contains-nil, Contains-from_map, IsRising-push}
 use Rattle.epx_types.proofs.Common.{UpTo-antisymm}
+use Rattle.epx_types.specs.declared.id.Id.{Id}
 use Rattle.epx_graph.specs.Graphs.{DependencyGraph, edges_of, IsGraph}
 use Rattle.epx_graph.specs.GraphOf.{IsGraphOf}
 use Rattle.epx_graph.specs.NodePaths.{NodeReaches}

@@ -1,13 +1,14 @@
 -- Executing component by component is lawful.
 use Rattle.std.proofs.Common.{◌≡◌, ◌≢◌, List, [], ◌∷◌, Contains, AllPairs, true, sym, ◌∙◌, subst}
 use Rattle.std.proofs.Common.{subst₂, inl, inr, arith, is_lt, nat_cmp}
-use Rattle.epx_types.proofs.Common.{flat_map, ordering_then, Id, id_cmp, IsRising, Instance, ids_of}
+use Rattle.epx_types.proofs.Common.{flat_map, ordering_then, id_cmp, IsRising, Instance, ids_of}
 use Rattle.epx_types.proofs.Common.{InOneComponent, Before, SequenceBefore, IsLawful, Reaches}
 use Rattle.epx_types.proofs.Common.{IsRising-same, IsReady-reached, AllPairs-from_slice_get}
 use Rattle.epx_types.proofs.Common.{AllPairs-slice_get, AllPairs-append, AllPairs-head}
 use Rattle.epx_types.proofs.Common.{AllPairs-tail, Contains-slice_get, Contains-from_flat_map}
 use Rattle.epx_types.proofs.Common.{Contains-head, Contains-cons, below_asymm, Before-cases}
 use Rattle.epx_types.proofs.Common.{sequence_cmp_total}
+use Rattle.epx_types.specs.declared.id.Id.{Id}
 use Rattle.epx_laws.specs.AlgorithmLaws.{all_members, AreSortedComponents}
 
 -- no two instances are each before the other by sequence number

@@ -2,11 +2,12 @@
 use Rattle.std.proofs.Common.{◌≡◌, ◌∙◌, ◌+◌, ◌<◌, ◌++◌, ℕ, zero, suc, List, [], ◌∷◌, length}
 use Rattle.std.proofs.Common.{flat_map, slice_index, refl, sym, ap, ap₂, subst, inl, inr, arith}
 use Rattle.std.specs.List.{range_with_len}
-use Rattle.epx_types.proofs.Common.{cases_lt, flat_map_more, Op, Before, AreLevels, level_count}
+use Rattle.epx_types.proofs.Common.{cases_lt, flat_map_more, Before, AreLevels, level_count}
 use Rattle.epx_types.proofs.Common.{level_positions, IsRearrangement, by_level, levels-climb}
 use Rattle.epx_types.proofs.Common.{Contains-from_by_level, Contains-by_level}
 use Rattle.epx_types.proofs.Common.{Contains-level_positions, by_level-distinct, level_below_count}
 use Rattle.epx_types.proofs.Common.{Before-across, Before-append_left}
+use Rattle.epx_types.specs.declared.op.Op.{Op}
 use Rattle.epx_laws.specs.LevelLaws.{AreByLevel}
 
 pub by_level_rearranges : (commands : List (List Op)) (levels positions : List ℕ)

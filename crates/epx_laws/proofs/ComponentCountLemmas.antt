@@ -1,13 +1,13 @@
 -- An execution order has as many components as leaders.
 use Rattle.std.proofs.Common.{◌≡◌, ◌≢◌, Bool, true, List, map, filter, length, Contains, AllPairs}
 use Rattle.std.proofs.Common.{is_eq, sym, ap, ◌∙◌, subst}
-use Rattle.epx_types.proofs.Common.{Equal-is, length-map, AllPairs-filter, Id, id_cmp, Instance}
-use Rattle.epx_types.proofs.Common.{Ranked, ranked_ids, IsExecutionOrder, component_count}
-use Rattle.epx_types.proofs.Common.{id_cmp_total, id_cmp-IsAntisymmetric, Contains-map}
-use Rattle.epx_types.proofs.Common.{Contains-from_map, Contains-filter, Contains-from_filter}
-use Rattle.epx_types.proofs.Common.{passes-from_filter, slice_get-from_map, AllPairs-slice_get}
-use Rattle.epx_types.proofs.Common.{AllPairs-from_slice_get, IsExecutionOrder-once}
-use Rattle.epx_types.proofs.Common.{IsExecutionOrder-leaders}
+use Rattle.epx_types.proofs.Common.{Equal-is, length-map, AllPairs-filter, id_cmp, Instance, Ranked}
+use Rattle.epx_types.proofs.Common.{ranked_ids, IsExecutionOrder, component_count, id_cmp_total}
+use Rattle.epx_types.proofs.Common.{id_cmp-IsAntisymmetric, Contains-map, Contains-from_map}
+use Rattle.epx_types.proofs.Common.{Contains-filter, Contains-from_filter, passes-from_filter}
+use Rattle.epx_types.proofs.Common.{slice_get-from_map, AllPairs-slice_get, AllPairs-from_slice_get}
+use Rattle.epx_types.proofs.Common.{IsExecutionOrder-once, IsExecutionOrder-leaders}
+use Rattle.epx_types.specs.declared.id.Id.{Id}
 use Rattle.std.specs.Cmp.{tied_itself}
 use Rattle.std.proofs.lemmas.List.Sums.{length-filter}
 use Rattle.epx_types.proofs.lists.ListPositionLemmas.{slice_get-map}

@@ -1,11 +1,12 @@
 -- What is ready and lawful in a map is so in every map that contains it, with the same commands.
 use Rattle.std.proofs.Common.{◌≡◌, ◌∙◌, List, Contains, sym, ap, subst}
-use Rattle.epx_types.proofs.Common.{Id, IsRising, Instance, ids_of, instance_of, ops_or_empty}
+use Rattle.epx_types.proofs.Common.{IsRising, Instance, ids_of, instance_of, ops_or_empty}
 use Rattle.epx_types.proofs.Common.{commands_in, IsCommitted, DependsOn, Reaches, IsReady}
 use Rattle.epx_types.proofs.Common.{SequenceBefore, IsLawfulFor, IsLawful, IsRising-same}
 use Rattle.epx_types.proofs.Common.{instance_of_iff, instance_of-found, instance_of-finds}
 use Rattle.epx_types.proofs.Common.{IsCommitted-from_Contains, Contains-from_map, map-agree}
 use Rattle.epx_types.proofs.Common.{Reaches-refl, Reaches-trans, Reaches-dependency, Reaches-passes}
+use Rattle.epx_types.specs.declared.id.Id.{Id}
 
 module _ (m more : List Instance) (rising : IsRising (ids_of more))
     (within : (e : Instance) → Contains m e → Contains more e) where

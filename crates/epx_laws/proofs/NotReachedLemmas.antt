@@ -2,12 +2,13 @@
 -- is not covered, two instances that conflict may come in either order.
 use Rattle.std.proofs.Common.{◌≡◌, ◌≢◌, ◌⊎◌, Bool, true, false, not, List, ◌++◌, filter, Contains}
 use Rattle.std.proofs.Common.{refl, inl, inr}
-use Rattle.epx_types.proofs.Common.{AllPairs-filter, Id, IsRising, Instance, ids_of, is_among}
+use Rattle.epx_types.proofs.Common.{AllPairs-filter, IsRising, Instance, ids_of, is_among}
 use Rattle.epx_types.proofs.Common.{remaining_ids, IsCovered, Before, IsLawful, IsLawfulFor}
 use Rattle.epx_types.proofs.Common.{Reaches, IsReady, Reaches-cases, IsReady-reached, Reaches-refl}
 use Rattle.epx_types.proofs.Common.{Reaches-trans, Before-across, Before-filter, Contains-filter}
 use Rattle.epx_types.proofs.Common.{Contains-from_filter, passes-from_filter}
 use Rattle.epx_types.proofs.Common.{IsLawful-part_and_rest, passes_rest, Before-not_both}
+use Rattle.epx_types.specs.declared.id.Id.{Id}
 use Rattle.epx_laws.specs.OrderLaws.{ConflictsAreOrdered}
 use Rattle.epx_laws.proofs.PrefixLemmas.{lawful_order}
 

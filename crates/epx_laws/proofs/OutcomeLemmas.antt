@@ -3,12 +3,13 @@ use Rattle.std.proofs.Common.{◌≡◌, ◌≢◌, ◌⊎◌, ◌↔◌, ◌+�
 use Rattle.std.proofs.Common.{subst, inl, inr, arith}
 use Rattle.epx_types.proofs.Common.{is_eq, length-map, length-append, count_by-le-length}
 use Rattle.epx_types.proofs.Common.{Contains-append_left, Contains-append_right}
-use Rattle.epx_types.proofs.Common.{Contains-append_cases, Id, id_cmp, IsRising, Instance, ids_of}
+use Rattle.epx_types.proofs.Common.{Contains-append_cases, id_cmp, IsRising, Instance, ids_of}
 use Rattle.epx_types.proofs.Common.{IsCommitted, Reaches, IsReady, WaitsFor, Ranked}
 use Rattle.epx_types.proofs.Common.{IsExecutionOrder, ranked_ids, Waiting, IsWaitingList}
 use Rattle.epx_types.proofs.Common.{waiting_ids, IsReady-not_waiting, AllPairs-append, Contains-map}
 use Rattle.epx_types.proofs.Common.{Contains-from_map, rising_once, IsExecutionOrder-IsLawful}
 use Rattle.epx_types.proofs.Common.{ready_or_waits, fewer}
+use Rattle.epx_types.specs.declared.id.Id.{Id}
 use Rattle.epx_laws.specs.OutcomeLaws.{EachHasOneOutcome}
 
 -- ---- outcomes

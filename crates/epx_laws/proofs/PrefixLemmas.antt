@@ -2,12 +2,14 @@
 use Rattle.std.proofs.Common.{◌≡◌, ◌∙◌, ℕ, ◌<◌, List, [], ◌++◌, length, Contains, Some}
 use Rattle.std.proofs.Common.{slice_get, get_or, sym, ap, subst, arith}
 use Rattle.epx_types.proofs.Common.{length-map, map-append, append-nil, slice_get_within}
-use Rattle.epx_types.proofs.Common.{slice_get-get_or, Id, Abort, IsRising, Instance, Contents}
-use Rattle.epx_types.proofs.Common.{ids_of, instance_of, ops_or_empty, commands_in, IsCovered}
-use Rattle.epx_types.proofs.Common.{execute, remaining_ids, ranked_ids, IsLawfulPrefix, IsLawful}
+use Rattle.epx_types.proofs.Common.{slice_get-get_or, IsRising, Instance, Contents, ids_of}
+use Rattle.epx_types.proofs.Common.{instance_of, ops_or_empty, commands_in, IsCovered, execute}
+use Rattle.epx_types.proofs.Common.{remaining_ids, ranked_ids, IsLawfulPrefix, IsLawful}
 use Rattle.epx_types.proofs.Common.{IsLawfulFor, Reaches, IsReady, length-replies, execute-append}
 use Rattle.epx_types.proofs.Common.{slice_get-append_left, IsExecutionOrder-IsLawful, reply-lawful}
 use Rattle.epx_types.proofs.Common.{IsLawful-part_and_rest, execution_order_exists}
+use Rattle.epx_types.specs.declared.id.Id.{Id}
+use Rattle.epx_types.specs.declared.reply.Reply.TheVariants.{Abort}
 
 -- each committed map has a lawful order
 pub lawful_order : (m : List Instance) → IsRising (ids_of m) → (ids : List Id) × IsLawful m ids

@@ -1,8 +1,9 @@
 -- A remaining instance is ready in the remaining map exactly if it is ready in the whole map.
 use Rattle.std.proofs.Common.{◌↔◌, List, [], ◌∷◌, Contains, subst, inl, inr}
-use Rattle.epx_types.proofs.Common.{Id, Instance, IsCommitted, remaining, IsPath, Reaches, IsReady}
+use Rattle.epx_types.proofs.Common.{Instance, IsCommitted, remaining, IsPath, Reaches, IsReady}
 use Rattle.epx_types.proofs.Common.{Contains-remaining_iff, DependsOn-remaining, is_among_cases}
 use Rattle.epx_types.proofs.Common.{Reaches-trans, Reaches-dependency}
+use Rattle.epx_types.specs.declared.id.Id.{Id}
 
 module _ (done : List Id) (m : List Instance) where
   -- ---- a remaining instance reaches what it reached before and is not done

@@ -1,10 +1,11 @@
 -- A remaining instance waits for the same instance in the remaining map as in the whole map, also
 -- if the remaining map is that of other logs.
 use Rattle.std.proofs.Common.{◌↔◌, List, [], ◌∷◌, Contains, refl, subst, inl, inr}
-use Rattle.epx_types.proofs.Common.{Id, Instance, IsCommitted, remaining, IsPath, Reaches}
-use Rattle.epx_types.proofs.Common.{HasRemaining, IsReady, WaitsFor, Reaches-trans}
-use Rattle.epx_types.proofs.Common.{Reaches-dependency, Contains-Id_cases, Contains-remaining_iff}
-use Rattle.epx_types.proofs.Common.{DependsOn-remaining, from_remaining, not_done, Contains-left}
+use Rattle.epx_types.proofs.Common.{Instance, IsCommitted, remaining, IsPath, Reaches, HasRemaining}
+use Rattle.epx_types.proofs.Common.{IsReady, WaitsFor, Reaches-trans, Reaches-dependency}
+use Rattle.epx_types.proofs.Common.{Contains-Id_cases, Contains-remaining_iff, DependsOn-remaining}
+use Rattle.epx_types.proofs.Common.{from_remaining, not_done, Contains-left}
+use Rattle.epx_types.specs.declared.id.Id.{Id}
 use Rattle.epx_laws.proofs.RemainingReadinessLemmas.{Reaches-from_remaining}
 use Rattle.epx_laws.proofs.SameGraphLemmas.{IsInGraphOf, WaitsFor-same}
 

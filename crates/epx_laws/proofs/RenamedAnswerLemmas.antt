@@ -1,7 +1,8 @@
 -- Different replies and different contents differ under their new names.
 use Rattle.std.proofs.Common.{[], ◌∷◌, map, Some, None, refl, sym, ap, ap₂, ◌∙◌}
 use Rattle.std.specs.FinMap as contents
-use Rattle.epx_types.proofs.Common.{Values, Abort, same_contents}
+use Rattle.epx_types.proofs.Common.{same_contents}
+use Rattle.epx_types.specs.declared.reply.Reply.TheVariants.{Values, Abort}
 use Rattle.epx_laws.specs.Renaming.{IsInjective, Renaming, renamed_value, renamed_reply}
 use Rattle.epx_laws.specs.Renaming.{renamed_contents}
 use Rattle.epx_laws.proofs.RenamedContentsLemmas.{get-renamed}

@@ -1,11 +1,12 @@
 -- Renamed commands conflict exactly if the commands do, so they have the same levels.
 use Rattle.std.proofs.Common.{◌≡◌, ◌↔◌, inl, inr, ℕ, ◌<◌, zero, suc, List, [], ◌∷◌, ◌++◌, map}
 use Rattle.std.proofs.Common.{flat_map, get_or, length, Contains, refl, sym, ap₂, ◌∙◌, subst}
-use Rattle.epx_types.proofs.Common.{map-append, length-map, Op, Get, Put, Del, Add, Is, Floor, Copy}
-use Rattle.epx_types.proofs.Common.{rising_keys, touched_by, written_by, touched_keys, written_keys}
-use Rattle.epx_types.proofs.Common.{Conflict, ConflictAt, Climbs, IsLevel, AreLevels, Contains-map}
-use Rattle.epx_types.proofs.Common.{Contains-from_map, Contains-rising_keys}
-use Rattle.epx_types.proofs.Common.{Contains-from_rising_keys}
+use Rattle.epx_types.proofs.Common.{map-append, length-map, rising_keys, touched_by, written_by}
+use Rattle.epx_types.proofs.Common.{touched_keys, written_keys, Conflict, ConflictAt, Climbs}
+use Rattle.epx_types.proofs.Common.{IsLevel, AreLevels, Contains-map, Contains-from_map}
+use Rattle.epx_types.proofs.Common.{Contains-rising_keys, Contains-from_rising_keys}
+use Rattle.epx_types.specs.declared.op.Op.{Op}
+use Rattle.epx_types.specs.declared.op.Op.TheVariants.{Get, Put, Del, Add, Is, Floor, Copy}
 use Rattle.epx_laws.specs.Renaming.{Renaming, renamed_op, renamed_command, renamed_commands}
 
 -- ---- levels of commands of which the same conflict

@@ -2,10 +2,11 @@
 use Rattle.std.proofs.Common.{◌≡◌, ℕ, suc, ℤ, Bool, true, false, List, [], ◌∷◌, ◌++◌, map, Contains}
 use Rattle.std.proofs.Common.{Option, Some, None, refl, sym, ap, ◌∙◌, if◌then◌else◌}
 use Rattle.std.specs.FinMap as contents
-use Rattle.epx_types.proofs.Common.{map-append, Op, Get, Put, Del, Add, Is, Floor, Copy, Contents}
-use Rattle.epx_types.proofs.Common.{assign, same_value, operate, Outcome, unless_aborted}
-use Rattle.epx_types.proofs.Common.{operate_all, command_on, Execution, execute, Contains-head}
-use Rattle.epx_types.proofs.Common.{Contains-cons}
+use Rattle.epx_types.proofs.Common.{map-append, Contents, assign, same_value, operate, Outcome}
+use Rattle.epx_types.proofs.Common.{unless_aborted, operate_all, command_on, Execution, execute}
+use Rattle.epx_types.proofs.Common.{Contains-head, Contains-cons}
+use Rattle.epx_types.specs.declared.op.Op.{Op}
+use Rattle.epx_types.specs.declared.op.Op.TheVariants.{Get, Put, Del, Add, Is, Floor, Copy}
 use Rattle.epx_laws.specs.Renaming.{Renaming, renamed_value, renamed_op, renamed_command}
 use Rattle.epx_laws.specs.Renaming.{renamed_commands, renamed_reply, renamed_contents}
 use Rattle.epx_laws.specs.Renaming.{renamed_execution, is_arithmetic, HasNoArithmetic}

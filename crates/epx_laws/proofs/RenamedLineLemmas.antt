@@ -1,11 +1,12 @@
 -- Renamed lines commit the renamed map, and have the same first disagreement.
 use Rattle.std.proofs.Common.{◌≡◌, ◌↔◌, List, Contains, sym, ap, ◌∙◌, subst}
-use Rattle.epx_types.proofs.Common.{Id, Get, Put, Del, Add, Is, Floor, Copy, UpTo, IsRising}
-use Rattle.epx_types.proofs.Common.{Instance, Placed, Earlier, Differ, IsFirstDisagreement}
-use Rattle.epx_types.proofs.Common.{IsCommittedBy, Contains-map, Contains-from_map}
-use Rattle.epx_laws.specs.Renaming.{IsInjective, Renaming, renamed_op}
-use Rattle.epx_laws.specs.Renaming.{renamed_instance, renamed_map, renamed_line}
-use Rattle.epx_laws.specs.Renaming.{renamed_lines}
+use Rattle.epx_types.proofs.Common.{UpTo, IsRising, Instance, Placed, Earlier, Differ}
+use Rattle.epx_types.proofs.Common.{IsFirstDisagreement, IsCommittedBy, Contains-map}
+use Rattle.epx_types.proofs.Common.{Contains-from_map}
+use Rattle.epx_types.specs.declared.id.Id.{Id}
+use Rattle.epx_types.specs.declared.op.Op.TheVariants.{Get, Put, Del, Add, Is, Floor, Copy}
+use Rattle.epx_laws.specs.Renaming.{IsInjective, Renaming, renamed_op, renamed_instance}
+use Rattle.epx_laws.specs.Renaming.{renamed_map, renamed_line, renamed_lines}
 use Rattle.epx_laws.proofs.RenamedAnswerLemmas.{map-IsInjective, renamed_value-IsInjective}
 use Rattle.epx_laws.proofs.RenamedMapLemmas.{ids_of-renamed}
 

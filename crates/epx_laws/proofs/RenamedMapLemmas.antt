@@ -1,11 +1,13 @@
 -- A renamed map has the graph and the orders of the map, and its commands are the renamed ones.
 use Rattle.std.proofs.Common.{◌≡◌, ◌≢◌, ◌⊎◌, inl, inr, true, false, cond, List, [], ◌∷◌, Contains}
 use Rattle.std.proofs.Common.{Option, Some, None, refl, sym, ap, ap₂, ◌∙◌, subst}
-use Rattle.epx_types.proofs.Common.{is_eq, cases_Bool, Id, Op, id_cmp, Instance, Contents, ids_of}
+use Rattle.epx_types.proofs.Common.{is_eq, cases_Bool, id_cmp, Instance, Contents, ids_of}
 use Rattle.epx_types.proofs.Common.{instance_of, ops_or_empty, commands_in, execute, Reaches}
 use Rattle.epx_types.proofs.Common.{IsReady, Conflict, IsCovered, is_among, remaining, without_deps}
 use Rattle.epx_types.proofs.Common.{Ranked, ranked_ids, Contains-nil, Contains-map}
 use Rattle.epx_types.proofs.Common.{Contains-from_map, instance_of-found, from_remaining}
+use Rattle.epx_types.specs.declared.id.Id.{Id}
+use Rattle.epx_types.specs.declared.op.Op.{Op}
 use Rattle.std.specs.FinMap as contents
 use Rattle.epx_laws.specs.Renaming.{Renaming, renamed_command, renamed_commands, renamed_contents}
 use Rattle.epx_laws.specs.Renaming.{renamed_execution, renamed_instance, renamed_map}

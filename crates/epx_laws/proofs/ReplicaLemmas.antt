@@ -3,18 +3,20 @@ use Rattle.std.proofs.Common.{◌≡◌, ◌≢◌, ◌↔◌, ◌∙◌, ℕ, �
 use Rattle.std.proofs.Common.{Some, slice_get, get_or, append_assoc, sym, ap, subst, inl, inr}
 use Rattle.std.proofs.Common.{arith}
 use Rattle.epx_types.proofs.Common.{length-map, Contains-append_left, slice_get_within}
-use Rattle.epx_types.proofs.Common.{slice_get-get_or, Id, Op, IsRising, Instance, Contents, ids_of}
+use Rattle.epx_types.proofs.Common.{slice_get-get_or, IsRising, Instance, Contents, ids_of}
 use Rattle.epx_types.proofs.Common.{instance_of, commands_in, ops_or_empty, Conflict, IsCovered}
 use Rattle.epx_types.proofs.Common.{remaining_ids, execute, IsLawfulPrefix, Before, IsLawful}
-use Rattle.epx_types.proofs.Common.{Reaches, IsReady, instance_of_iff, length-replies}
-use Rattle.epx_types.proofs.Common.{IsRearranged, execute-rearranged, Once-from_AllPairs}
-use Rattle.epx_types.proofs.Common.{Precedes-from_Before, AllPairs-Precedes, IsReady-reached}
-use Rattle.epx_types.proofs.Common.{Before-append_left, Before-from_Precedes, slice_get-append_left}
+use Rattle.epx_types.proofs.Common.{Reaches, IsReady, instance_of_iff, length-replies, IsRearranged}
+use Rattle.epx_types.proofs.Common.{execute-rearranged, Once-from_AllPairs, Precedes-from_Before}
+use Rattle.epx_types.proofs.Common.{AllPairs-Precedes, IsReady-reached, Before-append_left}
+use Rattle.epx_types.proofs.Common.{Before-from_Precedes, slice_get-append_left}
 use Rattle.epx_types.proofs.Common.{slice_get-from_Contains, Contains-slice_get}
-use Rattle.epx_types.proofs.Common.{AllPairs-from_slice_get, AllPairs-slice_get}
-use Rattle.epx_types.proofs.Common.{Contains-from_map, Before-in_first, Before-in_second}
-use Rattle.epx_types.proofs.Common.{Before-alike_reaching, Before-alike_reached, same_position}
-use Rattle.epx_types.proofs.Common.{IsLawful-part_and_rest, reply_function}
+use Rattle.epx_types.proofs.Common.{AllPairs-from_slice_get, AllPairs-slice_get, Contains-from_map}
+use Rattle.epx_types.proofs.Common.{Before-in_first, Before-in_second, Before-alike_reaching}
+use Rattle.epx_types.proofs.Common.{Before-alike_reached, same_position, IsLawful-part_and_rest}
+use Rattle.epx_types.proofs.Common.{reply_function}
+use Rattle.epx_types.specs.declared.id.Id.{Id}
+use Rattle.epx_types.specs.declared.op.Op.{Op}
 use Rattle.epx_laws.specs.GrowthLaws.{IsWithin}
 use Rattle.epx_laws.specs.ReplicaLaws.{HasExecuted}
 use Rattle.epx_laws.proofs.PrefixLemmas.{lawful_order, reply-prefix}

@@ -1,12 +1,13 @@
 -- Two maps whose instances differ in their operations alone have the same graph, the same ready
 -- and waiting instances, and the same orders.
 use Rattle.std.proofs.Common.{◌≡◌, ℕ, List, [], ◌∷◌, Contains, is_lt, nat_cmp, sym, ap₂, ◌∙◌, subst}
-use Rattle.epx_types.proofs.Common.{ordering_then, Id, id_cmp, Instance, IsCommitted, DependsOn}
+use Rattle.epx_types.proofs.Common.{ordering_then, id_cmp, Instance, IsCommitted, DependsOn}
 use Rattle.epx_types.proofs.Common.{Reaches, IsReady, WaitsFor, Waiting, IsWaitingList}
 use Rattle.epx_types.proofs.Common.{InOneComponent, IsLeader, Descends, IsDepth, Ranked, IsRanked}
 use Rattle.epx_types.proofs.Common.{IsExecutionOrder, SequenceBefore, IsLawful, Contains-from_map}
 use Rattle.epx_types.proofs.Common.{IsCommitted-from_Contains, Reaches-refl, Reaches-trans}
 use Rattle.epx_types.proofs.Common.{Reaches-dependency, Reaches-passes}
+use Rattle.epx_types.specs.declared.id.Id.{Id}
 
 -- each instance of m is in n, but for its operations
 abbrev pub IsInGraphOf : List Instance → List Instance → Type 0

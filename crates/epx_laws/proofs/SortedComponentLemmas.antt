@@ -3,10 +3,10 @@ use Rattle.std.proofs.Common.{◌≡◌, ◌≢◌, ◌<◌, ◌∙◌, ℕ, Boo
 use Rattle.std.proofs.Common.{AllPairs, Some, slice_get, sym, ap, ap₂, subst, subst₂, inl, inr}
 use Rattle.std.proofs.Common.{is_lt, nat_cmp, Equal}
 use Rattle.epx_types.proofs.Common.{is_eq, ordering_then, Equal-is, nat_cmp_total, AllPairs-filter}
-use Rattle.epx_types.proofs.Common.{Id, id_cmp, IsRising, Instance, ids_of, InOneComponent}
-use Rattle.epx_types.proofs.Common.{IsLeader, Ranked, RanksBelow, IsExecutionOrder, ranked_ids}
-use Rattle.epx_types.proofs.Common.{Before, SequenceBefore, IsLawful, Reaches, IsReady}
-use Rattle.epx_types.proofs.Common.{Reaches-cases, IsLeader-along, IsLeader-unique, Reaches-trans}
+use Rattle.epx_types.proofs.Common.{id_cmp, IsRising, Instance, ids_of, InOneComponent, IsLeader}
+use Rattle.epx_types.proofs.Common.{Ranked, RanksBelow, IsExecutionOrder, ranked_ids, Before}
+use Rattle.epx_types.proofs.Common.{SequenceBefore, IsLawful, Reaches, IsReady, Reaches-cases}
+use Rattle.epx_types.proofs.Common.{IsLeader-along, IsLeader-unique, Reaches-trans}
 use Rattle.epx_types.proofs.Common.{InOneComponent-symm, InOneComponent-trans, IsDepth-along}
 use Rattle.epx_types.proofs.Common.{IsDepth-unique, id_cmp_total, id_cmp-IsAntisymmetric}
 use Rattle.epx_types.proofs.Common.{AllPairs-from_slice_get, AllPairs-slice_get, Contains-slice_get}
@@ -16,6 +16,7 @@ use Rattle.epx_types.proofs.Common.{Contains-from_flat_map, passes-from_filter, 
 use Rattle.epx_types.proofs.Common.{IsExecutionOrder-IsLawful, IsExecutionOrder-ranked}
 use Rattle.epx_types.proofs.Common.{Before-differ, Before-in_first, Before-not_both}
 use Rattle.epx_types.proofs.Common.{execution_order_exists}
+use Rattle.epx_types.specs.declared.id.Id.{Id}
 use Rattle.std.specs.Cmp.{tied_itself}
 use Rattle.epx_laws.specs.AlgorithmLaws.{all_members, AreSortedComponents}
 use Rattle.epx_laws.proofs.ComponentCountLemmas.{leads, leaders_of, leaders_of-lead}

@@ -1,9 +1,10 @@
 -- Instances with lower sequence numbers come first.
 use Rattle.std.proofs.Common.{◌≡◌, ◌<◌, ◌++◌, Bool, true, List, Contains, Less, nat_cmp, refl, inl}
 use Rattle.std.proofs.Common.{inr}
-use Rattle.epx_types.proofs.Common.{nat_cmp_is, Contains-append_left, Id, Instance, Conflict}
-use Rattle.epx_types.proofs.Common.{Before, IsLawful, IsLawfulPrefix, Reaches, Reaches-cases}
+use Rattle.epx_types.proofs.Common.{nat_cmp_is, Contains-append_left, Instance, Conflict, Before}
+use Rattle.epx_types.proofs.Common.{IsLawful, IsLawfulPrefix, Reaches, Reaches-cases}
 use Rattle.epx_types.proofs.Common.{IsReady-reached}
+use Rattle.epx_types.specs.declared.id.Id.{Id}
 use Rattle.epx_laws.specs.TimeLaws.{RespectsTime}
 use Rattle.epx_laws.proofs.ReplicaLemmas.{Before-in_front}
 

@@ -5,8 +5,10 @@ use Rattle.std.proofs.Common.{Contains, Option, Some, None, option_map, option_a
 use Rattle.std.proofs.Common.{ap, ◌∙◌, arith}
 use Rattle.epx_types.proofs.Common.{false≢true, nat_tests, All-from_recursion, insert_key}
 use Rattle.epx_types.proofs.Common.{AllByRecursion, is_lt, is_eq, match_ordering, ordering_reverse}
-use Rattle.epx_types.proofs.Common.{Id, Op, id_cmp, Below, BelowAll, IsRising, IsWellFormed}
-use Rattle.epx_types.proofs.Common.{id_cmp_total, BelowAll-trans}
+use Rattle.epx_types.proofs.Common.{id_cmp, Below, BelowAll, IsRising, IsWellFormed, id_cmp_total}
+use Rattle.epx_types.proofs.Common.{BelowAll-trans}
+use Rattle.epx_types.specs.declared.id.Id.{Id}
+use Rattle.epx_types.specs.declared.op.Op.{Op}
 use Rattle.std.proofs.lemmas.Cmp.{tied_itself}
 use Rattle.serde_json.specs.Data.{Data}
 use Rattle.epx_lines.specs.Elements.{every, elements, at_most}

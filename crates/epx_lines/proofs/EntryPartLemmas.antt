@@ -1,7 +1,10 @@
 -- The parts of an instance and the object that they are read from.
 use Rattle.std.proofs.Common.{◌≡◌, ℕ, ◌^◌, List, true, false, codes, Option, Some, None, option_map}
 use Rattle.std.proofs.Common.{option_and_then, bytes_eq, refl, sym, ap, ◌∙◌, Ok}
-use Rattle.epx_types.proofs.Common.{false≢true, bytes_eq-Decides, Id, Op, SmallList, items_of}
+use Rattle.epx_types.proofs.Common.{false≢true, bytes_eq-Decides, items_of}
+use Rattle.epx_types.specs.declared.id.Id.{Id}
+use Rattle.epx_types.specs.declared.op.Op.{Op}
+use Rattle.epx_types.specs.declared.small_list.SmallList.{SmallList}
 use Rattle.serde_json.specs.Data.{Data, Members, object, put}
 use Rattle.serde_json.specs.Find.{get, get_member}
 use Rattle.serde_json.proofs.Views.{get_member-put, get_member-put_other}

@@ -1,6 +1,8 @@
 -- Lines whose meaning is computed.
 use Rattle.std.proofs.Common.{◌≡◌, pos, codes, [], ◌∷◌, Ok, Err, refl}
-use Rattle.epx_types.proofs.Common.{Put, Get, Seq, Instance}
+use Rattle.epx_types.proofs.Common.{Instance}
+use Rattle.epx_types.specs.declared.op.Op.TheVariants.{Put, Get}
+use Rattle.epx_types.specs.declared.fault.Why.TheVariants.{Seq}
 use Rattle.epx_lines.specs.declared.Line.TheVariants.{Blank, Entry}
 use Rattle.epx_lines.specs.Meaning.{meaning_of}
 use Rattle.epx_lines.specs.Text.{line_text}

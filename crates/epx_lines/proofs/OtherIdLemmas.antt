@@ -1,9 +1,10 @@
 -- `rising_others` leaves a rising list without the instance itself unchanged.
 use Rattle.std.proofs.Common.{◌≡◌, true, not, Ordering, Less, Equal, Greater, List, [], ◌∷◌, ◌++◌}
 use Rattle.std.proofs.Common.{filter, fold, Contains, refl, sym, ap, ◌∙◌, subst, append-nil}
-use Rattle.epx_types.proofs.Common.{append_assoc, insert_key, is_eq, ordering_reverse, Id, id_cmp}
+use Rattle.epx_types.proofs.Common.{append_assoc, insert_key, is_eq, ordering_reverse, id_cmp}
 use Rattle.epx_types.proofs.Common.{Below, BelowAll, IsRising, Contains-head, Contains-cons}
 use Rattle.epx_types.proofs.Common.{id_cmp_total, id_cmp-IsAntisymmetric, Less-is_lt}
+use Rattle.epx_types.specs.declared.id.Id.{Id}
 use Rattle.epx_lines.specs.DependencyList.{is_other, rising_others}
 
 -- ---- each Id goes last

@@ -3,13 +3,13 @@ use Rattle.std.proofs.Common.{◌≡◌, ℕ, ℤ, suc, ◌-◌, ◌<◌, ◌≤
 use Rattle.std.proofs.Common.{Some, None, IfSome, ltb, option_map, option_and_then, refl, sym, ap}
 use Rattle.std.proofs.Common.{◌∙◌, subst, arith, append-nil, lt-ltb, ◌^◌}
 use Rattle.std.proofs.lemmas.Option.{cond_some}
-use Rattle.epx_types.proofs.Common.{w64, Op}
+use Rattle.epx_types.proofs.Common.{w64}
+use Rattle.epx_types.specs.declared.op.Op.{Op}
 use Rattle.std.specs.Int.RustNames.{FitsSigned}
 use Rattle.json.specs.Token.{Token}
 use Rattle.json.specs.Json as json
 use Rattle.json.specs.Lex.{tokens}
-use Rattle.json.specs.Json.{parse_map, after_end_array, read_key, items, members, value}
-use Rattle.json.specs.Json.{if_last}
+use Rattle.json.specs.Json.{parse_map, after_end_array, read_key, items, members, value, if_last}
 use Rattle.json.proofs.Grammar.{value_is, value-begin_array, value-begin_object, items_end}
 use Rattle.json.proofs.Grammar.{items_more, members_end, members_more, left, skip_value-shorter}
 use Rattle.json.proofs.Grammar.{read_key-shorter}

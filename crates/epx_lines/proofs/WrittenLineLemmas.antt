@@ -1,8 +1,10 @@
 -- The line that is written for an entry means that entry.
 use Rattle.std.proofs.Common.{◌≡◌, ℕ, suc, ◌^◌, ◌≤◌, nat_lt, false, List, [], ◌∷◌, length, map, All}
 use Rattle.std.proofs.Common.{Contains, Option, Some, None, Ok, refl, ap, subst, arith}
-use Rattle.epx_types.proofs.Common.{nat_tests, Id, Op, Get, Put, Del, Add, Is, Floor, Copy}
-use Rattle.epx_types.proofs.Common.{IsRising, Instance, IsWellFormed}
+use Rattle.epx_types.proofs.Common.{nat_tests, IsRising, Instance, IsWellFormed}
+use Rattle.epx_types.specs.declared.id.Id.{Id}
+use Rattle.epx_types.specs.declared.op.Op.{Op}
+use Rattle.epx_types.specs.declared.op.Op.TheVariants.{Get, Put, Del, Add, Is, Floor, Copy}
 use Rattle.std.specs.Str.{IsUtf8}
 use Rattle.serde_json.specs.Data.{Data, array, depth, items_depth}
 use Rattle.serde_json.specs.Read.{max_depth, read}

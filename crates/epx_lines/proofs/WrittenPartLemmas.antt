@@ -2,8 +2,8 @@
 use Rattle.std.proofs.Common.{◌≡◌, ℕ, suc, ◌+◌, ◌*◌, ◌^◌, ◌<◌, ◌≤◌, ℤ, pos, negsuc, Bool, true}
 use Rattle.std.proofs.Common.{false, cond, nat_lt, codes, List, [], ◌∷◌, ◌++◌, length, Some, None}
 use Rattle.std.proofs.Common.{option_map, refl, ap, arith, length-append, lit<, lit≤}
-use Rattle.epx_types.proofs.Common.{nat_tests, length-decimal-le, w64, Get, Put, Del, Add, Is}
-use Rattle.epx_types.proofs.Common.{Floor, Copy, FitsKey}
+use Rattle.epx_types.proofs.Common.{nat_tests, length-decimal-le, w64, FitsKey}
+use Rattle.epx_types.specs.declared.op.Op.TheVariants.{Get, Put, Del, Add, Is, Floor, Copy}
 use Rattle.std.proofs.lemmas.Int.{ints}
 use Rattle.std.specs.Int.RustNames.{FitsSigned}
 use Rattle.std.specs.Fmt.{decimal}

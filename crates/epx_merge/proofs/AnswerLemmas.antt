@@ -1,10 +1,11 @@
 -- The result of a ledger of all lines is the answer to the logs, and so is a fault that stops the
 -- reading.
 use Rattle.std.proofs.Common.{List, Result, Ok, Err, MatchResult, ℕ}
-use Rattle.epx_types.proofs.Common.{Fault, TooManyLogs, LogTooLong, BadLine, TooManyInstances}
-use Rattle.epx_types.proofs.Common.{Disagree, Read, BadBase, Instance}
-use Rattle.epx_types.specs.declared.fault.Fault.TheVariants.{Memory}
-use Rattle.epx_types.specs.declared.fault.Fault.TheVariants.{Write}
+use Rattle.epx_types.proofs.Common.{Instance}
+use Rattle.epx_types.specs.declared.fault.Fault.{Fault}
+use Rattle.epx_types.specs.declared.fault.Fault.TheVariants.{TooManyLogs, LogTooLong, BadLine}
+use Rattle.epx_types.specs.declared.fault.Fault.TheVariants.{TooManyInstances, Disagree, Read}
+use Rattle.epx_types.specs.declared.fault.Fault.TheVariants.{BadBase, Memory, Write}
 use Rattle.epx_merge.specs.LogLines.{placed_of, bad_lines_of}
 use Rattle.epx_merge.specs.Refusals.{FitLimits, AreWellFormed, IsRefusal}
 use Rattle.epx_merge.specs.Acceptance.{IsAccepted}

@@ -2,7 +2,8 @@
 use Rattle.std.proofs.Common.{◌≡◌, ◌++◌, ◌<◌, ◌≤◌, ℕ, zero, suc, List, [], ◌∷◌, length, get_or, set}
 use Rattle.std.proofs.Common.{All, Some, ap, ◌∙◌, subst, inr, arith}
 use Rattle.epx_types.proofs.Common.{length-set, get_or-set_same, slice_get_within, slice_get-get_or}
-use Rattle.epx_types.proofs.Common.{get_or_from_slice_get, Fault, max_log_bytes}
+use Rattle.epx_types.proofs.Common.{get_or_from_slice_get, max_log_bytes}
+use Rattle.epx_types.specs.declared.fault.Fault.{Fault}
 use Rattle.epx_merge.specs.Refusals.{NoneTooLong}
 use Rattle.epx_devices.specs.Deliveries.{DeliversAll, IsLogStop}
 use Rattle.epx_devices.specs.Models.{SourceModel}

@@ -1,13 +1,13 @@
 -- Lines without some that are redundant in a cache, and lines that go into a cache.
 use Rattle.std.proofs.Common.{◌≡◌, inl, inr, List, [], ◌∷◌, ◌++◌, Contains, Result, refl, sym, ap}
 use Rattle.std.proofs.Common.{subst, ◌∙◌, append_assoc, append-nil}
-use Rattle.epx_types.proofs.Common.{Contains-append_left, Contains-append_right, Why, Contains-nil}
+use Rattle.epx_types.proofs.Common.{Contains-append_left, Contains-append_right, Contains-nil}
 use Rattle.epx_types.proofs.Common.{Contains-head, Contains-cons_cases}
+use Rattle.epx_types.specs.declared.fault.Why.{Why}
 use Rattle.epx_lines.specs.declared.Line.{Line}
 use Rattle.epx_merge.specs.LogLines.{MeaningAt}
-use Rattle.epx_merge.specs.RedundantLines.{IsRedundant, DropsRedundant, IsRedundantIn}
-use Rattle.epx_merge.specs.RedundantLines.{IsCacheOf, CachesAfter, CachesSomeOf}
-use Rattle.epx_merge.specs.RedundantLines.{DropsCached, IsNextBatch}
+use Rattle.epx_merge.specs.RedundantLines.{IsRedundant, DropsRedundant, IsRedundantIn, IsCacheOf}
+use Rattle.epx_merge.specs.RedundantLines.{CachesAfter, CachesSomeOf, DropsCached, IsNextBatch}
 
 -- what is redundant after some lines is redundant after more
 pub IsRedundant-append : (kept more : List MeaningAt) (m : Result Line Why) → IsRedundant kept m

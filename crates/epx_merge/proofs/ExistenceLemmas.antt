@@ -1,8 +1,9 @@
 -- Every list of logs is accepted or refused.
 use Rattle.std.proofs.Common.{◌≡◌, ◌≢◌, ◌⊎◌, inl, inr, ℕ, zero, suc, ◌<◌, ◌≤◌, List, [], ◌∷◌}
 use Rattle.std.proofs.Common.{length, Some, slice_get, refl, subst, arith}
-use Rattle.epx_types.proofs.Common.{cases_lt, Fault, TooManyLogs, LogTooLong, BadLine, Instance}
-use Rattle.epx_types.proofs.Common.{max_logs, max_log_bytes}
+use Rattle.epx_types.proofs.Common.{cases_lt, Instance, max_logs, max_log_bytes}
+use Rattle.epx_types.specs.declared.fault.Fault.{Fault}
+use Rattle.epx_types.specs.declared.fault.Fault.TheVariants.{TooManyLogs, LogTooLong, BadLine}
 use Rattle.epx_types.specs.declared.fault.Fault.TheVariants.{Memory}
 use Rattle.epx_committed.proofs.MergedLinesLemmas.{merged_or_fault}
 use Rattle.epx_merge.specs.LogLines.{placed_of, BadLineAt, bad_lines_of}

@@ -4,8 +4,9 @@ use Rattle.std.proofs.Common.{Bool, true, false, List, length, take, drop, get_o
 use Rattle.std.proofs.Common.{Ok, Err, MatchResult, Vec, Global, inl, inr, refl, sym, ap, subst}
 use Rattle.std.proofs.Common.{arith, append-nil, append_assoc, length-append}
 use Rattle.epx_types.proofs.Common.{take-length, get_or_default, get_or-set_same, length-set}
-use Rattle.epx_types.proofs.Common.{length-take-le, nil_from_length, take-append-drop, Fault}
-use Rattle.epx_types.proofs.Common.{max_logs, max_log_bytes}
+use Rattle.epx_types.proofs.Common.{length-take-le, nil_from_length, take-append-drop, max_logs}
+use Rattle.epx_types.proofs.Common.{max_log_bytes}
+use Rattle.epx_types.specs.declared.fault.Fault.{Fault}
 use Rattle.std.proofs.Math.Seq.{drop-length}
 use Rattle.epx_types.specs.declared.fault.Fault.TheVariants.{Memory}
 use Rattle.epx_lines.specs.Lines.{lines_of}

@@ -1,6 +1,7 @@
 -- A ledger notes the pieces of batches.
 use Rattle.std.proofs.Common.{◌≡◌, ◌++◌, List, [], Result, refl, sym, ap, subst, ◌∙◌, append-nil}
-use Rattle.epx_types.proofs.Common.{Fault, Why}
+use Rattle.epx_types.specs.declared.fault.Fault.{Fault}
+use Rattle.epx_types.specs.declared.fault.Why.{Why}
 use Rattle.epx_lines.specs.declared.Line.{Line}
 use Rattle.epx_committed.specs.Ledgers.{LedgerView, IsLedgerOf, NotesLines}
 use Rattle.epx_merge.specs.declared.pieces.BadLine.{BadLine}

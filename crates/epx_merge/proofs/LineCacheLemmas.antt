@@ -2,8 +2,9 @@
 use Rattle.std.proofs.Common.{Bor, ◌≡◌, ◌∙◌, ◌<◌, ◌∷◌, ◌++◌, ℕ, Bool, true, false, List, [], map}
 use Rattle.std.proofs.Common.{length, get_or, slice_get, Contains, Result, Some, sym, ap, subst}
 use Rattle.std.proofs.Common.{if◌then◌else◌, inl, inr}
-use Rattle.epx_types.proofs.Common.{Contains-append_cases, slice_get-get_or, Why, Contains-nil}
+use Rattle.epx_types.proofs.Common.{Contains-append_cases, slice_get-get_or, Contains-nil}
 use Rattle.epx_types.proofs.Common.{Contains-cons_cases}
+use Rattle.epx_types.specs.declared.fault.Why.{Why}
 use Rattle.epx_types.proofs.lists.ListPositionLemmas.{slice_get-map}
 use Rattle.epx_lines.specs.Meaning.{meaning_of}
 use Rattle.epx_lines.specs.declared.Line.{Line}

@@ -5,8 +5,7 @@ use Rattle.std.proofs.Common.{inr}
 use Rattle.std.proofs.Math.Nat.{mod-eq_of_lt}
 use Rattle.epx_types.proofs.Common.{cases_Bool}
 use Rattle.epx_lines.specs.Lines.{lines_of, prepend_to_first}
-use Rattle.epx_merge.specs.LogLines.{MeaningAt, meaning_at, meanings_in, meanings_from}
-use Rattle.epx_merge.specs.LogLines.{meanings_of}
+use Rattle.epx_merge.specs.LogLines.{MeaningAt, meaning_at, meanings_in, meanings_from, meanings_of}
 use Rattle.epx_merge.specs.LogParts.{EndsLine, lines_so_far}
 use Rattle.epx_merge.proofs.OnwardLemmas.{lines_of-append, meanings_in-append}
 

@@ -2,10 +2,11 @@
 use Rattle.std.proofs.Common.{◌≡◌, ◌<◌, ◌≤◌, ℕ, [], List, true, false, Result, Ok, Err, length, inl}
 use Rattle.std.proofs.Common.{inr, refl, subst}
 use Rattle.std.proofs.lemmas.List.Elements.{length_all_zip}
-use Rattle.epx_types.proofs.Common.{slice_get-get_or, Fault, TooManyLogs, LogTooLong, BadLine}
-use Rattle.epx_types.proofs.Common.{TooManyInstances, Disagree, Read, BadBase, max_logs}
-use Rattle.epx_types.specs.declared.fault.Fault.TheVariants.{Memory}
-use Rattle.epx_types.specs.declared.fault.Fault.TheVariants.{Write}
+use Rattle.epx_types.proofs.Common.{slice_get-get_or, max_logs}
+use Rattle.epx_types.specs.declared.fault.Fault.{Fault}
+use Rattle.epx_types.specs.declared.fault.Fault.TheVariants.{TooManyLogs, LogTooLong, BadLine}
+use Rattle.epx_types.specs.declared.fault.Fault.TheVariants.{TooManyInstances, Disagree, Read}
+use Rattle.epx_types.specs.declared.fault.Fault.TheVariants.{BadBase, Memory, Write}
 use Rattle.epx_devices.specs.MemoryDevices.{memory_source}
 use Rattle.epx_merge.specs.ReadingRefusals.{IsReadingRefusal}
 use Rattle.epx_merge.specs.Refusals.{IsFirstTooLong, IsRefusal}

@@ -1,18 +1,18 @@
 -- The lines of logs are sorted by place.
 use Rattle.std.proofs.Common.{◌≡◌, ◌⊎◌, inl, inr, ℕ, suc, ◌<◌, ◌≤◌, List, [], ◌∷◌, flat_map}
 use Rattle.std.proofs.Common.{Contains, Result, Ok, Err, sym, ap, subst, subst₂, arith}
-use Rattle.epx_types.proofs.Common.{nat_tests, Contains-append_cases, Place, Why, Placed, Earlier}
+use Rattle.epx_types.proofs.Common.{nat_tests, Contains-append_cases, Placed, Earlier}
 use Rattle.epx_types.proofs.Common.{HaveDistinctPlaces, Contains-nil, Contains-head, Contains-cons}
 use Rattle.epx_types.proofs.Common.{Contains-cons_cases}
+use Rattle.epx_types.specs.declared.place.Place.{Place}
+use Rattle.epx_types.specs.declared.fault.Why.{Why}
 use Rattle.epx_lines.specs.Lines.{lines_of}
 use Rattle.epx_lines.specs.declared.Line.{Line}
 use Rattle.epx_lines.specs.declared.Line.TheVariants.{Blank, Entry}
-use Rattle.epx_merge.specs.LogLines.{MeaningAt, meaning_at, meanings_in, meanings_from}
-use Rattle.epx_merge.specs.LogLines.{meanings_of, placed_at, placed_of, BadLineAt, bad_lines_at}
-use Rattle.epx_merge.specs.LogLines.{bad_lines_of}
+use Rattle.epx_merge.specs.LogLines.{MeaningAt, meaning_at, meanings_in, meanings_from, meanings_of}
+use Rattle.epx_merge.specs.LogLines.{placed_at, placed_of, BadLineAt, bad_lines_at, bad_lines_of}
 use Rattle.epx_committed.specs.LineOrder.{AreSortedBy, IsSortedByPlace}
-use Rattle.epx_committed.proofs.LineOrderLemmas.{earlier_line, AreSortedBy-append}
-use Rattle.epx_committed.proofs.LineOrderLemmas.{distinct_places}
+use Rattle.epx_committed.proofs.LineOrderLemmas.{earlier_line, AreSortedBy-append, distinct_places}
 use Rattle.epx_merge.specs.Refusals.{IsFirstBadLine}
 
 earlier_log : (p q : Place) → p.log < q.log → Earlier p q

@@ -1,10 +1,10 @@
 -- Lines read one after another: their instances, and the first bad line.
 use Rattle.std.proofs.Common.{◌≡◌, Bool, true, false, List, [], ◌++◌, refl, sym, ap, subst, ◌∙◌}
 use Rattle.std.proofs.lemmas.Grind.{flat_map-append}
-use Rattle.epx_types.proofs.Common.{Fault, TooManyLogs, LogTooLong, BadLine, TooManyInstances}
-use Rattle.epx_types.proofs.Common.{Disagree, Read, BadBase}
-use Rattle.epx_types.specs.declared.fault.Fault.TheVariants.{Memory}
-use Rattle.epx_types.specs.declared.fault.Fault.TheVariants.{Write}
+use Rattle.epx_types.specs.declared.fault.Fault.{Fault}
+use Rattle.epx_types.specs.declared.fault.Fault.TheVariants.{TooManyLogs, LogTooLong, BadLine}
+use Rattle.epx_types.specs.declared.fault.Fault.TheVariants.{TooManyInstances, Disagree, Read}
+use Rattle.epx_types.specs.declared.fault.Fault.TheVariants.{BadBase, Memory, Write}
 use Rattle.epx_merge.specs.LogLines.{MeaningAt, placed_at}
 use Rattle.epx_merge.specs.LogLines.{placed_among, BadLineAt, bad_lines_at, bad_lines_among}
 use Rattle.epx_merge.specs.ReadFaults.{IsReadFault, refused_among}

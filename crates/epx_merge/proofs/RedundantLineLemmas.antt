@@ -2,11 +2,14 @@
 use Rattle.std.proofs.Common.{◌≡◌, ◌≢◌, inl, inr, List, [], ◌∷◌, ◌++◌, Contains, Result, Ok, Err}
 use Rattle.std.proofs.Common.{refl, sym, ap, subst, ◌∙◌, append_assoc, append-nil}
 use Rattle.epx_types.proofs.Common.{Contains-append_left, Contains-append_cases}
-use Rattle.epx_types.proofs.Common.{Contains-append_right, Fault, TooManyLogs, LogTooLong, BadLine}
-use Rattle.epx_types.proofs.Common.{TooManyInstances, Disagree, Read, BadBase, Why, Place, Placed}
-use Rattle.epx_types.proofs.Common.{Instance, Contains-nil, Contains-head, Contains-cons_cases}
-use Rattle.epx_types.specs.declared.fault.Fault.TheVariants.{Memory}
-use Rattle.epx_types.specs.declared.fault.Fault.TheVariants.{Write}
+use Rattle.epx_types.proofs.Common.{Contains-append_right, Placed, Instance, Contains-nil}
+use Rattle.epx_types.proofs.Common.{Contains-head, Contains-cons_cases}
+use Rattle.epx_types.specs.declared.fault.Fault.{Fault}
+use Rattle.epx_types.specs.declared.fault.Fault.TheVariants.{TooManyLogs, LogTooLong, BadLine}
+use Rattle.epx_types.specs.declared.fault.Fault.TheVariants.{TooManyInstances, Disagree, Read}
+use Rattle.epx_types.specs.declared.fault.Fault.TheVariants.{BadBase, Memory, Write}
+use Rattle.epx_types.specs.declared.fault.Why.{Why}
+use Rattle.epx_types.specs.declared.place.Place.{Place}
 use Rattle.epx_lines.specs.declared.Line.{Line}
 use Rattle.epx_lines.specs.declared.Line.TheVariants.{Blank, Entry}
 use Rattle.epx_merge.specs.LogLines.{MeaningAt, placed_at, placed_among, BadLineAt, bad_lines_at}

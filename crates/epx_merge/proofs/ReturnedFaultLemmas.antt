@@ -1,8 +1,9 @@
 -- Faults that reading logs returns.
 use Rattle.std.proofs.Common.{◌≡◌, ◌↔◌, ◌<◌, ◌≤◌, ℕ, Bool, true, false, Result, Ok, Err, IsErrOf}
 use Rattle.std.proofs.Common.{ap, subst, inl, inr, arith}
-use Rattle.epx_types.proofs.Common.{Fault, TooManyLogs, LogTooLong, Read, max_logs}
-use Rattle.epx_types.specs.declared.fault.Fault.TheVariants.{Memory}
+use Rattle.epx_types.proofs.Common.{max_logs}
+use Rattle.epx_types.specs.declared.fault.Fault.{Fault}
+use Rattle.epx_types.specs.declared.fault.Fault.TheVariants.{TooManyLogs, LogTooLong, Read, Memory}
 use Rattle.epx_types.specs.declared.fault.Fault.TheVariants.{Write}
 use Rattle.epx_devices.specs.Transfers.{IsReadLogFault}
 use Rattle.epx_merge.specs.SourceEndings.{StopsAt}

@@ -7,13 +7,13 @@ use Rattle.epx_types.proofs.Common.{cases_eq, length-map, length-set, length-app
 use Rattle.epx_types.proofs.Common.{take_more, take_more_set, take_all, get_or-drop}
 use Rattle.epx_types.proofs.Common.{get_or-set_same, get_or-set_other, get_or-take, All-push}
 use Rattle.epx_types.proofs.Common.{slice_get_within, slice_get-get_or, get_or_from_slice_get}
-use Rattle.epx_types.proofs.Common.{Consumes, IsAtEnd, Fault, TooManyLogs, LogTooLong, BadLine}
-use Rattle.epx_types.proofs.Common.{TooManyInstances, Disagree, Read, BadBase, slice_get-from_map}
-use Rattle.epx_types.proofs.Common.{max_logs, max_log_bytes}
+use Rattle.epx_types.proofs.Common.{Consumes, IsAtEnd, slice_get-from_map, max_logs, max_log_bytes}
+use Rattle.epx_types.specs.declared.fault.Fault.{Fault}
+use Rattle.epx_types.specs.declared.fault.Fault.TheVariants.{TooManyLogs, LogTooLong, BadLine}
+use Rattle.epx_types.specs.declared.fault.Fault.TheVariants.{TooManyInstances, Disagree, Read}
+use Rattle.epx_types.specs.declared.fault.Fault.TheVariants.{BadBase, Memory, Write}
 use Rattle.std.proofs.lemmas.Grind.{drop_more_same}
 use Rattle.std.proofs.lemmas.List.Elements.{All-set}
-use Rattle.epx_types.specs.declared.fault.Fault.TheVariants.{Memory}
-use Rattle.epx_types.specs.declared.fault.Fault.TheVariants.{Write}
 use Rattle.epx_types.proofs.lists.ListPositionLemmas.{slice_get-map}
 use Rattle.epx_merge.specs.Refusals.{FitLimits}
 use Rattle.epx_devices.specs.Transfers.{IsReadLogFault, ConsumesUpTo, ConsumesExactly}

@@ -2,9 +2,9 @@
 use Rattle.std.proofs.Common.{◌≡◌, ◌↔◌, ◌+◌, ◌++◌, ◌∷◌, [], ◌<◌, ◌≤◌, ℕ, true, false, List, length}
 use Rattle.std.proofs.Common.{drop, get_or, set, All, Result, Ok, Err, IsErrOf, IfSome, IfOk, OnOk}
 use Rattle.std.proofs.Common.{IfErr, MatchResult, Vec, Global, inl, inr, refl, sym, subst}
-use Rattle.epx_types.proofs.Common.{IsAtEnd, Fault, TooManyLogs, LogTooLong, Read, max_logs}
-use Rattle.epx_types.proofs.Common.{max_log_bytes}
-use Rattle.epx_types.specs.declared.fault.Fault.TheVariants.{Memory}
+use Rattle.epx_types.proofs.Common.{IsAtEnd, max_logs, max_log_bytes}
+use Rattle.epx_types.specs.declared.fault.Fault.{Fault}
+use Rattle.epx_types.specs.declared.fault.Fault.TheVariants.{TooManyLogs, LogTooLong, Read, Memory}
 use Rattle.epx_types.specs.declared.fault.Fault.TheVariants.{Write}
 use Rattle.epx_devices.specs.Deliveries.{DeliversAll, IsLogStop}
 use Rattle.epx_devices.specs.Models.{SourceModel}
@@ -14,14 +14,12 @@ use Rattle.epx_merge.specs.SourceReadings.{AreDeliveredUpTo, EndsReading, EndsMa
 use Rattle.epx_merge.proofs.ConsumedLemmas.{none_consumed}
 use Rattle.epx_merge.proofs.DeliveredLemmas.{delivered_step, stops_reading}
 use Rattle.epx_merge.proofs.ReturnedFaultLemmas.{neither, none_of_both, few_are_not_many}
-use Rattle.epx_merge.proofs.ReturnedFaultLemmas.{ok_is_no_fault, ok_does_not_stop}
-use Rattle.epx_merge.proofs.ReturnedFaultLemmas.{input_not_write, input_not_too_many}
-use Rattle.epx_merge.proofs.ReturnedFaultLemmas.{stops_at_input, differs, too_many_does_not_stop}
-use Rattle.epx_merge.proofs.ReturnedFaultLemmas.{memory_does_not_stop}
-use Rattle.epx_merge.proofs.SourceLemmas.{as_many_logs, same_next, none_read, read_well}
-use Rattle.epx_merge.proofs.SourceLemmas.{read_step, reading_refusal, rest_after, taken_further}
-use Rattle.epx_merge.proofs.SourceLemmas.{all_fit, each_read, all_ended, all_known, none_failed}
-use Rattle.epx_merge.proofs.SourceLemmas.{one_failed}
+use Rattle.epx_merge.proofs.ReturnedFaultLemmas.{ok_is_no_fault, ok_does_not_stop, input_not_write}
+use Rattle.epx_merge.proofs.ReturnedFaultLemmas.{input_not_too_many, stops_at_input, differs}
+use Rattle.epx_merge.proofs.ReturnedFaultLemmas.{too_many_does_not_stop, memory_does_not_stop}
+use Rattle.epx_merge.proofs.SourceLemmas.{as_many_logs, same_next, none_read, read_well, read_step}
+use Rattle.epx_merge.proofs.SourceLemmas.{reading_refusal, rest_after, taken_further, all_fit}
+use Rattle.epx_merge.proofs.SourceLemmas.{each_read, all_ended, all_known, none_failed, one_failed}
 
 module _ {S : Type 0} (D : SourceModel S) (first : List S) where
   -- no source is read yet

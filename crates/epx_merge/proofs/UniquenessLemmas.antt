@@ -1,11 +1,15 @@
 -- Logs are never both accepted and refused. They have at most one refusal except out of memory,
 -- and commit at most one map.
 use Rattle.std.proofs.Common.{◌≡◌, ◌≢◌, ℕ, ◌<◌, List, ◌∷◌, refl, sym, ap, ◌∙◌, arith}
-use Rattle.epx_types.proofs.Common.{Id, Place, Fault, TooManyLogs, LogTooLong, BadLine}
-use Rattle.epx_types.proofs.Common.{TooManyInstances, Disagree, Read, BadBase, Why, Instance}
-use Rattle.epx_types.proofs.Common.{Placed, IsCommittedBy-unique, IsFirstDisagreement-unique}
-use Rattle.epx_types.specs.declared.fault.Fault.TheVariants.{Memory}
-use Rattle.epx_types.specs.declared.fault.Fault.TheVariants.{Write}
+use Rattle.epx_types.proofs.Common.{Instance, Placed, IsCommittedBy-unique}
+use Rattle.epx_types.proofs.Common.{IsFirstDisagreement-unique}
+use Rattle.epx_types.specs.declared.id.Id.{Id}
+use Rattle.epx_types.specs.declared.place.Place.{Place}
+use Rattle.epx_types.specs.declared.fault.Fault.{Fault}
+use Rattle.epx_types.specs.declared.fault.Fault.TheVariants.{TooManyLogs, LogTooLong, BadLine}
+use Rattle.epx_types.specs.declared.fault.Fault.TheVariants.{TooManyInstances, Disagree, Read}
+use Rattle.epx_types.specs.declared.fault.Fault.TheVariants.{BadBase, Memory, Write}
+use Rattle.epx_types.specs.declared.fault.Why.{Why}
 use Rattle.epx_committed.specs.MergedLines.{IsDisagreementAt}
 use Rattle.epx_committed.proofs.InstanceCountLemmas.{not_few_and_many}
 use Rattle.epx_merge.specs.LogLines.{placed_of, BadLineAt, bad_lines_of}

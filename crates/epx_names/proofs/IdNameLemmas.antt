@@ -4,12 +4,12 @@ use Rattle.std.proofs.Common.{get_or, codes, decimal, None, Ok, Err, Result, IfS
 use Rattle.std.proofs.Common.{ap, ◌∙◌, arith, ne_eqb, eq-eqb, append_assoc, length-append}
 use Rattle.std.proofs.Math.ListN.{get_or-append}
 use Rattle.epx_types.proofs.Common.{get_or-append_seam, take-append_seam, drop-append-add}
-use Rattle.epx_types.proofs.Common.{ParsesUnsigned, id_text, Id}
+use Rattle.epx_types.proofs.Common.{ParsesUnsigned, id_text}
+use Rattle.epx_types.specs.declared.id.Id.{Id}
 use Rattle.std.proofs.lemmas.Fmt.{decimal_is_IsNumeral, decimal_digit, first_decimal}
 use Rattle.std.proofs.lemmas.Fmt.{decimal-digits_value, parse-decimal}
 use Rattle.std.proofs.lemmas.List.Sums.{position_or_len_is}
-use Rattle.std.proofs.lemmas.Str.Parse.{not_in_digits, numerals_by_value, tells_digits}
-use Rattle.std.proofs.lemmas.Str.Parse.{parse_plain}
+use Rattle.std.proofs.lemmas.Str.Parse.{not_in_digits, numerals_by_value, tells_digits, parse_plain}
 use Rattle.std.specs.List.{before_first, after_first, position_or_len}
 use Rattle.std.specs.Result.{result_ok, OkIff}
 use Rattle.epx_names.specs.IdNames.{FitsIdTypes}

@@ -2,8 +2,9 @@
 -- leader of another one.
 use Rattle.std.proofs.Common.{◌≡◌, ℕ, inl, inr, List, Bool, false, length, get_or, slice_get, Some}
 use Rattle.std.proofs.Common.{None, sym, ap, ◌∙◌, subst, arith, IsTrue}
-use Rattle.epx_types.proofs.Common.{cases_eq, slice_get_within, slice_get-get_or, Id, Instance}
+use Rattle.epx_types.proofs.Common.{cases_eq, slice_get_within, slice_get-get_or, Instance}
 use Rattle.epx_types.proofs.Common.{InOneComponent}
+use Rattle.epx_types.specs.declared.id.Id.{Id}
 use Rattle.epx_graph.proofs.Common.{DependencyGraph, edges_of, IsGraphOf, NodeReaches, node_id}
 use Rattle.epx_graph.proofs.Common.{node_is_unique, node_reaches, reached_node}
 use Rattle.epx_components.specs.declared.node_ranks.NodeRank.{NodeRank}

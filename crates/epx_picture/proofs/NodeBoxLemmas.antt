@@ -1,8 +1,9 @@
 -- What the box of an instance shows, from the rank of its node.
 use Rattle.std.proofs.Common.{◌≡◌, ℕ, ◌<◌, List, Bool, true, false, Option, slice_get, Some, sym}
 use Rattle.std.proofs.Common.{ap, ◌∙◌, subst, arith, refl, IsTrue}
-use Rattle.epx_types.proofs.Common.{false≢true, slice_get_within, Id, IsRising, Instance}
-use Rattle.epx_types.proofs.Common.{IsRising-same, Contains-slice_get}
+use Rattle.epx_types.proofs.Common.{false≢true, slice_get_within, IsRising, Instance, IsRising-same}
+use Rattle.epx_types.proofs.Common.{Contains-slice_get}
+use Rattle.epx_types.specs.declared.id.Id.{Id}
 use Rattle.epx_graph.proofs.Common.{DependencyGraph, IsGraphOf, committed_count}
 use Rattle.epx_components.specs.declared.node_ranks.NodeRank.{NodeRank}
 use Rattle.epx_components.specs.NodeRanks.{IsNodeRank}

@@ -1,7 +1,7 @@
 -- Every committed map has a picture.
 use Rattle.std.proofs.Common.{◌≡◌, ℕ, List, [], ◌∷◌, map, Bool, true, false, Option, Some, None}
 use Rattle.std.proofs.Common.{Contains, refl, ap, ap₂, subst, inl, inr}
-use Rattle.epx_types.proofs.Common.{false≢true, Id, IsRising, Instance, ids_of, IsCommitted}
+use Rattle.epx_types.proofs.Common.{false≢true, IsRising, Instance, ids_of, IsCommitted}
 use Rattle.epx_types.proofs.Common.{InOneComponent, IsReady, IsRising-same}
 use Rattle.epx_types.proofs.Common.{IsCommitted-from_Contains, some_or_none, Contains-nil}
 use Rattle.epx_types.proofs.Common.{Contains-head, Contains-cons, Contains-cons_cases}
@@ -9,6 +9,7 @@ use Rattle.epx_types.proofs.Common.{leader_exists, depth_exists, ready_or_waits}
 use Rattle.epx_types.proofs.Common.{IsReady-not_waiting, both_cases, not_cases}
 use Rattle.epx_types.proofs.Common.{InOneComponent-cases, within_reach, Contains-within_reach}
 use Rattle.epx_types.proofs.Common.{Id-cases}
+use Rattle.epx_types.specs.declared.id.Id.{Id}
 use Rattle.epx_graph.proofs.Common.{missing_ids, graph_exists}
 use Rattle.epx_picture.specs.declared.node_box.NodeBox.{NodeBox}
 use Rattle.epx_picture.specs.NodeBoxes.{IsCluster, IsBoxOf}

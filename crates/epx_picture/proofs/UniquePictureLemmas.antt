@@ -1,9 +1,10 @@
 -- A map has at most one picture.
 use Rattle.std.proofs.Common.{◌≡◌, List, [], ◌∷◌, length, map, Bool, true, false, Option, Some}
 use Rattle.std.proofs.Common.{None, Contains, refl, sym, ap, ap₂, ◌∙◌, subst, arith, IsTrue}
-use Rattle.epx_types.proofs.Common.{Id, Instance, IsCommitted, IsDepth, IsReady, Contains-head}
+use Rattle.epx_types.proofs.Common.{Instance, IsCommitted, IsDepth, IsReady, Contains-head}
 use Rattle.epx_types.proofs.Common.{Contains-cons, Contains-map, Contains-from_map, same_ids}
 use Rattle.epx_types.proofs.Common.{IsLeader-unique, IsDepth-unique}
+use Rattle.epx_types.specs.declared.id.Id.{Id}
 use Rattle.epx_picture.specs.declared.node_box.NodeBox.{NodeBox}
 use Rattle.epx_picture.specs.NodeBoxes.{IsCluster, IsBoxOf}
 use Rattle.epx_picture.specs.PictureText.{picture_text}

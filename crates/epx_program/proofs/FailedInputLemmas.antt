@@ -1,8 +1,9 @@
 -- Which source failed, if a run returns that a source cannot be read.
 use Rattle.std.proofs.Common.{◌≡◌, ◌⊎◌, ℕ, zero, suc, List, [], ◌∷◌, Some, slice_get, Result, Err}
 use Rattle.std.proofs.Common.{IsErrOf, inl, inr, subst, ◌≢◌}
-use Rattle.epx_types.proofs.Common.{IfErr, Fault, Read}
-use Rattle.epx_types.specs.declared.fault.Fault.TheVariants.{Write}
+use Rattle.epx_types.proofs.Common.{IfErr}
+use Rattle.epx_types.specs.declared.fault.Fault.{Fault}
+use Rattle.epx_types.specs.declared.fault.Fault.TheVariants.{Read, Write}
 use Rattle.epx_devices.specs.declared.either_source.EitherSource.TheVariants.{First, Second}
 use Rattle.epx_devices.specs.EitherSources.{either_source}
 use Rattle.epx_devices.specs.Models.{SourceModel}

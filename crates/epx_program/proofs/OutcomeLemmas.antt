@@ -2,8 +2,9 @@
 use Rattle.std.proofs.Common.{◌≡◌, ◌≢◌, ◌⊎◌, ◌↔◌, ℕ, suc, Bool, true, List, [], ◌∷◌, drop, length}
 use Rattle.std.proofs.Common.{map, Option, Some, Result, Ok, Err, IsErrOf, inl, inr, refl, sym, ap}
 use Rattle.std.proofs.Common.{◌∙◌, subst, IfOk}
-use Rattle.epx_types.proofs.Common.{Keeps, IfErr, MatchResult, OnOk, Fault, Read}
-use Rattle.epx_types.specs.declared.fault.Fault.TheVariants.{Write}
+use Rattle.epx_types.proofs.Common.{Keeps, IfErr, MatchResult, OnOk}
+use Rattle.epx_types.specs.declared.fault.Fault.{Fault}
+use Rattle.epx_types.specs.declared.fault.Fault.TheVariants.{Read, Write}
 use Rattle.epx_names.specs.declared.task.Task.{Task}
 use Rattle.epx_devices.specs.Models.{SinkModel, SourceModel}
 use Rattle.epx_merge.specs.DeliveredLogs.{EachDelivers}

@@ -2,15 +2,15 @@
 use Rattle.std.proofs.Common.{◌≡◌, ◌≢◌, ◌⊎◌, ◌↔◌, ◌∙◌, ℕ, zero, suc, Bool, true, false, List}
 use Rattle.std.proofs.Common.{Option, Result, Ok, Err, IsErrOf, inl, inr, refl, arith, ap, sym}
 use Rattle.std.proofs.Common.{subst, IfOk}
-use Rattle.epx_types.proofs.Common.{OnOk, IfErr, Keeps, fault_status, Fault, TooManyLogs}
-use Rattle.epx_types.proofs.Common.{LogTooLong, BadLine, TooManyInstances, Disagree, Read, BadBase}
-use Rattle.epx_types.specs.declared.fault.Fault.TheVariants.{Memory}
-use Rattle.epx_types.specs.declared.fault.Fault.TheVariants.{Write}
+use Rattle.epx_types.proofs.Common.{OnOk, IfErr, Keeps, fault_status}
+use Rattle.epx_types.specs.declared.fault.Fault.{Fault}
+use Rattle.epx_types.specs.declared.fault.Fault.TheVariants.{TooManyLogs, LogTooLong, BadLine}
+use Rattle.epx_types.specs.declared.fault.Fault.TheVariants.{TooManyInstances, Disagree, Read}
+use Rattle.epx_types.specs.declared.fault.Fault.TheVariants.{BadBase, Memory, Write}
 use Rattle.epx_words.specs.Requests.{IfText, IfWork, flags_of}
 use Rattle.epx_names.specs.declared.task.Task.{Task}
 use Rattle.epx_words.specs.declared.words.Words.{Words}
-use Rattle.epx_words.specs.declared.words.Words.TheVariants.{Work, WorkWith}
-use Rattle.epx_words.specs.declared.words.Words.TheVariants.{Text}
+use Rattle.epx_words.specs.declared.words.Words.TheVariants.{Work, WorkWith, Text}
 use Rattle.epx_program.specs.Calls.{EndsTask}
 use Rattle.epx_program.specs.Endings.{IsAnswerStatus, IsTaskResult, EndsWith, IsStatus}
 use Rattle.epx_program.specs.Endings.{answer_status, status_of}

@@ -1,7 +1,7 @@
 -- The texts that sources at paths deliver are those of their files and of the input.
 use Rattle.std.proofs.Common.{◌≡◌, ◌∷◌, [], ℕ, List, length, Option, None, Some, codes, refl, subst}
 use Rattle.std.proofs.Common.{inl, inr, arith, Bool, Result, Ok, Err, IfOk}
-use Rattle.epx_types.proofs.Common.{Fault}
+use Rattle.epx_types.specs.declared.fault.Fault.{Fault}
 use Rattle.epx_names.specs.declared.task.Task.{Task}
 use Rattle.epx_devices.proofs.DeliveryLemmas.{all_are_known, path_delivers_opened}
 use Rattle.epx_devices.proofs.EitherSourceLemmas.{first_delivers_all, second_delivers_all}

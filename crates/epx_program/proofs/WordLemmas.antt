@@ -17,8 +17,7 @@ use Rattle.epx_words.specs.Subjects.{NamesAll}
 use Rattle.epx_words.specs.SubcommandRows.{Given, IsCutOf, IsWorkersOf, name_in, rows_in}
 use Rattle.epx_names.specs.declared.task.Task.TheVariants.{Run}
 use Rattle.epx_words.specs.declared.words.Words.{Words}
-use Rattle.epx_words.specs.declared.words.Words.TheVariants.{Work, WorkWith}
-use Rattle.epx_words.specs.declared.words.Words.TheVariants.{Text as text}
+use Rattle.epx_words.specs.declared.words.Words.TheVariants.{Work, WorkWith, Text as text}
 use Rattle.epx_program.specs.Calls.{AreTakenFor, Asks, EndsAsAsked, EndsTask, EndsWithText}
 use Rattle.epx_program.specs.Inputs.{TextRelation}
 use Rattle.epx_program.proofs.OutputLemmas.{contents_unchanged}

@@ -2,10 +2,11 @@
 -- overtaken.
 use Rattle.std.proofs.Common.{◌≡◌, ◌≢◌, ℕ, inl, inr, List, true, length, slice_get, Some, sym}
 use Rattle.std.proofs.Common.{subst, ◌∙◌, ap, arith, is_lt, nat_cmp, Contains}
-use Rattle.epx_types.proofs.Common.{ordering_then, nat_cmp_total, cases_lt, slice_get_within, Id}
+use Rattle.epx_types.proofs.Common.{ordering_then, nat_cmp_total, cases_lt, slice_get_within}
 use Rattle.epx_types.proofs.Common.{id_cmp, IsRising, ids_of, Instance, SequenceBefore, IsLawful}
 use Rattle.epx_types.proofs.Common.{IsReady, IsRising-same, id_cmp_total, slice_get-from_Contains}
 use Rattle.epx_types.proofs.Common.{AllPairs-from_slice_get, IsReady-reached, below_irrefl}
+use Rattle.epx_types.specs.declared.id.Id.{Id}
 use Rattle.std.specs.Cmp.{on_total, then_total}
 use Rattle.epx_ranking.specs.OrderFaults.{IsListOfReady, InOrder}
 

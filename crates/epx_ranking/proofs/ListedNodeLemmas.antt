@@ -2,7 +2,8 @@
 use Rattle.std.proofs.Common.{◌≡◌, ℕ, ◌<◌, inl, inr, List, Bool, length, get_or, slice_get, Some}
 use Rattle.std.proofs.Common.{sym, ◌∙◌, ap, arith, IsTrue, Contains, All}
 use Rattle.epx_types.proofs.Common.{cases_lt, All-from_get_or, slice_get_within, slice_get-get_or}
-use Rattle.epx_types.proofs.Common.{Id, Instance, Contains-slice_get, slice_get-from_Contains}
+use Rattle.epx_types.proofs.Common.{Instance, Contains-slice_get, slice_get-from_Contains}
+use Rattle.epx_types.specs.declared.id.Id.{Id}
 use Rattle.epx_graph.proofs.Common.{DependencyGraph, IsGraphOf, node_is_unique, committed_count}
 use Rattle.epx_graph.proofs.Common.{node_committed, node_of_committed, node_order}
 use Rattle.epx_ranking.specs.inner.NodeLists.{AreListed, IsListedIfReady, IsListingFault}

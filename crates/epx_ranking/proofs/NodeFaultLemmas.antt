@@ -4,9 +4,10 @@ use Rattle.std.proofs.Common.{◌≡◌, ◌≢◌, ℕ, ◌<◌, ◌≤◌, inl
 use Rattle.std.proofs.Common.{slice_get, Option, Some, None, refl, sym, subst, subst₂, ◌∙◌, ap}
 use Rattle.std.proofs.Common.{arith, is_lt, nat_cmp, Contains, IsTrue}
 use Rattle.epx_types.proofs.Common.{ordering_then, cases_lt, cases_Bool, false≢true, All-get_or}
-use Rattle.epx_types.proofs.Common.{slice_get_within, slice_get-get_or, Id, id_cmp, IsRising}
-use Rattle.epx_types.proofs.Common.{Instance, IsLawfulPrefix, Reaches, IsReady, IsRising-same}
+use Rattle.epx_types.proofs.Common.{slice_get_within, slice_get-get_or, id_cmp, IsRising, Instance}
+use Rattle.epx_types.proofs.Common.{IsLawfulPrefix, Reaches, IsReady, IsRising-same}
 use Rattle.epx_types.proofs.Common.{IsReady-reached, Contains-slice_get}
+use Rattle.epx_types.specs.declared.id.Id.{Id}
 use Rattle.epx_graph.proofs.Common.{DependencyGraph, edges_of, IsGraphOf, NodeReaches}
 use Rattle.epx_graph.proofs.Common.{reached_within, committed_count, node_committed, node_instance}
 use Rattle.epx_graph.proofs.Common.{node_of_committed, node_reaches}
@@ -15,8 +16,7 @@ use Rattle.epx_ranking.specs.inner.NodeLists.{AreListed, AreListedReady}
 use Rattle.epx_ranking.specs.PrefixFaults.{IsTooEarlyAt, IsAfterGapAt, BeginsInOrder}
 use Rattle.epx_ranking.specs.PrefixFaults.{IsOutOfSequenceAt, IsPrefixFault}
 use Rattle.epx_ranking.specs.OrderFaults.{IsOvertakenAt}
-use Rattle.epx_components.specs.Partitions.{ComponentParts, IsPartitionOf, component_of}
-use Rattle.epx_components.specs.Partitions.{number_for}
+use Rattle.epx_components.specs.Partitions.{ComponentParts, IsPartitionOf, component_of, number_for}
 use Rattle.epx_components.specs.ReadyMarks.{is_marked}
 use Rattle.epx_ranking.specs.inner.SequenceKeys.{IsNodeEarlyAt, IsNodeOvertakenAt, AreNodesInOrder}
 use Rattle.epx_ranking.specs.inner.SequenceKeys.{IsNodeAfterGapAt, IsNodeOutOfSequenceAt}

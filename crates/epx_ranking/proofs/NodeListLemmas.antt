@@ -3,7 +3,8 @@ use Rattle.std.proofs.Common.{◌≡◌, ℕ, ◌+◌, ◌<◌, inl, inr, List, 
 use Rattle.std.proofs.Common.{get_or, set, slice_get, Some, sym, subst, ◌∙◌, ap, arith, IsTrue}
 use Rattle.epx_types.proofs.Common.{cases_eq, cases_lt, length_push, length-set, get_or_push}
 use Rattle.epx_types.proofs.Common.{get_or_append_left, get_or-set_same, get_or-set_other}
-use Rattle.epx_types.proofs.Common.{slice_get_within, slice_get-get_or, Id, Instance, IsReady}
+use Rattle.epx_types.proofs.Common.{slice_get_within, slice_get-get_or, Instance, IsReady}
+use Rattle.epx_types.specs.declared.id.Id.{Id}
 use Rattle.epx_graph.proofs.Common.{DependencyGraph, IsGraph, node_is_unique}
 use Rattle.epx_ranking.specs.inner.NodeLists.{AreListed}
 use Rattle.epx_ranking.specs.OrderFaults.{ReadyOnce}

@@ -2,11 +2,12 @@
 use Rattle.std.proofs.Common.{◌≡◌, ◌≢◌, ◌⊎◌, ◌<◌, ℕ, zero, suc, Bool, true, List, length, slice_get}
 use Rattle.std.proofs.Common.{Option, Some, None, Contains, refl, sym, ap, ◌∙◌, subst, inl, inr}
 use Rattle.std.proofs.Common.{is_lt, nat_cmp, arith}
-use Rattle.epx_types.proofs.Common.{ordering_then, cases_lt, cases_Bool, slice_get_within, Id}
-use Rattle.epx_types.proofs.Common.{IsRising, id_cmp, ids_of, Instance, SequenceBefore, IsLawful}
-use Rattle.epx_types.proofs.Common.{Reaches, IsReady, InOneComponent, some_or_none, least_or_none}
+use Rattle.epx_types.proofs.Common.{ordering_then, cases_lt, cases_Bool, slice_get_within, IsRising}
+use Rattle.epx_types.proofs.Common.{id_cmp, ids_of, Instance, SequenceBefore, IsLawful, Reaches}
+use Rattle.epx_types.proofs.Common.{IsReady, InOneComponent, some_or_none, least_or_none}
 use Rattle.epx_types.proofs.Common.{ready_or_waits, both_cases, not_cases, Reaches-cases}
 use Rattle.epx_types.proofs.Common.{InOneComponent-cases, Id-cases, Contains-Id_cases}
+use Rattle.epx_types.specs.declared.id.Id.{Id}
 use Rattle.epx_ranking.specs.OrderFaults.{IsStrangerAt, IsRepeatAt, IsEarlyAt, IsOvertakenAt}
 use Rattle.epx_ranking.specs.OrderFaults.{ReadyOnce, HasAllReady, InOrder, IsListOfReady}
 use Rattle.epx_ranking.specs.OrderFaults.{IsOrderFault}

@@ -1,11 +1,12 @@
 -- A list is a prefix of a lawful order or has a fault, and it has one alone.
 use Rattle.std.proofs.Common.{◌≡◌, ◌≢◌, ◌⊎◌, inl, inr, ℕ, ◌<◌, List, length, Some, Contains, refl}
 use Rattle.std.proofs.Common.{sym, ap, ◌∙◌, subst, arith}
-use Rattle.epx_types.proofs.Common.{cases_lt, slice_get_within, Id, IsRising, ids_of}
-use Rattle.epx_types.proofs.Common.{InOneComponent, Instance, IsLawfulPrefix, SequenceBefore}
-use Rattle.epx_types.proofs.Common.{Reaches, IsCommitted-from_Contains, not_cases, Reaches-cases}
+use Rattle.epx_types.proofs.Common.{cases_lt, slice_get_within, IsRising, ids_of, InOneComponent}
+use Rattle.epx_types.proofs.Common.{Instance, IsLawfulPrefix, SequenceBefore, Reaches}
+use Rattle.epx_types.proofs.Common.{IsCommitted-from_Contains, not_cases, Reaches-cases}
 use Rattle.epx_types.proofs.Common.{InOneComponent-cases, IsReady-reached, Id-cases}
 use Rattle.epx_types.proofs.Common.{Contains-Id_cases}
+use Rattle.epx_types.specs.declared.id.Id.{Id}
 use Rattle.epx_ranking.specs.PrefixFaults.{IsTooEarlyAt, IsAfterGapAt, IsOutOfSequenceAt}
 use Rattle.epx_ranking.specs.PrefixFaults.{BeginsInOrder, IsPrefixFault}
 use Rattle.epx_ranking.specs.OrderFaults.{IsStrangerAt, ReadyOnce}

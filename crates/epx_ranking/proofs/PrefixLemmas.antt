@@ -5,7 +5,7 @@ use Rattle.std.proofs.Common.{slice_get, Some, refl, sym, subst, ◌∙◌, ap, 
 use Rattle.std.proofs.Common.{AllPairs}
 use Rattle.epx_types.proofs.Common.{cases_lt, append-nil, Contains-append_left}
 use Rattle.epx_types.proofs.Common.{Contains-append_right, Contains-append_cases, AllPairs-filter}
-use Rattle.epx_types.proofs.Common.{slice_get_within, slice_get-get_or, Id, IsRising, ids_of}
+use Rattle.epx_types.proofs.Common.{slice_get_within, slice_get-get_or, IsRising, ids_of}
 use Rattle.epx_types.proofs.Common.{InOneComponent, is_among, remaining_ids, ranked_ids, Instance}
 use Rattle.epx_types.proofs.Common.{IsLawfulPrefix, Before, SequenceBefore, IsLawful, Reaches}
 use Rattle.epx_types.proofs.Common.{IsReady, IsReady-reached, Contains-Id_cases, Before-append_left}
@@ -15,6 +15,7 @@ use Rattle.epx_types.proofs.Common.{AllPairs-slice_get, Contains-slice_get, slic
 use Rattle.epx_types.proofs.Common.{Contains-filter, Contains-from_filter, Contains-head}
 use Rattle.epx_types.proofs.Common.{IsExecutionOrder-IsLawful, Before-differ, Before-not_both}
 use Rattle.epx_types.proofs.Common.{same_position, not_in_part, passes_rest, execution_order_exists}
+use Rattle.epx_types.specs.declared.id.Id.{Id}
 use Rattle.epx_ranking.specs.PrefixFaults.{IsTooEarlyAt, IsOutOfSequenceAt}
 use Rattle.epx_ranking.specs.PrefixFaults.{BeginsInOrder, IsPrefixFault}
 use Rattle.epx_ranking.specs.OrderFaults.{IsEarlyAt, IsOvertakenAt, ReadyOnce, HasAllReady, InOrder}

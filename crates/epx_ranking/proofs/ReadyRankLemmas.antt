@@ -2,8 +2,9 @@
 use Rattle.std.proofs.Common.{◌≡◌, ◌≢◌, ℕ, ◌+◌, ◌<◌, List, [], ◌∷◌, ◌++◌, get_or, slice_get, Some}
 use Rattle.std.proofs.Common.{Contains, AllPairs, sym, ap, ◌∙◌, subst, inl, inr, arith}
 use Rattle.epx_types.proofs.Common.{cases_lt, Contains-append_left, Contains-get_or, Contains-push}
-use Rattle.epx_types.proofs.Common.{Contains-push_cases, all_pairs_push, Id, IsRanked, Instance}
+use Rattle.epx_types.proofs.Common.{Contains-push_cases, all_pairs_push, IsRanked, Instance}
 use Rattle.epx_types.proofs.Common.{IsReady, Contains-nil}
+use Rattle.epx_types.specs.declared.id.Id.{Id}
 use Rattle.epx_graph.proofs.Common.{DependencyGraph, IsGraph, IsGraphOf, node_is_unique}
 use Rattle.epx_graph.proofs.Common.{node_of_committed}
 use Rattle.epx_components.specs.Ranks.{ranked}

@@ -6,11 +6,12 @@ use Rattle.epx_types.proofs.Common.{ordering_reverse, ordering_then, false≢tru
 use Rattle.epx_types.proofs.Common.{sorted_far, Contains-permutation, IsPermutation-sym}
 use Rattle.epx_types.proofs.Common.{slice_get_within, get_or_from_slice_get, IsPermutation-map}
 use Rattle.epx_types.proofs.Common.{IsDistinct-IsPermutation, AllPairs-from_IsDistinct}
-use Rattle.epx_types.proofs.Common.{IsDistinct-from_AllPairs, ids_decide, ids_flip, Id}
+use Rattle.epx_types.proofs.Common.{IsDistinct-from_AllPairs, ids_decide, ids_flip}
 use Rattle.epx_types.proofs.Common.{AllPairs-slice_get, Ranked, rank_cmp, RanksBelow, IsRanked}
 use Rattle.epx_types.proofs.Common.{IsExecutionOrder, id_cmp, Instance, second_is_equal}
 use Rattle.epx_types.proofs.Common.{id_cmp-IsAntisymmetric, rank_cmp_total, Contains-map}
 use Rattle.epx_types.proofs.Common.{Contains-from_map, slice_get-from_map, AllPairs-from_slice_get}
+use Rattle.epx_types.specs.declared.id.Id.{Id}
 use Rattle.std.specs.List.Sorted.{IsSortedBy}
 use Rattle.epx_types.specs.contracts.id.IdPartialEq.TheImpl as id_eq
 use Rattle.epx_types.proofs.lists.ListPositionLemmas.{slice_get-map}

@@ -1,9 +1,10 @@
 -- A list has at most one fault, and a lawful order has none.
 use Rattle.std.proofs.Common.{◌≡◌, ◌≢◌, ◌⊎◌, inl, inr, ℕ, ◌<◌, List, length, Some, refl, sym, ap}
 use Rattle.std.proofs.Common.{◌∙◌, subst, arith}
-use Rattle.epx_types.proofs.Common.{cases_lt, slice_get_within, Id, Instance, IsLawful, IsReady}
+use Rattle.epx_types.proofs.Common.{cases_lt, slice_get_within, Instance, IsLawful, IsReady}
 use Rattle.epx_types.proofs.Common.{Before-not_both, Contains-slice_get, AllPairs-slice_get}
 use Rattle.epx_types.proofs.Common.{UpTo-antisymm}
+use Rattle.epx_types.specs.declared.id.Id.{Id}
 use Rattle.epx_ranking.specs.OrderFaults.{IsStrangerAt, IsRepeatAt, IsEarlyAt, IsOvertakenAt}
 use Rattle.epx_ranking.specs.OrderFaults.{ReadyOnce, InOrder, IsOrderFault}
 use Rattle.epx_ranking.specs.declared.order_fault.OrderFault.{OrderFault}

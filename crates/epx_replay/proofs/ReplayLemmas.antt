@@ -4,8 +4,10 @@ use Rattle.std.proofs.Common.{◌-◌, refl, sym, ap, ap₂, subst, arith, drop,
 use Rattle.std.proofs.Common.{min}
 use Rattle.std.proofs.lemmas.Grind.{flat_map-append}
 use Rattle.epx_types.proofs.Common.{append_assoc, length-append, length-drop, length-take}
-use Rattle.epx_types.proofs.Common.{map-append, Id, Op, Reply, Contents, execute, execute-append}
-use Rattle.epx_types.proofs.Common.{length-replies}
+use Rattle.epx_types.proofs.Common.{map-append, Contents, execute, execute-append, length-replies}
+use Rattle.epx_types.specs.declared.id.Id.{Id}
+use Rattle.epx_types.specs.declared.op.Op.{Op}
+use Rattle.epx_types.specs.declared.reply.Reply.{Reply}
 use Rattle.epx_report.specs.ReportLines.{reply_line}
 
 abbrev pub lines_of : List Id → List Reply → List ℕ

@@ -2,8 +2,9 @@
 use Rattle.std.proofs.Common.{◌≡◌, ◌⊎◌, inl, inr, ℕ, suc, ◌-◌, ℤ, true, T, List, [], ◌∷◌, ◌++◌}
 use Rattle.std.proofs.Common.{take, drop, Some, Result, Ok, Err, refl, sym, ap, ◌∙◌, subst, arith}
 use Rattle.std.proofs.Common.{append_assoc, append-nil}
-use Rattle.epx_types.proofs.Common.{take-append-drop, is_sorted, Id, key_cmp, Contents, write_all}
+use Rattle.epx_types.proofs.Common.{take-append-drop, is_sorted, key_cmp, Contents, write_all}
 use Rattle.epx_types.proofs.Common.{insert_all-from_entries, entries-from_entries}
+use Rattle.epx_types.specs.declared.id.Id.{Id}
 use Rattle.std.specs.FinMap as contents
 use Rattle.epx_lines.specs.Lines.{lines_of}
 use Rattle.epx_report.specs.declared.form.BaseLine.{BaseLine}

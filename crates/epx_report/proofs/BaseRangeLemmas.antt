@@ -2,8 +2,9 @@
 use Rattle.std.proofs.Common.{◌≡◌, ℕ, ◌+◌, ℤ, w64, List, [], ◌∷◌, ◌++◌, Contains, Option, Some}
 use Rattle.std.proofs.Common.{None, option_map, Result, inl, inr, sym, ◌∙◌, subst, rules}
 use Rattle.std.proofs.Common.{FitsSigned, IfSome, IfOk}
-use Rattle.epx_types.proofs.Common.{⊤, AllByRecursion, insert_key, Id, id_cmp, Contents, assign}
+use Rattle.epx_types.proofs.Common.{⊤, AllByRecursion, insert_key, id_cmp, Contents, assign}
 use Rattle.epx_types.proofs.Common.{key_cmp, get-assign_cases, Contains-nil}
+use Rattle.epx_types.specs.declared.id.Id.{Id}
 use Rattle.std.specs.FinMap as contents
 use Rattle.serde_json.specs.Data.{Data}
 use Rattle.epx_lines.specs.Lines.{lines_of}
@@ -22,8 +23,7 @@ use Rattle.epx_report.specs.ReportReadings.{FitsNumbers}
 use Rattle.epx_report.proofs.BaseLemmas.{reading_of_base}
 use Rattle.epx_report.proofs.RisingListLemmas.{Contains-insert_cases}
 use Rattle.epx_report.proofs.JsonStringLemmas.{by_branch, IfSome-branch, IfSome-map}
-use Rattle.epx_report.proofs.JsonStringLemmas.{IfSome-and_then}
-use Rattle.epx_report.proofs.JsonStringLemmas.{IfSome-trivial}
+use Rattle.epx_report.proofs.JsonStringLemmas.{IfSome-and_then, IfSome-trivial}
 use Rattle.epx_report.proofs.JsonValueLemmas.{FitsData}
 use Rattle.epx_report.proofs.LineRangeLemmas.{IsStoreKey, signed_fits, key_of_fits, elements_fit}
 use Rattle.epx_report.proofs.LineRangeLemmas.{id_of_pair_fits, json_of_fits}

@@ -5,10 +5,11 @@ use Rattle.std.proofs.Common.{AllPairs, Option, Some, None, option_map, refl, sy
 use Rattle.std.proofs.Common.{arith, append-nil, append_assoc, is_lt, if◌then◌else◌}
 use Rattle.epx_types.proofs.Common.{nat_tests, nil_from_length, length_push, Contains-append_left}
 use Rattle.epx_types.proofs.Common.{Contains-push_cases, Contains-push, insert_key, is_sorted}
-use Rattle.epx_types.proofs.Common.{below_all, Id, id_cmp, key_cmp, is_among, first_of, second_of}
+use Rattle.epx_types.proofs.Common.{below_all, id_cmp, key_cmp, is_among, first_of, second_of}
 use Rattle.epx_types.proofs.Common.{less_from_is_lt, Contains-nil, Contains-cons_cases}
 use Rattle.epx_types.proofs.Common.{AllPairs-append, AllPairs-from_parts, same_ids, IsRising-push}
 use Rattle.epx_types.proofs.Common.{is_among_cases}
+use Rattle.epx_types.specs.declared.id.Id.{Id}
 use Rattle.epx_lines.proofs.EntryLemmas.{IsRising-insert}
 use Rattle.epx_store.proofs.RisingEntryLemmas.{both_of, below_all_trans}
 use Rattle.epx_report.specs.declared.form.Counts.{Counts}

@@ -3,9 +3,10 @@ use Rattle.std.proofs.Common.{◌≡◌, ℕ, suc, ◌+◌, ◌<◌, ◌≤◌, 
 use Rattle.std.proofs.Common.{◌++◌, length, Option, Some, None, refl, arith, FitsSigned, IfSome}
 use Rattle.std.proofs.Common.{◌+ℤ◌, int_lt}
 use Rattle.epx_types.proofs.Common.{AllByRecursion, nat_tests, length-append, All-from_recursion}
-use Rattle.epx_types.proofs.Common.{Op, Get, Put, Del, Add, Is, Floor, Copy, Contents, amount_at}
-use Rattle.epx_types.proofs.Common.{fits_i64, same_value, operate, Outcome, unless_aborted}
-use Rattle.epx_types.proofs.Common.{operate_all, command_on, execute, Execution}
+use Rattle.epx_types.proofs.Common.{Contents, amount_at, fits_i64, same_value, operate, Outcome}
+use Rattle.epx_types.proofs.Common.{unless_aborted, operate_all, command_on, execute, Execution}
+use Rattle.epx_types.specs.declared.op.Op.{Op}
+use Rattle.epx_types.specs.declared.op.Op.TheVariants.{Get, Put, Del, Add, Is, Floor, Copy}
 use Rattle.std.specs.FinMap as contents
 use Rattle.epx_report.specs.ReportReadings.{FitsOptional, FitsReply}
 use Rattle.epx_report.proofs.JsonStringLemmas.{IfSome-test, IfSome-branch}

@@ -3,11 +3,12 @@ use Rattle.std.proofs.Common.{◌≡◌, ◌≢◌, ◌⊎◌, inl, inr, ℕ, ze
 use Rattle.std.proofs.Common.{◌∷◌, ◌++◌, length, map, Contains, AllPairs, is_lt, Less, refl, sym}
 use Rattle.std.proofs.Common.{ap, ◌∙◌, subst, arith, append-nil, append_assoc, length-append}
 use Rattle.epx_types.proofs.Common.{Contains-append_cases, nat_cmp, ordering_then, nat_cmp_is}
-use Rattle.epx_types.proofs.Common.{nat_cmp_total, Id, Below, IsRising, Contains-nil}
+use Rattle.epx_types.proofs.Common.{nat_cmp_total, Below, IsRising, Contains-nil}
 use Rattle.epx_types.proofs.Common.{Contains-cons_cases, AllPairs-append, AllPairs-from_parts}
 use Rattle.epx_types.proofs.Common.{AllPairs-head, AllPairs-tail, id_cmp_total, below_irrefl}
 use Rattle.epx_types.proofs.Common.{AllPairs-from_IsRising, BelowAll-from_each}
 use Rattle.epx_types.proofs.Common.{IsRising-from_AllPairs}
+use Rattle.epx_types.specs.declared.id.Id.{Id}
 use Rattle.std.specs.Cmp.{tied_itself}
 use Rattle.epx_report.specs.declared.form.BaseLine.{BaseLine}
 use Rattle.epx_report.specs.declared.form.BaseLine.TheVariants as line

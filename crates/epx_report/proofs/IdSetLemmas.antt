@@ -8,10 +8,11 @@ use Rattle.epx_types.proofs.Common.{ordering_then, eq_by_cmp, IsEquivalence, cas
 use Rattle.epx_types.proofs.Common.{Contains-append_left, Contains-append_right}
 use Rattle.epx_types.proofs.Common.{Contains-append_cases, Contains-push, Contains-push_cases}
 use Rattle.epx_types.proofs.Common.{Contains-permutation, IsPermutation-sym, slice_get_within}
-use Rattle.epx_types.proofs.Common.{get_or_from_slice_get, Id, id_cmp, Below, IsRising, is_among}
+use Rattle.epx_types.proofs.Common.{get_or_from_slice_get, id_cmp, Below, IsRising, is_among}
 use Rattle.epx_types.proofs.Common.{Contains-nil, Contains-head, Contains-cons, Contains-cons_cases}
 use Rattle.epx_types.proofs.Common.{id_cmp_total, id_cmp-IsAntisymmetric, below_irrefl, below_trans}
 use Rattle.epx_types.proofs.Common.{same_ids, IsRising-push, rising_from_strict, is_among_cases}
+use Rattle.epx_types.specs.declared.id.Id.{Id}
 use Rattle.std.specs.List.{dedup}
 use Rattle.std.specs.List.Retain.{IsFiltered, DiffersFromLast}
 use Rattle.std.specs.Cmp.{eq_by_cmp_equiv}

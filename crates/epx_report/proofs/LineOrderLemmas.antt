@@ -1,7 +1,8 @@
 -- Lines of a base in order, with further lines at the end.
 use Rattle.std.proofs.Common.{◌≡◌, ℕ, ℤ, List, [], ◌∷◌, ◌++◌, map, append-nil, append_assoc, sym}
 use Rattle.std.proofs.Common.{ap, ◌∙◌}
-use Rattle.epx_types.proofs.Common.{map-append, Id}
+use Rattle.epx_types.proofs.Common.{map-append}
+use Rattle.epx_types.specs.declared.id.Id.{Id}
 use Rattle.epx_report.specs.declared.form.BaseLine.{BaseLine}
 use Rattle.epx_report.specs.declared.form.BaseLine.TheVariants as line
 use Rattle.epx_report.specs.declared.form.Counts.{Counts}

@@ -4,9 +4,12 @@ use Rattle.std.proofs.Common.{length, filter, codes, Contains, Option, Some, Non
 use Rattle.std.proofs.Common.{option_map, option_and_then, Result, Ok, Err, inl, inr, refl, ap}
 use Rattle.std.proofs.Common.{arith, rules, ltb-true, leb-true, FitsSigned, IfSome, is_some}
 use Rattle.epx_types.proofs.Common.{⊤, AllByRecursion, nat_cmp, is_utf8, and_parts, All-contains}
-use Rattle.epx_types.proofs.Common.{All-from_recursion, IfSome_then, Id, Op, Why, NotJson}
-use Rattle.epx_types.proofs.Common.{NotObject, FitsKey, Instance, Contains-nil}
-use Rattle.epx_types.proofs.Common.{Contains-from_filter}
+use Rattle.epx_types.proofs.Common.{All-from_recursion, IfSome_then, FitsKey, Instance}
+use Rattle.epx_types.proofs.Common.{Contains-nil, Contains-from_filter}
+use Rattle.epx_types.specs.declared.id.Id.{Id}
+use Rattle.epx_types.specs.declared.op.Op.{Op}
+use Rattle.epx_types.specs.declared.fault.Why.{Why}
+use Rattle.epx_types.specs.declared.fault.Why.TheVariants.{NotJson, NotObject}
 use Rattle.std.specs.Cmp.Lexicographic.{slice_cmp}
 use Rattle.std.proofs.lemmas.Str.{IsUtf8-from_is_utf8}
 use Rattle.serde_json.specs.Data.{Data, number, string, array, object, Items, no_items, item}

@@ -2,7 +2,10 @@
 use Rattle.std.proofs.Common.{◌≡◌, ℕ, ℤ, pos, negsuc, List, [], ◌∷◌, ◌++◌, map, codes, Option, Some}
 use Rattle.std.proofs.Common.{None, Result, OnOk, flat_map, append_assoc, append-nil, refl, sym, ap}
 use Rattle.std.proofs.Common.{◌∙◌}
-use Rattle.epx_types.proofs.Common.{on_ok_weaker, Id, Reply, Values, Abort}
+use Rattle.epx_types.proofs.Common.{on_ok_weaker}
+use Rattle.epx_types.specs.declared.id.Id.{Id}
+use Rattle.epx_types.specs.declared.reply.Reply.{Reply}
+use Rattle.epx_types.specs.declared.reply.Reply.TheVariants.{Values, Abort}
 use Rattle.std.specs.declared.alloc.AllocError.{AllocError}
 use Rattle.json.specs.Token.{Token, begin_array, end_array, string}
 use Rattle.json.specs.Print.{print}

@@ -8,10 +8,11 @@ use Rattle.epx_types.proofs.Common.{list_any, IsPermutation, eq_by_cmp, nil_from
 use Rattle.epx_types.proofs.Common.{Contains-append_left, Contains-append_right}
 use Rattle.epx_types.proofs.Common.{Contains-append_cases, Contains-permutation, IsPermutation-sym}
 use Rattle.epx_types.proofs.Common.{IsDistinct-IsPermutation, AllPairs-from_IsDistinct}
-use Rattle.epx_types.proofs.Common.{IsDistinct-from_AllPairs, Id, Contents, is_among, id_cmp}
-use Rattle.epx_types.proofs.Common.{IsRising, id_cmp_total, id_cmp-Decides, AllPairs-head}
-use Rattle.epx_types.proofs.Common.{AllPairs-tail, Contains-nil, Contains-cons_cases, IsRising-push}
-use Rattle.epx_types.proofs.Common.{rising_once, is_among_cases}
+use Rattle.epx_types.proofs.Common.{IsDistinct-from_AllPairs, Contents, is_among, id_cmp, IsRising}
+use Rattle.epx_types.proofs.Common.{id_cmp_total, id_cmp-Decides, AllPairs-head, AllPairs-tail}
+use Rattle.epx_types.proofs.Common.{Contains-nil, Contains-cons_cases, IsRising-push, rising_once}
+use Rattle.epx_types.proofs.Common.{is_among_cases}
+use Rattle.epx_types.specs.declared.id.Id.{Id}
 use Rattle.epx_lines.specs.Lines.{lines_of}
 use Rattle.epx_report.specs.declared.form.BaseLine.{BaseLine}
 use Rattle.epx_report.specs.declared.form.BaseLine.TheVariants as line

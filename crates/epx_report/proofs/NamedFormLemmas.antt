@@ -2,7 +2,8 @@
 use Rattle.std.proofs.Common.{◌≡◌, ℕ, ℤ, ◌^◌, ◌<◌, ◌≤◌, true, nat_le, codes, List, [], ◌∷◌, ◌++◌}
 use Rattle.std.proofs.Common.{Some, None, option_map, is_some, refl, ap, ◌∙◌, arith, lt-ltb}
 use Rattle.std.proofs.Common.{if◌then◌else◌}
-use Rattle.epx_types.proofs.Common.{nat_tests, Id}
+use Rattle.epx_types.proofs.Common.{nat_tests}
+use Rattle.epx_types.specs.declared.id.Id.{Id}
 use Rattle.serde_json.specs.Data.{Data, string}
 use Rattle.epx_lines.specs.Elements.{whole, signed}
 use Rattle.epx_lines.specs.DependencyList.{id_of_pair}

@@ -3,8 +3,10 @@ use Rattle.std.proofs.Common.{◌≡◌, ℕ, suc, ◌+◌, ◌*◌, ◌^◌, �
 use Rattle.std.proofs.Common.{nat_le, is_some, codes, List, [], ◌∷◌, ◌++◌, length, map, All, Option}
 use Rattle.std.proofs.Common.{Some, None, IsUtf8, option_map, decimal, refl, ap, arith}
 use Rattle.std.proofs.Common.{length-append, lit<}
-use Rattle.epx_types.proofs.Common.{nat_tests, length-decimal-le, w64, list_all, Id, Reply, Values}
-use Rattle.epx_types.proofs.Common.{Abort, Waiting, FitsKey}
+use Rattle.epx_types.proofs.Common.{nat_tests, length-decimal-le, w64, list_all, Waiting, FitsKey}
+use Rattle.epx_types.specs.declared.id.Id.{Id}
+use Rattle.epx_types.specs.declared.reply.Reply.{Reply}
+use Rattle.epx_types.specs.declared.reply.Reply.TheVariants.{Values, Abort}
 use Rattle.std.specs.Int.RustNames.{FitsSigned}
 use Rattle.json.specs.Print.{escape_byte, quoted}
 use Rattle.json.proofs.Printed.Utf8.{are_ascii, IsUtf8-are_ascii}

@@ -2,7 +2,9 @@
 use Rattle.std.proofs.Common.{◌≡◌, ℕ, suc, ℤ, true, List, [], ◌∷◌, ◌++◌, length, map, flat_map, All}
 use Rattle.std.proofs.Common.{IsUtf8, Some, refl, sym, ap, ap₂, ◌∙◌, arith, append_assoc}
 use Rattle.std.proofs.Common.{append-nil}
-use Rattle.epx_types.proofs.Common.{map-append, w64, Id, Reply, Waiting, FitsKey}
+use Rattle.epx_types.proofs.Common.{map-append, w64, Waiting, FitsKey}
+use Rattle.epx_types.specs.declared.id.Id.{Id}
+use Rattle.epx_types.specs.declared.reply.Reply.{Reply}
 use Rattle.std.specs.Int.RustNames.{FitsSigned}
 use Rattle.serde_json.specs.Data.{Data}
 use Rattle.serde_json.specs.Written.{compact_text}

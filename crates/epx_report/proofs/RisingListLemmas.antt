@@ -2,9 +2,10 @@
 use Rattle.std.proofs.Common.{◌≡◌, ◌⊎◌, inl, inr, ℕ, suc, ◌-◌, true, false, T, Bool, Less, Equal}
 use Rattle.std.proofs.Common.{Greater, is_lt, ℤ, List, [], ◌∷◌, ◌++◌, Contains, length, slice_get}
 use Rattle.std.proofs.Common.{option_map, refl, sym, ap, ◌∙◌, subst, arith}
-use Rattle.epx_types.proofs.Common.{insert_key, is_sorted, Id, id_cmp, IsRising, key_cmp}
-use Rattle.epx_types.proofs.Common.{Contains-nil, Contains-head, Contains-cons, Contains-cons_cases}
+use Rattle.epx_types.proofs.Common.{insert_key, is_sorted, id_cmp, IsRising, key_cmp, Contains-nil}
+use Rattle.epx_types.proofs.Common.{Contains-head, Contains-cons, Contains-cons_cases}
 use Rattle.epx_types.proofs.Common.{id_cmp-IsAntisymmetric, first_of, second_of}
+use Rattle.epx_types.specs.declared.id.Id.{Id}
 use Rattle.epx_report.specs.inner.Progress.{last, is_after_last}
 
 -- ---- an inserted Id

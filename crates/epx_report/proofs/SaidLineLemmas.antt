@@ -1,6 +1,5 @@
 -- Lines that all name something, as a list of what they name.
-use Rattle.std.proofs.Common.{◌≡◌, List, [], ◌∷◌, map, Option, Some, refl}
-use Rattle.std.proofs.Common.{ap₂}
+use Rattle.std.proofs.Common.{◌≡◌, List, [], ◌∷◌, map, Option, Some, refl, ap₂}
 
 module _ {X : Type 0} where
   -- the first of them

@@ -2,9 +2,10 @@
 use Rattle.std.proofs.Common.{◌≡◌, ◌≢◌, ◌⊎◌, inl, inr, ◌↔◌, ℕ, ◌+◌, ◌<◌, ◌==◌, nat_lt, ℤ, true, T}
 use Rattle.std.proofs.Common.{List, [], ◌∷◌, ◌++◌, length, map, Contains, AllPairs, Some, refl, sym}
 use Rattle.std.proofs.Common.{ap, subst, arith, append-nil, length-append}
-use Rattle.epx_types.proofs.Common.{nat_tests, append_assoc, insert_key, is_sorted, Id, id_cmp}
+use Rattle.epx_types.proofs.Common.{nat_tests, append_assoc, insert_key, is_sorted, id_cmp}
 use Rattle.epx_types.proofs.Common.{IsRising, key_cmp, Contains-nil, Contains-head, Contains-cons}
 use Rattle.epx_types.proofs.Common.{Contains-cons_cases, AllPairs-head, AllPairs-tail, same_ids}
+use Rattle.epx_types.specs.declared.id.Id.{Id}
 use Rattle.epx_lines.proofs.EntryLemmas.{IsRising-insert, IsRising-fold}
 use Rattle.epx_lines.proofs.OtherIdLemmas.{insert_last}
 use Rattle.epx_report.specs.declared.form.Counts.{Counts}
@@ -17,8 +18,7 @@ use Rattle.epx_report.specs.inner.IdSets.{with_late}
 use Rattle.epx_report.proofs.IdSetLemmas.{Contains-with_rising, Contains-with_late}
 use Rattle.epx_report.proofs.IdSetLemmas.{Contains-with_cases, not_among}
 use Rattle.epx_report.proofs.RisingListLemmas.{Contains-insert_itself, Contains-insert_other}
-use Rattle.epx_report.proofs.RisingListLemmas.{Contains-insert_cases, above_last}
-use Rattle.epx_report.proofs.RisingListLemmas.{above_last_key}
+use Rattle.epx_report.proofs.RisingListLemmas.{Contains-insert_cases, above_last, above_last_key}
 
 -- the done instances of a base can be listed
 pub done_exists : (before replied : List Id) → IsRising before

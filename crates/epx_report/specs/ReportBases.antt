@@ -7,8 +7,7 @@ use Rattle.epx_types.specs.Ids.{IsRising}
 use Rattle.epx_types.specs.Contents.{Contents}
 use Rattle.epx_types.specs.WaitingLists.{waiting_ids}
 use Rattle.epx_report.specs.Bases.{AreDistinctIds, AreDoneIn, IsBase}
-use Rattle.epx_report.specs.ReportReadings.{ReportData, replied_ids, text_of_report}
-use Rattle.epx_report.specs.ReportReadings.{FitsReportData}
+use Rattle.epx_report.specs.ReportReadings.{ReportData, replied_ids, text_of_report, FitsReportData}
 
 -- no two lines of a report name one instance, and done lines and waiting lines rise
 abbrev pub AreLinesInOrder : ReportData → Type 0

@@ -10,11 +10,9 @@ use Rattle.epx_types.proofs.Common.{entries_sorted, get-from_entries, below_all,
 use Rattle.epx_types.proofs.Common.{apply_writes, key_cmp_total, key_cmp-IsAntisymmetric, first_of}
 use Rattle.epx_types.proofs.Common.{find_below, entries-from_entries, write_all}
 use Rattle.epx_types.proofs.Common.{insert_all-from_entries}
-use Rattle.std.proofs.lemmas.List.{set_split}
-use Rattle.std.proofs.lemmas.List.{map-set}
+use Rattle.std.proofs.lemmas.List.{set_split, map-set}
 use Rattle.std.specs.FinMap as contents
-use Rattle.std.specs.FinMap.{find, put, entries-insert}
-use Rattle.std.specs.FinMap.{same_entries_map}
+use Rattle.std.specs.FinMap.{find, put, entries-insert, same_entries_map}
 use Rattle.std.specs.FinMap.Entries.{by_order}
 use Rattle.epx_store.specs.inner.KeySlots.{IsAtSlot, IsInsertedAt}
 use Rattle.epx_store.proofs.DropLemmas.{drop_at_index}

@@ -1,8 +1,9 @@
 -- The writes of several effects, one after another.
 use Rattle.std.proofs.Common.{◌≡◌, ℕ, ◌+◌, ◌<◌, ◌∙◌, sym, ap, subst, append-nil, List, [], ◌∷◌}
 use Rattle.std.proofs.Common.{length, get_or, drop, flat_map}
-use Rattle.epx_types.proofs.Common.{Contents, Op, writes_of, apply_writes, HasDistinctKeys}
+use Rattle.epx_types.proofs.Common.{Contents, writes_of, apply_writes, HasDistinctKeys}
 use Rattle.epx_types.proofs.Common.{apply_writes-append, writes_of-distinct}
+use Rattle.epx_types.specs.declared.op.Op.{Op}
 use Rattle.epx_types.specs.Writes.{Write}
 use Rattle.epx_store.proofs.DropLemmas.{drop_at_index}
 use Rattle.epx_store.specs.declared.effect.Effect.{Effect}

@@ -10,8 +10,7 @@ use Rattle.std.specs.BTreeMap.{Updates}
 use Rattle.std.specs.List.Sorted.{IsStrictlySortedBy}
 use Rattle.std.proofs.lemmas.Map.Keys.{sorted_head, sorted_tail}
 use Rattle.std.specs.FinMap as contents
-use Rattle.std.specs.FinMap.{find, same_map, get-insert}
-use Rattle.std.specs.FinMap.{get-remove}
+use Rattle.std.specs.FinMap.{find, same_map, get-insert, get-remove}
 use Rattle.epx_store.proofs.RisingEntryLemmas.{both_of}
 
 module _ {X : Type 0} where

@@ -16,8 +16,7 @@ use Rattle.std.specs.List.Sorted.{IsSortedBy}
 use Rattle.std.specs.Cmp.{tied_itself}
 use Rattle.std.proofs.lemmas.List.Sorted.{sum_by-IsPermutation}
 use Rattle.std.specs.FinMap as contents
-use Rattle.std.specs.FinMap.{find}
-use Rattle.std.specs.FinMap.{len-empty, len-insert, len-entries}
+use Rattle.std.specs.FinMap.{find, len-empty, len-insert, len-entries}
 use Rattle.epx_store.specs.inner.Shards.{shard_of, AreShards, all_contents}
 use Rattle.epx_store.proofs.ShardLookupLemmas.{no_contents, find-nowhere}
 use Rattle.epx_store.proofs.RisingEntryLemmas.{both_of, below_all_trans}

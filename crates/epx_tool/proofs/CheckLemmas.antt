@@ -1,12 +1,12 @@
 -- What a list and a committed map are answered with is a verdict on the instances that the list
 -- names. So is what a list and logs are answered with.
 use Rattle.std.proofs.Common.{◌≡◌, ◌⊎◌, ℕ, List, subst, inl, inr}
-use Rattle.epx_types.proofs.Common.{Id, IsRising, Instance, ids_of}
+use Rattle.epx_types.proofs.Common.{IsRising, Instance, ids_of}
+use Rattle.epx_types.specs.declared.id.Id.{Id}
 use Rattle.epx_merge.specs.Acceptance.{IsAccepted}
 use Rattle.epx_merge.proofs.UniquenessLemmas.{accepted_unique}
 use Rattle.epx_report.specs.Lists.{IsList, IsBadList}
-use Rattle.epx_report.proofs.ListLemmas.{list_or_bad_list, list_is_no_bad_list}
-use Rattle.epx_report.proofs.ListLemmas.{list_names_one_list}
+use Rattle.epx_report.proofs.ListLemmas.{list_or_bad_list, list_is_no_bad_list, list_names_one_list}
 
 -- `Is` is a kind of verdict
 module _ (Is : List Instance → List Id → List ℕ → Type 0) (list : List ℕ) where

@@ -1,7 +1,8 @@
 -- The text of an audit says that logs are covered exactly if they are.
 use Rattle.std.proofs.Common.{◌≡◌, ℕ, List, Ok, subst, inl, inr}
 use Rattle.json.specs.Print.{escape_byte}
-use Rattle.epx_types.proofs.Common.{Id, Instance, IsCovered}
+use Rattle.epx_types.proofs.Common.{Instance, IsCovered}
+use Rattle.epx_types.specs.declared.id.Id.{Id}
 use Rattle.epx_merge.specs.Acceptance.{IsAccepted}
 use Rattle.epx_merge.proofs.UniquenessLemmas.{accepted_unique}
 use Rattle.epx_report.specs.ViewLines.{covered_line, uncovered_line}

@@ -1,9 +1,9 @@
 -- An input and logs that are read from memory: no read fails.
 use Rattle.std.proofs.Common.{ℕ, List, Ok, Err, inl, inr, refl, subst}
-use Rattle.epx_types.proofs.Common.{Fault, TooManyLogs, LogTooLong, BadLine, TooManyInstances}
-use Rattle.epx_types.proofs.Common.{Disagree, Read, BadBase}
-use Rattle.epx_types.specs.declared.fault.Fault.TheVariants.{Memory}
-use Rattle.epx_types.specs.declared.fault.Fault.TheVariants.{Write}
+use Rattle.epx_types.specs.declared.fault.Fault.{Fault}
+use Rattle.epx_types.specs.declared.fault.Fault.TheVariants.{TooManyLogs, LogTooLong, BadLine}
+use Rattle.epx_types.specs.declared.fault.Fault.TheVariants.{TooManyInstances, Disagree, Read}
+use Rattle.epx_types.specs.declared.fault.Fault.TheVariants.{BadBase, Memory, Write}
 use Rattle.epx_devices.specs.MemoryDevices.{memory_source}
 use Rattle.epx_names.specs.Tasks.{HasInput}
 use Rattle.epx_names.specs.declared.task.Task.{Task}

@@ -1,7 +1,8 @@
 -- How a run ends, by how reading its sources and merging their logs ended.
 use Rattle.std.proofs.Common.{◌≡◌, ◌↔◌, ℕ, true, false, List, length, Result, Ok, Err, inl, inr}
 use Rattle.std.proofs.Common.{subst, arith}
-use Rattle.epx_types.proofs.Common.{Appends, OnOk, IfErr, IsErr, Fault}
+use Rattle.epx_types.proofs.Common.{Appends, OnOk, IfErr, IsErr}
+use Rattle.epx_types.specs.declared.fault.Fault.{Fault}
 use Rattle.epx_types.specs.declared.fault.Fault.TheVariants.{Write}
 use Rattle.epx_devices.specs.Models.{SinkModel, SourceModel}
 use Rattle.epx_devices.specs.Transfers.{AppendsPrefix}
@@ -11,8 +12,7 @@ use Rattle.epx_merge.specs.SourceReadings.{EndsMaking}
 use Rattle.epx_tool.proofs.ReturnedFaultLemmas.{IsLogAnswer, same_error, HasRead-of_lines}
 use Rattle.epx_tool.proofs.ReturnedFaultLemmas.{HasRead-written, of_lines_not_write}
 use Rattle.epx_tool.proofs.ReturnedFaultLemmas.{run_fault_of_lines}
-use Rattle.epx_tool.proofs.RunEndingLemmas.{leaves_again, leaves_after}
-use Rattle.epx_tool.proofs.RunEndingLemmas.{writes_nothing, writes_text}
+use Rattle.epx_tool.proofs.RunEndingLemmas.{leaves_again, leaves_after, writes_nothing, writes_text}
 
 module _ {S T : Type 0} (D : SourceModel S) (W : SinkModel T)
     (Answer : List (List ℕ) → Result (List ℕ) Fault → Type 0) (old new : List S) (was : T) where

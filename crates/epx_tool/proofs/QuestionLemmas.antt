@@ -1,6 +1,7 @@
 -- What answers a question about a committed map answers the task that asks it.
 use Rattle.std.proofs.Common.{◌≢◌, ℕ, Bool, List, [], Result, Ok, Err, refl, inl, inr, subst}
-use Rattle.epx_types.proofs.Common.{MatchResult, Fault, remaining, Instance}
+use Rattle.epx_types.proofs.Common.{MatchResult, remaining, Instance}
+use Rattle.epx_types.specs.declared.fault.Fault.{Fault}
 use Rattle.epx_devices.specs.Models.{SourceModel}
 use Rattle.epx_merge.specs.Refusals.{IsRefusal}
 use Rattle.epx_names.specs.Tasks.{HasInput}

@@ -2,12 +2,14 @@
 use Rattle.std.proofs.Common.{◌≡◌, ◌≢◌, ◌⊎◌, ◌↔◌, ◌++◌, ℕ, List, [], ◌∷◌, length, zip, flat_map}
 use Rattle.std.proofs.Common.{Contains, AllPairs, refl, sym, ap, ◌∙◌, subst, arith}
 use Rattle.std.specs.FinMap as contents
-use Rattle.epx_types.proofs.Common.{length-map, Id, Reply, IsRising, Contents, Instance}
-use Rattle.epx_types.proofs.Common.{instance_of, ops_or_empty, commands_in, remaining, execute}
-use Rattle.epx_types.proofs.Common.{Execution, Ranked, IsExecutionOrder, ranked_ids}
-use Rattle.epx_types.proofs.Common.{component_count, Waiting, IsWaitingList, waiting_ids}
-use Rattle.epx_types.proofs.Common.{Contains-remaining_iff, remaining-nil}
-use Rattle.epx_types.proofs.Common.{IsExecutionOrder-IsLawful, length-replies, Contains-from_map}
+use Rattle.epx_types.proofs.Common.{length-map, IsRising, Contents, Instance, instance_of}
+use Rattle.epx_types.proofs.Common.{ops_or_empty, commands_in, remaining, execute, Execution}
+use Rattle.epx_types.proofs.Common.{Ranked, IsExecutionOrder, ranked_ids, component_count, Waiting}
+use Rattle.epx_types.proofs.Common.{IsWaitingList, waiting_ids, Contains-remaining_iff}
+use Rattle.epx_types.proofs.Common.{remaining-nil, IsExecutionOrder-IsLawful, length-replies}
+use Rattle.epx_types.proofs.Common.{Contains-from_map}
+use Rattle.epx_types.specs.declared.id.Id.{Id}
+use Rattle.epx_types.specs.declared.reply.Reply.{Reply}
 use Rattle.epx_report.specs.Bases.{IsBase}
 use Rattle.epx_report.specs.ReportLines.{header_line, done_line, reply_line, waiting_line}
 use Rattle.epx_report.specs.ReportLines.{store_line}

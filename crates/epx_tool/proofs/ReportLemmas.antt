@@ -2,12 +2,14 @@
 use Rattle.std.proofs.Common.{◌≡◌, ◌≤◌, ◌^◌, ℕ, List, [], Option, Some, None, MatchOption, inl, inr}
 use Rattle.std.proofs.Common.{length, sym, ap, ap₂, ◌∙◌, subst, arith, Contains}
 use Rattle.std.specs.FinMap as contents
-use Rattle.epx_types.proofs.Common.{length-map, Id, Op, Reply, Contents, Instance, remaining}
-use Rattle.epx_types.proofs.Common.{execute, Ranked, IsExecutionOrder, ranked_ids, Waiting}
-use Rattle.epx_types.proofs.Common.{IsWaitingList, max_instances, commands_in, IsCovered}
-use Rattle.epx_types.proofs.Common.{Contains-remaining_iff, remaining-nil}
-use Rattle.epx_types.proofs.Common.{IsExecutionOrder-IsLawful, ordered_are_few, commands-left}
-use Rattle.epx_types.proofs.Common.{length-remaining}
+use Rattle.epx_types.proofs.Common.{length-map, Contents, Instance, remaining, execute, Ranked}
+use Rattle.epx_types.proofs.Common.{IsExecutionOrder, ranked_ids, Waiting, IsWaitingList}
+use Rattle.epx_types.proofs.Common.{max_instances, commands_in, IsCovered, Contains-remaining_iff}
+use Rattle.epx_types.proofs.Common.{remaining-nil, IsExecutionOrder-IsLawful, ordered_are_few}
+use Rattle.epx_types.proofs.Common.{commands-left, length-remaining}
+use Rattle.epx_types.specs.declared.id.Id.{Id}
+use Rattle.epx_types.specs.declared.op.Op.{Op}
+use Rattle.epx_types.specs.declared.reply.Reply.{Reply}
 use Rattle.epx_tool.specs.Report.{IsReport, report_text}
 use Rattle.epx_tool.specs.ResumedReport.{IsReportAfter, resumed_text}
 use Rattle.epx_tool.specs.AuditText.{IsAuditText}

@@ -1,7 +1,9 @@
 -- A report is what it has before its replies, the replies, and what it has after them.
 use Rattle.std.proofs.Common.{◌≡◌, ◌++◌, ◌∙◌, List, ℕ, length, flat_map, zip, ap, ap₂}
-use Rattle.epx_types.proofs.Common.{append_assoc, Id, Reply, Contents, Ranked, ranked_ids}
-use Rattle.epx_types.proofs.Common.{component_count, Waiting}
+use Rattle.epx_types.proofs.Common.{append_assoc, Contents, Ranked, ranked_ids, component_count}
+use Rattle.epx_types.proofs.Common.{Waiting}
+use Rattle.epx_types.specs.declared.id.Id.{Id}
+use Rattle.epx_types.specs.declared.reply.Reply.{Reply}
 use Rattle.std.specs.FinMap as contents
 use Rattle.epx_report.specs.ReportLines.{header_line, done_line, reply_line, store_line}
 use Rattle.epx_report.specs.ReportLines.{waiting_line}

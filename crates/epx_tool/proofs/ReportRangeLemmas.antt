@@ -3,16 +3,20 @@ use Rattle.std.proofs.Common.{◌≡◌, ℕ, suc, ◌≤◌, ◌++◌, cond, T,
 use Rattle.std.proofs.Common.{Contains, IsUtf8, Option, Some, None, Result, Ok, Err, inl, inr, ap}
 use Rattle.std.proofs.Common.{◌∙◌, subst, arith, FitsSigned}
 use Rattle.epx_types.proofs.Common.{AllByRecursion, is_eq, is_sorted, length-map}
-use Rattle.epx_types.proofs.Common.{All-from_recursion, count_by-le-length, Id, Reply, Place, Why}
-use Rattle.epx_types.proofs.Common.{id_cmp, FitsKey, key_cmp, Contents, Instance, Placed, ids_of}
-use Rattle.epx_types.proofs.Common.{instance_of, ops_or_empty, IsCommitted, commands_in, DependsOn}
-use Rattle.epx_types.proofs.Common.{IsPath, Reaches, remaining, Ranked, ranked_ids, Waiting}
-use Rattle.epx_types.proofs.Common.{waiting_ids, Contains-remaining_iff, DependsOn-remaining}
-use Rattle.epx_types.proofs.Common.{from_remaining, IsExecutionOrder-IsLawful, key_cmp_total}
-use Rattle.epx_types.proofs.Common.{Contains-nil, Contains-head, Contains-cons, Contains-cons_cases}
+use Rattle.epx_types.proofs.Common.{All-from_recursion, count_by-le-length, id_cmp, FitsKey}
+use Rattle.epx_types.proofs.Common.{key_cmp, Contents, Instance, Placed, ids_of, instance_of}
+use Rattle.epx_types.proofs.Common.{ops_or_empty, IsCommitted, commands_in, DependsOn, IsPath}
+use Rattle.epx_types.proofs.Common.{Reaches, remaining, Ranked, ranked_ids, Waiting, waiting_ids}
+use Rattle.epx_types.proofs.Common.{Contains-remaining_iff, DependsOn-remaining, from_remaining}
+use Rattle.epx_types.proofs.Common.{IsExecutionOrder-IsLawful, key_cmp_total, Contains-nil}
+use Rattle.epx_types.proofs.Common.{Contains-head, Contains-cons, Contains-cons_cases}
 use Rattle.epx_types.proofs.Common.{Contains-from_map, Contains-from_flat_map, rising_once}
 use Rattle.epx_types.proofs.Common.{same_key, find_below, first_of, second_of, max_instances}
 use Rattle.epx_types.proofs.Common.{length-remaining, fewer, ordered_are_few}
+use Rattle.epx_types.specs.declared.id.Id.{Id}
+use Rattle.epx_types.specs.declared.reply.Reply.{Reply}
+use Rattle.epx_types.specs.declared.place.Place.{Place}
+use Rattle.epx_types.specs.declared.fault.Why.{Why}
 use Rattle.std.specs.Cmp.{tied_itself}
 use Rattle.std.specs.FinMap as contents
 use Rattle.std.specs.FinMap.{find}

@@ -2,12 +2,13 @@
 use Rattle.std.proofs.Common.{◌≡◌, ◌⊎◌, ◌↔◌, ℕ, zero, suc, List, [], ◌∷◌, Contains, Some, slice_get}
 use Rattle.std.proofs.Common.{zip, inl, inr, sym, ap, ap₂, ◌∙◌, subst}
 use Rattle.std.specs.FinMap as contents
-use Rattle.epx_types.proofs.Common.{Id, IsRising, Contents, Instance, ids_of, commands_in}
-use Rattle.epx_types.proofs.Common.{remaining, execute, ranked_ids, IsLawful, IsReady, IsSound}
-use Rattle.epx_types.proofs.Common.{HasRemaining, remaining-nil, IsExecutionOrder-IsLawful}
-use Rattle.epx_types.proofs.Common.{Contains-nil, Contains-head, Contains-cons, Contains-cons_cases}
-use Rattle.epx_types.proofs.Common.{same_ids, IsSound-nothing_done, IsSound-resumed, IsSound-final}
+use Rattle.epx_types.proofs.Common.{IsRising, Contents, Instance, ids_of, commands_in, remaining}
+use Rattle.epx_types.proofs.Common.{execute, ranked_ids, IsLawful, IsReady, IsSound, HasRemaining}
+use Rattle.epx_types.proofs.Common.{remaining-nil, IsExecutionOrder-IsLawful, Contains-nil}
+use Rattle.epx_types.proofs.Common.{Contains-head, Contains-cons, Contains-cons_cases, same_ids}
+use Rattle.epx_types.proofs.Common.{IsSound-nothing_done, IsSound-resumed, IsSound-final}
 use Rattle.epx_types.proofs.Common.{reply-resumed}
+use Rattle.epx_types.specs.declared.id.Id.{Id}
 use Rattle.epx_merge.specs.Acceptance.{IsAccepted}
 use Rattle.epx_merge.proofs.UniquenessLemmas.{accepted_unique}
 use Rattle.epx_report.specs.Bases.{IsBase}
@@ -17,9 +18,8 @@ use Rattle.epx_report.proofs.ReportBaseLemmas.{done_after_exists}
 use Rattle.epx_tool.specs.ResumedReport.{IsReportAfter}
 use Rattle.epx_tool.specs.Resumption.{IsResumedText}
 use Rattle.epx_tool.specs.ResumableAnswers.{HasBaseAfter, AnswerIsBase, ResumptionIsBase}
-use Rattle.epx_tool.specs.ResumableAnswers.{IsSoundBase, ReportOfAPartIsSound}
-use Rattle.epx_tool.specs.ResumableAnswers.{ResumedReportIsSound, ResumedReportRepeatsTheWhole}
-use Rattle.epx_tool.specs.ResumableAnswers.{LastReportIsTheWhole}
+use Rattle.epx_tool.specs.ResumableAnswers.{IsSoundBase, ReportOfAPartIsSound, ResumedReportIsSound}
+use Rattle.epx_tool.specs.ResumableAnswers.{ResumedReportRepeatsTheWhole, LastReportIsTheWhole}
 use Rattle.epx_tool.proofs.AcceptedLogLemmas.{accepted_are_few}
 use Rattle.epx_tool.proofs.ReportBaseLemmas.{after_nothing, report_is_base, written, replied}
 use Rattle.epx_tool.proofs.ReportRangeLemmas.{accepted_fit, reported_fit}

@@ -1,10 +1,11 @@
 -- Faults that a run returns after its sources were read, or as reading them returned it.
 use Rattle.std.proofs.Common.{◌≡◌, ◌↔◌, ◌+◌, ◌≤◌, ℕ, List, length, drop, Option, Some, None, Result}
 use Rattle.std.proofs.Common.{Ok, Err, IsErrOf, refl, sym, ap, ◌∙◌, subst, inl, inr, arith}
-use Rattle.epx_types.proofs.Common.{drop_all, OnOk, IfErr, IsErr, Keeps, Fault, TooManyLogs}
-use Rattle.epx_types.proofs.Common.{LogTooLong, BadLine, TooManyInstances, Disagree, Read, Instance}
-use Rattle.epx_types.specs.declared.fault.Fault.TheVariants.{Memory}
-use Rattle.epx_types.specs.declared.fault.Fault.TheVariants.{Write}
+use Rattle.epx_types.proofs.Common.{drop_all, OnOk, IfErr, IsErr, Keeps, Instance}
+use Rattle.epx_types.specs.declared.fault.Fault.{Fault}
+use Rattle.epx_types.specs.declared.fault.Fault.TheVariants.{TooManyLogs, LogTooLong, BadLine}
+use Rattle.epx_types.specs.declared.fault.Fault.TheVariants.{TooManyInstances, Disagree, Read}
+use Rattle.epx_types.specs.declared.fault.Fault.TheVariants.{Memory, Write}
 use Rattle.epx_compare.specs.ComparisonAnswers.{IsComparisonRefusal}
 use Rattle.epx_merge.specs.Refusals.{FitLimits, IsRefusal}
 use Rattle.epx_devices.specs.Transfers.{IsReadLogFault}

@@ -2,9 +2,9 @@
 use Rattle.std.proofs.Common.{◌≡◌, ◌↔◌, ◌<◌, ◌≤◌, ◌||◌, ℕ, Bool, true, false, List, length, Result}
 use Rattle.std.proofs.Common.{Ok, Err, IsErrOf, refl, sym, subst, inr, arith}
 use Rattle.epx_types.proofs.Common.{slice_get_within, on_ok_weaker, Appends, OnOk, IfErr, IsErr}
-use Rattle.epx_types.proofs.Common.{Fault, TooManyLogs, Read}
+use Rattle.epx_types.specs.declared.fault.Fault.{Fault}
+use Rattle.epx_types.specs.declared.fault.Fault.TheVariants.{TooManyLogs, Read, Write}
 use Rattle.std.proofs.lemmas.Result.{IfErr-weaker}
-use Rattle.epx_types.specs.declared.fault.Fault.TheVariants.{Write}
 use Rattle.epx_devices.specs.Devices.{failed_after}
 use Rattle.epx_devices.specs.Transfers.{AppendsPrefix}
 use Rattle.epx_tool.specs.RunEndings.{WritesAnswer}
@@ -12,9 +12,8 @@ use Rattle.epx_merge.specs.SourceEndings.{LeavesSources}
 use Rattle.epx_tool.specs.Sources.{LeavesInput}
 use Rattle.epx_merge.proofs.ConsumedLemmas.{as_many_consumed}
 use Rattle.epx_tool.proofs.ReturnedFaultLemmas.{same_error, same_error_iff, same_stop, HasRead}
-use Rattle.epx_merge.proofs.ReturnedFaultLemmas.{neither}
+use Rattle.epx_merge.proofs.ReturnedFaultLemmas.{neither, ok_is_no_fault}
 use Rattle.epx_tool.proofs.ReturnedFaultLemmas.{other_iff, same_past_end, written_iff}
-use Rattle.epx_merge.proofs.ReturnedFaultLemmas.{ok_is_no_fault}
 use Rattle.epx_tool.proofs.ReturnedFaultLemmas.{on_ok, keeps_itself}
 use Rattle.epx_devices.specs.Models.{SinkModel, SourceModel}
 

@@ -1,7 +1,8 @@
 -- How a run of a task ends, by how answering it ended and by what was written.
 use Rattle.std.proofs.Common.{◌≡◌, ◌↔◌, ◌+◌, ℕ, true, false, List, length, Result, Ok, Err, inl}
 use Rattle.std.proofs.Common.{inr, sym, subst, arith}
-use Rattle.epx_types.proofs.Common.{Appends, OnOk, IfErr, IsErr, Fault, Instance}
+use Rattle.epx_types.proofs.Common.{Appends, OnOk, IfErr, IsErr, Instance}
+use Rattle.epx_types.specs.declared.fault.Fault.{Fault}
 use Rattle.epx_types.specs.declared.fault.Fault.TheVariants.{Write}
 use Rattle.epx_devices.specs.Models.{SinkModel, SourceModel}
 use Rattle.epx_devices.specs.Transfers.{AppendsPrefix}

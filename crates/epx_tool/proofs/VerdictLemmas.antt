@@ -2,7 +2,8 @@
 -- its fault.
 use Rattle.std.proofs.Common.{◌≡◌, ◌≢◌, ◌⊎◌, ℕ, List, refl, sym, ap, ◌∙◌, inl, inr}
 use Rattle.json.specs.Print.{escape_byte}
-use Rattle.epx_types.proofs.Common.{Id, ids_of, IsRising, Instance, IsLawfulPrefix, IsLawful}
+use Rattle.epx_types.proofs.Common.{ids_of, IsRising, Instance, IsLawfulPrefix, IsLawful}
+use Rattle.epx_types.specs.declared.id.Id.{Id}
 use Rattle.epx_ranking.specs.declared.order_fault.OrderFault.{OrderFault}
 use Rattle.epx_ranking.specs.declared.order_fault.OrderFault.TheVariants.{Memory, Stranger, Repeat}
 use Rattle.epx_ranking.specs.declared.order_fault.OrderFault.TheVariants.{Missing, Early, Sequence}

@@ -1,6 +1,8 @@
 -- Instances with their commands, from both apart.
 use Rattle.std.proofs.Common.{◌≡◌, List, [], ◌∷◌, map, zip, refl, sym, ap, ap₂, ◌∙◌, map-id}
-use Rattle.epx_types.proofs.Common.{Command, Id, commands_in, instance_of, ops_or_empty, Instance}
+use Rattle.epx_types.proofs.Common.{commands_in, instance_of, ops_or_empty, Instance}
+use Rattle.epx_types.specs.declared.command.Command.{Command}
+use Rattle.epx_types.specs.declared.id.Id.{Id}
 use Rattle.epx_trace.specs.TraceTexts.{command_of}
 
 zip-maps : {A B C : Type 0} (f : A → B) (g : A → C) (xs : List A)

@@ -2,11 +2,14 @@
 use Rattle.std.proofs.Common.{◌≡◌, inl, inr, ℕ, true, false, ◌||◌, List, [], ◌∷◌, flat_map, ℤ}
 use Rattle.std.proofs.Common.{Option, map, Contains, refl, sym, ap, ◌∙◌, true≢false}
 use Rattle.epx_types.proofs.Common.{list_any, eq_by_cmp, cases_Bool, Contains-from_any}
-use Rattle.epx_types.proofs.Common.{list_any-from_Contains, Op, Reply, Values, Abort, key_cmp}
-use Rattle.epx_types.proofs.Common.{rising_keys, touched_by, written_by, touched_keys, written_keys}
-use Rattle.epx_types.proofs.Common.{command_on, Contents, writes_by, written_or_same}
-use Rattle.epx_types.proofs.Common.{written_keys-touched, after-abort, Contains-rising_keys}
-use Rattle.epx_types.proofs.Common.{Contains-from_rising_keys, key_cmp_total, same_key}
+use Rattle.epx_types.proofs.Common.{list_any-from_Contains, key_cmp, rising_keys, touched_by}
+use Rattle.epx_types.proofs.Common.{written_by, touched_keys, written_keys, command_on, Contents}
+use Rattle.epx_types.proofs.Common.{writes_by, written_or_same, written_keys-touched, after-abort}
+use Rattle.epx_types.proofs.Common.{Contains-rising_keys, Contains-from_rising_keys, key_cmp_total}
+use Rattle.epx_types.proofs.Common.{same_key}
+use Rattle.epx_types.specs.declared.op.Op.{Op}
+use Rattle.epx_types.specs.declared.reply.Reply.{Reply}
+use Rattle.epx_types.specs.declared.reply.Reply.TheVariants.{Values, Abort}
 use Rattle.std.specs.FinMap as contents
 use Rattle.std.proofs.lemmas.Bool.{false_from_ne_true}
 use Rattle.std.proofs.lemmas.List.Folds.{list_any-append}

@@ -5,9 +5,8 @@ use Rattle.std.specs.FinMap as contents
 use Rattle.epx_types.proofs.Common.{cases_Bool, command_on, touched_keys, Contents, Ranked}
 use Rattle.epx_types.proofs.Common.{IsExecutionOrder-unique, execution_order_exists}
 use Rattle.epx_trace.specs.Traces.{IdCommand, has_key, writes_key, touch_of, trace_of}
-use Rattle.epx_trace.specs.TraceLaws.{value_before, value_left, FindLastWrites}
-use Rattle.epx_trace.specs.TraceLaws.{TraceTextExists, TraceTextIsUnique}
-use Rattle.epx_trace.specs.TraceLaws.{TouchesFindLastWrites, LastWriteIsStored}
+use Rattle.epx_trace.specs.TraceLaws.{value_before, value_left, FindLastWrites, TraceTextExists}
+use Rattle.epx_trace.specs.TraceLaws.{TraceTextIsUnique, TouchesFindLastWrites, LastWriteIsStored}
 use Rattle.epx_trace.specs.TraceLines.{touch_line}
 use Rattle.epx_trace.specs.TraceTexts.{ordered_commands}
 use Rattle.epx_trace.proofs.KeyTestLemmas.{untouched_stays, unwritten_stays}

@@ -3,8 +3,9 @@ use Rattle.std.proofs.Common.{◌≡◌, ℕ, ℤ, ◌∙◌, sym, ap, List, [],
 use Rattle.std.proofs.Common.{map, subst}
 use Rattle.std.specs.FinMap as contents
 use Rattle.std.specs.FinMap.{entries-insert}
-use Rattle.epx_types.proofs.Common.{add_keys, Contents, assign, operate, written_by, Op}
-use Rattle.epx_types.proofs.Common.{key_cmp_total, keys_of-put, get-put_entries, put_entries-insert}
+use Rattle.epx_types.proofs.Common.{add_keys, Contents, assign, operate, written_by, key_cmp_total}
+use Rattle.epx_types.proofs.Common.{keys_of-put, get-put_entries, put_entries-insert}
+use Rattle.epx_types.specs.declared.op.Op.{Op}
 use Rattle.epx_txn.specs.declared.draft.Step.TheVariants.{Done}
 use Rattle.epx_txn.specs.inner.Drafts.{Draft, contents_through, IsStepOf, AddsKeys}
 

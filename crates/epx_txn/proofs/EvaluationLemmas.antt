@@ -5,8 +5,9 @@ use Rattle.std.proofs.Common.{Some, subst}
 use Rattle.std.specs.FinMap as contents
 use Rattle.epx_types.proofs.Common.{entries_sorted, add_keys, Contents, Outcome, unless_aborted}
 use Rattle.epx_types.proofs.Common.{operate_all, command_on, operate, written_by, written_keys}
-use Rattle.epx_types.proofs.Common.{writes_by, writes_of, apply_writes, Op, entries-empty}
+use Rattle.epx_types.proofs.Common.{writes_by, writes_of, apply_writes, entries-empty}
 use Rattle.epx_types.proofs.Common.{add_keys-append, read_after_writes, drop_all}
+use Rattle.epx_types.specs.declared.op.Op.{Op}
 use Rattle.epx_types.specs.declared.reply.Reply.TheVariants as reply
 use Rattle.epx_store.proofs.DropLemmas.{drop_at_index}
 use Rattle.epx_txn.specs.declared.draft.Step.TheVariants.{Read, Done, Abort}

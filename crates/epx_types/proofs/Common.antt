@@ -35,20 +35,6 @@ pub use Rattle.epx_types.specs.SmallLists.{items_of}
 pub use Rattle.epx_types.specs.Sound.{HasRemaining, IsSound}
 pub use Rattle.epx_types.specs.WaitingLists.{IsWaitingList, Waiting, waiting_ids}
 pub use Rattle.epx_types.specs.Writes.{HasDistinctKeys, apply_writes, writes_by, writes_of}
-pub use Rattle.epx_types.specs.declared.command.Command.{Command}
-pub use Rattle.epx_types.specs.declared.fault.Fault.{Fault}
-pub use Rattle.epx_types.specs.declared.fault.Fault.TheVariants.{BadBase, BadLine, Disagree}
-pub use Rattle.epx_types.specs.declared.fault.Fault.TheVariants.{LogTooLong, Read, TooManyInstances}
-pub use Rattle.epx_types.specs.declared.fault.Fault.TheVariants.{TooManyLogs}
-pub use Rattle.epx_types.specs.declared.fault.Why.{Why}
-pub use Rattle.epx_types.specs.declared.fault.Why.TheVariants.{NotJson, NotObject, Seq, TooLong}
-pub use Rattle.epx_types.specs.declared.id.Id.{Id}
-pub use Rattle.epx_types.specs.declared.op.Op.{Op}
-pub use Rattle.epx_types.specs.declared.op.Op.TheVariants.{Add, Copy, Del, Floor, Get, Is, Put}
-pub use Rattle.epx_types.specs.declared.place.Place.{Place}
-pub use Rattle.epx_types.specs.declared.reply.Reply.{Reply}
-pub use Rattle.epx_types.specs.declared.reply.Reply.TheVariants.{Abort, Values}
-pub use Rattle.epx_types.specs.declared.small_list.SmallList.{SmallList}
 pub use Rattle.std.specs.BTreeMap.{BTreeMap, IsOrdered, get, is_at}
 pub use Rattle.std.specs.BTreeSet.{insert_key}
 pub use Rattle.std.specs.Bool.{Decides}

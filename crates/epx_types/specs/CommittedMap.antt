@@ -1,6 +1,5 @@
 -- The committed map: the instances that lines commit, each once, by rising Id.
-use Rattle.std.specs.Prelude.{◌≡◌, ℕ, List, [], map, Contains, Option, None, Some}
-use Rattle.std.specs.Prelude.{find, position}
+use Rattle.std.specs.Prelude.{◌≡◌, ℕ, List, [], map, Contains, Option, None, Some, find, position}
 use Rattle.std.specs.Ordering.{is_eq}
 use Rattle.epx_types.specs.declared.id.Id.{Id}
 use Rattle.epx_types.specs.declared.op.Op.{Op}

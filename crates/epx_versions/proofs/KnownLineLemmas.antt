@@ -2,7 +2,8 @@
 use Rattle.std.proofs.Common.{◌≡◌, ◌∙◌, ◌∷◌, ◌++◌, ℕ, List, [], Option, None, Some, Result, Ok}
 use Rattle.std.proofs.Common.{slice_get, refl, sym, ap, option_map, ◌==◌, Bool, true, false, cond}
 use Rattle.std.proofs.Common.{◌<◌, length, map, arith}
-use Rattle.epx_types.proofs.Common.{nat_tests, length-map, slice_get_within, Why, Instance}
+use Rattle.epx_types.proofs.Common.{nat_tests, length-map, slice_get_within, Instance}
+use Rattle.epx_types.specs.declared.fault.Why.{Why}
 use Rattle.epx_seed.specs.declared.Seed.{Seed}
 use Rattle.epx_types.proofs.lists.ListPositionLemmas.{slice_get-map}
 use Rattle.epx_lines.specs.declared.Line.{Line}

@@ -2,7 +2,8 @@
 use Rattle.std.proofs.Common.{◌≡◌, ◌∙◌, ◌∷◌, ◌++◌, ◌+◌, ℕ, List, [], None, Some, Result, Vec, refl}
 use Rattle.std.proofs.Common.{sym, ap, subst, append-nil, append_assoc, length, slice_get}
 use Rattle.std.proofs.Common.{length-append, arith}
-use Rattle.epx_types.proofs.Common.{Global, Why}
+use Rattle.epx_types.proofs.Common.{Global}
+use Rattle.epx_types.specs.declared.fault.Why.{Why}
 use Rattle.epx_seed.specs.declared.Seed.{Seed}
 use Rattle.epx_lines.specs.declared.Line.{Line}
 use Rattle.epx_merge.specs.LinePieces.{ArePiecesOf}

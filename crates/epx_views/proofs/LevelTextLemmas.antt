@@ -1,8 +1,8 @@
 -- The text of the conflict levels of a map, put together from its parts.
 use Rattle.std.proofs.Common.{◌≡◌, ◌++◌, ◌∙◌, ℕ, List, length, flat_map, zip, ap, subst}
-use Rattle.epx_types.proofs.Common.{append_assoc, Id, Instance, commands_in, Ranked}
-use Rattle.epx_types.proofs.Common.{IsExecutionOrder, ranked_ids, component_count, AreLevels}
-use Rattle.epx_types.proofs.Common.{Waiting, IsWaitingList}
+use Rattle.epx_types.proofs.Common.{append_assoc, Instance, commands_in, Ranked, IsExecutionOrder}
+use Rattle.epx_types.proofs.Common.{ranked_ids, component_count, AreLevels, Waiting, IsWaitingList}
+use Rattle.epx_types.specs.declared.id.Id.{Id}
 use Rattle.epx_report.specs.ReportLines.{header_line, waiting_line}
 use Rattle.epx_report.specs.ViewLines.{level_line}
 use Rattle.epx_views.specs.LevelText.{IsLevelText}

@@ -1,8 +1,9 @@
 -- The lines of an execution order, appended one by one.
 use Rattle.std.proofs.Common.{◌≡◌, ◌+◌, ◌++◌, ℕ, suc, List, ◌∷◌, flat_map, drop, get_or, Some}
 use Rattle.std.proofs.Common.{slice_get, sym, ap, ◌∙◌, append_assoc, add-one}
-use Rattle.epx_types.proofs.Common.{drop-cons, slice_get_within, get_or_from_slice_get, Id, Ranked}
+use Rattle.epx_types.proofs.Common.{drop-cons, slice_get_within, get_or_from_slice_get, Ranked}
 use Rattle.epx_types.proofs.Common.{ranked_ids}
+use Rattle.epx_types.specs.declared.id.Id.{Id}
 use Rattle.epx_types.proofs.lists.ListPositionLemmas.{slice_get-map}
 use Rattle.epx_report.specs.ReportLines.{line_of}
 use Rattle.epx_report.specs.ViewLines.{order_data, order_line}

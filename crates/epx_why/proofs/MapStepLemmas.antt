@@ -2,8 +2,9 @@
 use Rattle.std.proofs.Common.{◌≡◌, ◌≢◌, ℕ, zero, suc, ◌+◌, ◌<◌, ◌≤◌, List, [], ◌∷◌, ◌++◌, length}
 use Rattle.std.proofs.Common.{map, Contains, Option, Some, slice_get, refl, sym, ap, ap₂, subst}
 use Rattle.std.proofs.Common.{◌∙◌, arith}
-use Rattle.epx_types.proofs.Common.{slice_get-get_or, get_or_from_slice_get, Id, Instance}
-use Rattle.epx_types.proofs.Common.{IsCommitted, DependsOn, IsPath, DependsOn-committed}
+use Rattle.epx_types.proofs.Common.{slice_get-get_or, get_or_from_slice_get, Instance, IsCommitted}
+use Rattle.epx_types.proofs.Common.{DependsOn, IsPath, DependsOn-committed}
+use Rattle.epx_types.specs.declared.id.Id.{Id}
 use Rattle.epx_graph.proofs.Common.{DependencyGraph, edges_of, IsGraphOf, IsNodePath, edge_within}
 use Rattle.epx_graph.proofs.Common.{node_of_dependency, LeadsTo, AreLeast, distance_at}
 use Rattle.epx_graph.proofs.Common.{LeadsTo-node_path}

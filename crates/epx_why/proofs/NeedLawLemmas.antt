@@ -1,9 +1,10 @@
 -- What waiting instances need, and which instances need a missing one.
 use Rattle.std.proofs.Common.{◌≡◌, List, [], ◌∷◌, map, Contains, refl, sym, ap, subst, inl, inr}
-use Rattle.epx_types.proofs.Common.{Id, Below, IsRising, UpTo, Instance, IsCommitted, IsPath}
+use Rattle.epx_types.proofs.Common.{Below, IsRising, UpTo, Instance, IsCommitted, IsPath}
 use Rattle.epx_types.proofs.Common.{DependsOn-committed, id_cmp_total, AllPairs-head, Contains-nil}
 use Rattle.epx_types.proofs.Common.{Contains-head, Contains-map, Contains-cons_cases}
 use Rattle.epx_types.proofs.Common.{AllPairs-from_IsRising, below_asymm, ready_or_waits}
+use Rattle.epx_types.specs.declared.id.Id.{Id}
 use Rattle.epx_why.specs.declared.need.Need.{Need}
 use Rattle.epx_why.specs.WhyLaws.{NeedsBeginWithTheMissing, NeedingInstancesWait}
 use Rattle.epx_why.proofs.TextExistenceLemmas.{distance_of_path}

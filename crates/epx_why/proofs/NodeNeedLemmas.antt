@@ -3,8 +3,9 @@ use Rattle.std.proofs.Common.{◌≡◌, ◌≢◌, ◌⊎◌, inl, inr, ℕ, �
 use Rattle.std.proofs.Common.{length, Contains, Option, Some, None, slice_get, sym, ap, subst}
 use Rattle.std.proofs.Common.{subst₂, ◌∙◌, arith}
 use Rattle.epx_types.proofs.Common.{cases_lt, map_push, Contains-append_left, Contains-push}
-use Rattle.epx_types.proofs.Common.{Contains-push_cases, slice_get_within, Id, Below, IsRising}
+use Rattle.epx_types.proofs.Common.{Contains-push_cases, slice_get_within, Below, IsRising}
 use Rattle.epx_types.proofs.Common.{Instance, IsCommitted, Contains-from_map, IsRising-push}
+use Rattle.epx_types.specs.declared.id.Id.{Id}
 use Rattle.epx_graph.proofs.Common.{DependencyGraph, edges_of, IsGraph, IsGraphOf, committed_order}
 use Rattle.epx_graph.proofs.Common.{missing_order, reached_node, node_of_committed, missing_number}
 use Rattle.epx_graph.proofs.Common.{missing_id, LeadsTo, AreDistancesFrom, AreDistancesTo}

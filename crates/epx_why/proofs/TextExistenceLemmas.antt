@@ -2,7 +2,7 @@
 use Rattle.std.proofs.Common.{◌≡◌, ◌⊎◌, inl, inr, ℕ, zero, suc, ◌+◌, ◌<◌, ◌≤◌, List, [], ◌∷◌, ◌++◌}
 use Rattle.std.proofs.Common.{length, map, flat_map, codes, Contains, refl, sym, ap, subst, ◌∙◌}
 use Rattle.std.proofs.Common.{arith}
-use Rattle.epx_types.proofs.Common.{cases_lt, Id, IsRising, UpTo, Instance, ids_of, IsCommitted}
+use Rattle.epx_types.proofs.Common.{cases_lt, IsRising, UpTo, Instance, ids_of, IsCommitted}
 use Rattle.epx_types.proofs.Common.{DependsOn, IsPath, Reaches, IsReady, WaitsFor, id_cmp_total}
 use Rattle.epx_types.proofs.Common.{id_cmp-IsAntisymmetric, slice_get-from_Contains, Contains-nil}
 use Rattle.epx_types.proofs.Common.{Contains-head, Contains-cons, Contains-cons_cases}
@@ -10,6 +10,7 @@ use Rattle.epx_types.proofs.Common.{Contains-flat_map, Contains-from_map, IsRisi
 use Rattle.epx_types.proofs.Common.{rising_list, some_or_none, least_or_none, both_cases}
 use Rattle.epx_types.proofs.Common.{Reaches-cases, DependsOn-cases, Contains-Id_cases}
 use Rattle.epx_types.proofs.Common.{IsExecutionOrder-ranked, execution_order_exists, ready_or_waits}
+use Rattle.epx_types.specs.declared.id.Id.{Id}
 use Rattle.epx_report.specs.ReportLines.{waiting_line}
 use Rattle.epx_report.specs.ViewLines.{missing_line}
 use Rattle.epx_why.specs.declared.need.Need.{Need}

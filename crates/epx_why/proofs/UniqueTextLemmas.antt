@@ -1,11 +1,12 @@
 -- There is at most one text about an instance, and one of a path.
 use Rattle.std.proofs.Common.{◌≡◌, inl, inr, ℕ, List, [], ◌∷◌, ◌++◌, flat_map, codes, Some}
 use Rattle.std.proofs.Common.{slice_get, refl, sym, ap, ap₂, subst, ◌∙◌, arith}
-use Rattle.epx_types.proofs.Common.{cases_lt, Id, Below, Instance, Ranked, RanksBelow, IsReady}
+use Rattle.epx_types.proofs.Common.{cases_lt, Below, Instance, Ranked, RanksBelow, IsReady}
 use Rattle.epx_types.proofs.Common.{id_cmp_total, rank_cmp_total, AllPairs-slice_get}
 use Rattle.epx_types.proofs.Common.{Contains-slice_get, AllPairs-from_rising_ids, below_irrefl}
 use Rattle.epx_types.proofs.Common.{below_trans, below_asymm, same_rising, WaitsFor-unique}
 use Rattle.epx_types.proofs.Common.{IsReady-not_waiting, IsRanked-unique, IsExecutionOrder-unique}
+use Rattle.epx_types.specs.declared.id.Id.{Id}
 use Rattle.epx_report.specs.ReportLines.{waiting_line}
 use Rattle.epx_report.specs.ViewLines.{missing_line}
 use Rattle.epx_why.specs.declared.need.Need.{Need}

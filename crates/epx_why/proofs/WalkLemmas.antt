@@ -2,17 +2,17 @@
 use Rattle.std.proofs.Common.{◌≡◌, inl, inr, ℕ, suc, ◌<◌, ◌≤◌, List, [], ◌∷◌, ◌++◌, length, map}
 use Rattle.std.proofs.Common.{Contains, Option, Some, slice_get, refl, sym, ap, subst, subst₂, ◌∙◌}
 use Rattle.std.proofs.Common.{arith, All}
-use Rattle.epx_types.proofs.Common.{append_assoc, append-nil, All-nil, All-cons, Id, UpTo, Instance}
+use Rattle.epx_types.proofs.Common.{append_assoc, append-nil, All-nil, All-cons, UpTo, Instance}
 use Rattle.epx_types.proofs.Common.{IsPath, Contains-slice_get}
+use Rattle.epx_types.specs.declared.id.Id.{Id}
 use Rattle.epx_graph.proofs.Common.{DependencyGraph, edges_of, IsGraph, IsGraphOf, IsNodePath}
 use Rattle.epx_graph.proofs.Common.{edge_within, node_is_unique, node_of_committed, reached_node}
 use Rattle.epx_graph.proofs.Common.{LeadsTo, AreDistancesTo, distance_at, LeadsTo-node_path}
 use Rattle.epx_why.specs.FirstPaths.{ComesUpTo, path_ids, IsFirstPath, HasNoPath}
 use Rattle.epx_why.specs.inner.NodeWalks.{id_at, IsFewest, IsNext, IsFirstWalk}
 use Rattle.epx_why.specs.inner.NodeWalks.{IsFirstNodePath, IsWalkBegun}
-use Rattle.epx_why.proofs.MapStepLemmas.{slice_get-id_at, map_path, node_path}
-use Rattle.epx_why.proofs.MapStepLemmas.{steps_over_nodes, AreLeast-fewest}
-use Rattle.epx_why.proofs.MapStepLemmas.{IsPath-start_committed}
+use Rattle.epx_why.proofs.MapStepLemmas.{slice_get-id_at, map_path, node_path, steps_over_nodes}
+use Rattle.epx_why.proofs.MapStepLemmas.{AreLeast-fewest, IsPath-start_committed}
 
 module _ (g : DependencyGraph) (graph : IsGraph g) (t : ℕ) (distances : List (Option ℕ))
     (known : AreDistancesTo g t distances) where

@@ -1,7 +1,8 @@
 -- The line of a path, and lines that are appended one after another.
 use Rattle.std.proofs.Common.{◌≡◌, ◌<◌, ◌+◌, ℕ, false, List, [], ◌∷◌, ◌++◌, map, take, length}
 use Rattle.std.proofs.Common.{get_or, codes, refl, sym, ap, ap₂, ◌∙◌}
-use Rattle.epx_types.proofs.Common.{take_more, map_push, Id}
+use Rattle.epx_types.proofs.Common.{take_more, map_push}
+use Rattle.epx_types.specs.declared.id.Id.{Id}
 use Rattle.serde_json.specs.Data.{Data, string}
 use Rattle.serde_json.specs.Written.{has_float}
 use Rattle.epx_lines.proofs.FloatLemmas.{no_float-items}

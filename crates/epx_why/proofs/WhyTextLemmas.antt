@@ -1,11 +1,12 @@
 -- The texts about one instance: where it has no node, where it is missing, waits or is ready.
 use Rattle.std.proofs.Common.{◌≡◌, inl, inr, ℕ, ◌<◌, ◌≤◌, List, [], ◌∷◌, ◌++◌, flat_map, codes}
 use Rattle.std.proofs.Common.{length, map, Contains, Some, None, slice_get, ap, subst, ◌∙◌, arith}
-use Rattle.epx_types.proofs.Common.{slice_get_within, Id, Below, Instance, IsCommitted, Ranked}
+use Rattle.epx_types.proofs.Common.{slice_get_within, Below, Instance, IsCommitted, Ranked}
 use Rattle.epx_types.proofs.Common.{ranked_ids, IsExecutionOrder, Reaches, IsReady}
 use Rattle.epx_types.proofs.Common.{Contains-slice_get, AllPairs-head, slice_get-from_map}
 use Rattle.epx_types.proofs.Common.{Contains-nil, Contains-head, Contains-cons_cases, Contains-map}
 use Rattle.epx_types.proofs.Common.{AllPairs-from_IsRising, ready_or_waits}
+use Rattle.epx_types.specs.declared.id.Id.{Id}
 use Rattle.epx_graph.proofs.Common.{DependencyGraph, IsGraphOf, node_committed, node_of_committed}
 use Rattle.epx_report.specs.ReportLines.{waiting_line}
 use Rattle.epx_report.specs.ViewLines.{missing_line}

@@ -10,8 +10,7 @@ use Rattle.clap.specs.Takes.{is_given}
 use Rattle.clap.specs.ValueTests.{is_unsigned_in}
 use Rattle.clap.specs.Values.{IsUnsignedIn}
 use Rattle.clap.specs.Walk.{Row, Rule, Text, has_row, nothing_held, one_of, rows_after, settled}
-use Rattle.clap.specs.Walk.{values_or_missing}
-use Rattle.clap.specs.Walk.{used, walk, walk_from, with_default, without}
+use Rattle.clap.specs.Walk.{values_or_missing, used, walk, walk_from, with_default, without}
 use Rattle.clap.specs.declared.builder.action.ArgAction.TheVariants.{Set}
 use Rattle.clap.specs.declared.builder.value_parser.Reading.TheVariants.{AsWritten}
 use Rattle.clap.specs.declared.builder.value_parser.ValueParser.TheVariants.{Unsigned}

@@ -2,7 +2,8 @@
 use Rattle.std.proofs.Common.{◌≡◌, ◌≢◌, Some, None, List, sym, subst, MatchOption}
 use Rattle.std.specs.Option.{IfSome}
 use Rattle.clap.specs.Words.{Row, Text}
-use Rattle.epx_types.proofs.Common.{id_text, Id}
+use Rattle.epx_types.proofs.Common.{id_text}
+use Rattle.epx_types.specs.declared.id.Id.{Id}
 use Rattle.epx_names.specs.IdNames.{FitsIdTypes}
 use Rattle.epx_words.specs.Subjects.{IsIdName, NameIds}
 use Rattle.epx_words.specs.SubcommandRows.{first_in, reaches_in}

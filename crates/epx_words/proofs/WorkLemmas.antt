@@ -1,15 +1,15 @@
 -- What clap's matches ask for is what the words ask for, by the shape of the program.
 use Rattle.std.proofs.Common.{◌≡◌, ◌↔◌, ◌∙◌, ℕ, Bool, true, false, List, [], ap, refl, subst, sym}
 use Rattle.std.proofs.Common.{true≢false, codes, Option, Some, None, MatchOption}
-use Rattle.epx_types.proofs.Common.{bytes_eq-Decides, bytes_eq, Id, FitsKey, PlanNumbers}
+use Rattle.epx_types.proofs.Common.{bytes_eq-Decides, bytes_eq, FitsKey, PlanNumbers}
+use Rattle.epx_types.specs.declared.id.Id.{Id}
 use Rattle.std.specs.Option.{IfSome}
 use Rattle.clap.specs.Words.{App, Kinds, Row, Text, is_simple, subcommand_of}
 use Rattle.epx_words.specs.App.{epx_app}
 use Rattle.epx_words.specs.ExitStatus.{IsTaken}
 use Rattle.epx_words.specs.Requests.{AsksFor, FitFlags, FitsRows, IfText, IfWork}
 use Rattle.epx_words.specs.Requests.{IsMeaningOf, IsText, IsWork, flags_of, task_name}
-use Rattle.epx_words.specs.Subjects.{IsIdName, IsNameOf, NameIds, NamesAll, NamesLogs}
-use Rattle.epx_words.specs.Subjects.{NamesSubject}
+use Rattle.epx_words.specs.Subjects.{IsIdName, IsNameOf, NameIds, NamesAll, NamesLogs, NamesSubject}
 use Rattle.epx_words.specs.SubcommandRows.{Given, first_in, rows_in}
 use Rattle.epx_names.specs.declared.task.Task.{Task}
 use Rattle.epx_names.specs.declared.task.Task.TheVariants as task

@@ -1,7 +1,6 @@
 -- Tables with the levels of the commands so far that touch each key and that write it.
-use Rattle.std.specs.Prelude.{◌≡◌, ◌⊎◌, ℕ, suc, max, ◌<◌, Bool, List, [], ◌∷◌, ◌++◌}
-use Rattle.std.specs.Prelude.{if◌then◌else◌, length, map, flat_map, slice_index_or, slice_set}
-use Rattle.std.specs.Prelude.{Contains}
+use Rattle.std.specs.Prelude.{◌≡◌, ◌⊎◌, ℕ, suc, max, ◌<◌, Bool, List, [], ◌∷◌, ◌++◌, if◌then◌else◌}
+use Rattle.std.specs.Prelude.{length, map, flat_map, slice_index_or, slice_set, Contains}
 use Rattle.epx_types.specs.declared.op.Op.{Op}
 use Rattle.epx_types.specs.CommandKeys.{touched_by, written_by}
 use Rattle.epx_types.specs.Conflicts.{Conflict}

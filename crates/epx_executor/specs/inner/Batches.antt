@@ -1,6 +1,5 @@
 -- What a call comes to, before anything is executed.
-use Rattle.std.specs.Prelude.{◌≡◌, ◌⊎◌, ◌↔◌, ℕ, List, map, slice_get, Contains}
-use Rattle.std.specs.Prelude.{Option}
+use Rattle.std.specs.Prelude.{◌≡◌, ◌⊎◌, ◌↔◌, ℕ, List, map, slice_get, Contains, Option}
 use Rattle.epx_types.specs.declared.id.Id.{Id}
 use Rattle.epx_types.specs.CommittedMap.{ids_of, ops_or_empty, commands_in}
 use Rattle.epx_types.specs.Done.{remaining}

@@ -1,7 +1,6 @@
 -- A committed instance is ready exactly if it waits for nothing.
 use Rattle.std.proofs.Common.{◌≡◌, ◌⊎◌, ◌<◌, ℕ, zero, suc, true, List, [], ◌∷◌, Contains, Ordering}
-use Rattle.std.proofs.Common.{Less, Equal, Greater, nat_cmp, refl, sym, ◌∙◌, subst, inl, inr}
-use Rattle.std.proofs.Common.{arith}
+use Rattle.std.proofs.Common.{Less, Equal, Greater, nat_cmp, refl, sym, ◌∙◌, subst, inl, inr, arith}
 use Rattle.std.specs.Ordering.{MatchOrdering, ordering_then, is_lt}
 use Rattle.std.specs.Cmp.{ranked}
 use Rattle.std.proofs.lemmas.Bool.{cases_lt}

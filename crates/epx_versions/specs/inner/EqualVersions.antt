@@ -11,8 +11,7 @@ use Rattle.epx_types.specs.Ids.{id_cmp}
 use Rattle.epx_types.specs.Instances.{Instance}
 use Rattle.epx_types.proofs.lists.ComparisonLemmas.{id_cmp_total, id_cmp-IsAntisymmetric}
 use Rattle.epx_types.proofs.commands.EqualityLemmas.{ops_decide}
-use Rattle.epx_versions.specs.SameInstances.{same_id, same_seq, same_deps, same_ops}
-use Rattle.epx_versions.specs.SameInstances.{same_instance}
+use Rattle.epx_versions.specs.SameInstances.{same_id, same_seq, same_deps, same_ops, same_instance}
 
 tied : (r : Ordering) → is_eq r ≡ true → r ≡ Equal
 tied Less h = absurd (cc h)

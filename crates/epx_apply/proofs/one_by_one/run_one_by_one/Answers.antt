@@ -1,7 +1,9 @@
 use Rattle.std.proofs.Common.{◌≡◌, ℕ, ◌+◌, ◌≤◌, ◌∙◌, sym, ap, ap₂, List, ◌++◌, append_assoc, drop}
 use Rattle.std.proofs.Common.{slice_range, arith}
-use Rattle.epx_types.proofs.Common.{map-append, drop_split, Command, Reply, Contents, execute}
-use Rattle.epx_types.proofs.Common.{Execution, execute-append}
+use Rattle.epx_types.proofs.Common.{map-append, drop_split, Contents, execute, Execution}
+use Rattle.epx_types.proofs.Common.{execute-append}
+use Rattle.epx_types.specs.declared.command.Command.{Command}
+use Rattle.epx_types.specs.declared.reply.Reply.{Reply}
 use Rattle.epx_apply.specs.inner.Effects.{op_lists_of}
 use Rattle.epx_apply.proofs.one_by_one.run_one_by_one.Goals as goal
 

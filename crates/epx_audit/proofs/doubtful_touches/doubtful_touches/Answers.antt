@@ -7,8 +7,7 @@ use Rattle.epx_audit.proofs.DoubtfulTouchLemmas.{AreFound, HoldFound, touch_at_i
 use Rattle.epx_audit.proofs.DoubtfulTouchLemmas.{all_more, all_same}
 use Rattle.epx_audit.proofs.HashLemmas.{one_index}
 use Rattle.epx_audit.proofs.doubtful_touches.doubtful_touches.Goals as goal
-use Rattle.epx_audit.proofs.doubtful_touches.doubtful_touches.Goals.{in-Some+in_ok-push}
-use Rattle.epx_audit.proofs.doubtful_touches.doubtful_touches.Goals.{in_default}
+use Rattle.epx_audit.proofs.doubtful_touches.doubtful_touches.Goals.{in-Some+in_ok-push, in_default}
 
 pub offset_bounds-nodes-touch : goal.offset_bounds-nodes-touch
 offset_bounds-nodes-touch c =

@@ -2,8 +2,9 @@ use Rattle.std.proofs.Common.{◌≡◌, inl, inr, [], ◌∷◌, ◌++◌, leng
 use Rattle.std.proofs.Common.{subst, ap, ◌∙◌, arith}
 use Rattle.epx_types.proofs.Common.{cases_lt, get_or_push, get_or_append_left, length_push}
 use Rattle.epx_types.proofs.Common.{length-map, slice_get-get_or, get_or_from_slice_get}
-use Rattle.epx_types.proofs.Common.{slice_get_within, Id, ids_of, IsCommitted, Ranked, ranked_ids}
+use Rattle.epx_types.proofs.Common.{slice_get_within, ids_of, IsCommitted, Ranked, ranked_ids}
 use Rattle.epx_types.proofs.Common.{slice_get-from_map, Contains-slice_get}
+use Rattle.epx_types.specs.declared.id.Id.{Id}
 use Rattle.epx_types.proofs.lists.ListPositionLemmas.{slice_get-map}
 use Rattle.epx_audit.proofs.quick_audit.order_nodes.Goals as goal
 

@@ -7,8 +7,7 @@ use Rattle.epx_components.specs.Partitions.{component_of, node_at, number_for}
 use Rattle.epx_components.proofs.PartitionLemmas.{node_below, component_below}
 use Rattle.epx_audit.specs.inner.SourceBits.{has_bit}
 use Rattle.epx_audit.proofs.BitLemmas.{no_bit}
-use Rattle.epx_audit.proofs.ReachedBitLemmas.{AreReachedBits}
-use Rattle.epx_audit.proofs.ReachedBitLemmas.{reached_bits_first, reached_bits_step}
+use Rattle.epx_audit.proofs.ReachedBitLemmas.{AreReachedBits, reached_bits_first, reached_bits_step}
 use Rattle.epx_audit.proofs.ReachedBitLemmas.{reached_bits_skip, reached_bits_all}
 use Rattle.epx_audit.proofs.related.find_reached.Goals as goal
 

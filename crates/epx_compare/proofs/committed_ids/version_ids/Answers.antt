@@ -1,7 +1,8 @@
 use Rattle.std.proofs.Common.{◌≡◌, ◌∙◌, ◌+◌, ◌∷◌, ◌++◌, [], List, Some, map, take, slice_get, ap}
 use Rattle.std.proofs.Common.{sym}
 use Rattle.epx_types.proofs.Common.{take_more, map_push, slice_get_within, get_or_from_slice_get}
-use Rattle.epx_types.proofs.Common.{Id, Instance}
+use Rattle.epx_types.proofs.Common.{Instance}
+use Rattle.epx_types.specs.declared.id.Id.{Id}
 use Rattle.epx_compare.proofs.committed_ids.version_ids.Goals as goal
 
 pub loop-number-preserved : goal.loop-number-preserved

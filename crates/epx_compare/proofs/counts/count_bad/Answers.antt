@@ -1,6 +1,7 @@
 use Rattle.std.proofs.Common.{◌≡◌, ◌∙◌, ◌+◌, ◌<◌, ℕ, List, Vec, length, get_or, set, ap, refl}
 use Rattle.std.proofs.Common.{arith}
-use Rattle.epx_types.proofs.Common.{length-set, get_or_default, Global, TooLong}
+use Rattle.epx_types.proofs.Common.{length-set, get_or_default, Global}
+use Rattle.epx_types.specs.declared.fault.Why.TheVariants.{TooLong}
 use Rattle.epx_versions.specs.declared.noted.NotedBadLine.{NotedBadLine}
 use Rattle.epx_compare.proofs.LogCountLemmas.{count_small, count_more, count_same}
 use Rattle.epx_compare.proofs.counts.count_bad.Goals as goal

@@ -1,7 +1,8 @@
 use Rattle.std.proofs.Common.{◌≡◌, ◌∙◌, ◌<◌, ◌++◌, [], ℕ, true, List, All, map, length, get_or}
 use Rattle.std.proofs.Common.{slice_get, Some, ap, sym, subst, arith}
 use Rattle.epx_types.proofs.Common.{nat_tests, length-map, nil_from_length, get_or_from_slice_get}
-use Rattle.epx_types.proofs.Common.{on_ok_weaker, Id, Placed, IsRising}
+use Rattle.epx_types.proofs.Common.{on_ok_weaker, Placed, IsRising}
+use Rattle.epx_types.specs.declared.id.Id.{Id}
 use Rattle.serde_json.specs.View.{view}
 use Rattle.epx_merge.specs.LogLines.{BadLineAt}
 use Rattle.epx_rows.specs.Rows.{row_of}

@@ -1,6 +1,6 @@
 use Rattle.std.proofs.Common.{◌∙◌, ◌<◌, ◌++◌, length, get_or, take, ap, sym, arith}
 use Rattle.epx_types.proofs.Common.{flat_map, take_more, take_all, flat_map_more, slice_get-get_or}
-use Rattle.epx_types.proofs.Common.{Id}
+use Rattle.epx_types.specs.declared.id.Id.{Id}
 use Rattle.epx_compare.specs.Comparisons.{difference_text}
 use Rattle.epx_compare.proofs.differences.append_differences.Goals as goal
 

@@ -1,6 +1,7 @@
 use Rattle.std.proofs.Common.{◌≡◌, ◌∙◌, ◌++◌, ◌<◌, ℕ, List, flat_map, ap, sym, subst, append_assoc}
 use Rattle.std.proofs.Common.{arith}
-use Rattle.epx_types.proofs.Common.{Id, max_logs}
+use Rattle.epx_types.proofs.Common.{max_logs}
+use Rattle.epx_types.specs.declared.id.Id.{Id}
 use Rattle.epx_report.specs.ReportLines.{line_of}
 use Rattle.epx_compare.specs.ComparisonLines.{lacks_data}
 use Rattle.epx_compare.specs.Comparisons.{gaps_text}

@@ -1,5 +1,6 @@
 use Rattle.std.proofs.Common.{◌≡◌, ◌∙◌, ◌<◌, ℕ, List, length, All, sym, ap, subst}
-use Rattle.epx_types.proofs.Common.{length-map, IfOk-weaker, list_any, Id}
+use Rattle.epx_types.proofs.Common.{length-map, IfOk-weaker, list_any}
+use Rattle.epx_types.specs.declared.id.Id.{Id}
 use Rattle.epx_versions.specs.declared.noted.NotedLine.{NotedLine}
 use Rattle.epx_versions.specs.LineVersions.{versions_of}
 use Rattle.epx_compare.specs.inner.Catalogs.{version_ids}

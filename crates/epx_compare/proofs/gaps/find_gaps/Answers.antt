@@ -1,6 +1,6 @@
 use Rattle.std.proofs.Common.{◌≡◌, ◌∙◌, ◌+◌, ◌-◌, ◌<◌, ◌∷◌, Bool, List, length, drop, get_or, ap}
 use Rattle.std.proofs.Common.{reverse, sym, if◌then◌else◌, arith}
-use Rattle.epx_types.proofs.Common.{Id}
+use Rattle.epx_types.specs.declared.id.Id.{Id}
 use Rattle.epx_compare.specs.Gaps.{Gap, gaps_of, goes_on, widened}
 use Rattle.epx_compare.proofs.GapLemmas.{gaps_lacked, gaps_had, marked_here}
 use Rattle.epx_compare.proofs.gaps.find_gaps.Goals as goal

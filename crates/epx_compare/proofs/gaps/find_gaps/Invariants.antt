@@ -1,5 +1,5 @@
 use Rattle.std.proofs.Common.{◌≡◌, Bool, drop, reverse}
-use Rattle.epx_types.proofs.Common.{Id}
+use Rattle.epx_types.specs.declared.id.Id.{Id}
 use Rattle.epx_compare.specs.Gaps.{gaps_of}
 use Rattle.epx_compare.specs.inner.LogMarks.{IsMarking}
 use Rattle.epx_compare.proofs.gaps.find_gaps.Given as goal

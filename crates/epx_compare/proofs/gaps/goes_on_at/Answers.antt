@@ -1,5 +1,6 @@
 use Rattle.std.proofs.Common.{◌≡◌, ◌∙◌, ℕ, ◌<◌, ◌==◌, ◌&&◌, true, not, get_or, length, arith, sym}
-use Rattle.epx_types.proofs.Common.{nat_tests, Id}
+use Rattle.epx_types.proofs.Common.{nat_tests}
+use Rattle.epx_types.specs.declared.id.Id.{Id}
 use Rattle.epx_compare.proofs.GapLemmas.{goes_on_here, marked_here}
 use Rattle.epx_compare.proofs.gaps.goes_on_at.Goals as goal
 

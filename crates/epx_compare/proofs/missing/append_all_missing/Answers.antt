@@ -1,5 +1,6 @@
 use Rattle.std.proofs.Common.{◌∙◌, ℕ, ◌++◌, List, ap}
-use Rattle.epx_types.proofs.Common.{keys_of, on_ok_weaker, Id}
+use Rattle.epx_types.proofs.Common.{keys_of, on_ok_weaker}
+use Rattle.epx_types.specs.declared.id.Id.{Id}
 use Rattle.epx_compare.specs.inner.MissingCounts.{AreCounts, missing_count}
 use Rattle.epx_compare.proofs.MissingDepLemmas.{entries_missing, entries_text}
 use Rattle.epx_compare.proofs.missing.append_all_missing.Goals as goal

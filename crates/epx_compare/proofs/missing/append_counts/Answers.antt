@@ -1,7 +1,8 @@
 use Rattle.std.proofs.Common.{◌≡◌, ◌∙◌, ℕ, ◌+◌, ◌∷◌, ◌++◌, [], List, Some, flat_map, take}
 use Rattle.std.proofs.Common.{slice_get, sym, ap}
 use Rattle.epx_types.proofs.Common.{take_more, flat_map_more, slice_get_within}
-use Rattle.epx_types.proofs.Common.{get_or_from_slice_get, Id}
+use Rattle.epx_types.proofs.Common.{get_or_from_slice_get}
+use Rattle.epx_types.specs.declared.id.Id.{Id}
 use Rattle.epx_report.specs.ReportLines.{line_of}
 use Rattle.epx_compare.specs.ComparisonLines.{missing_count_data}
 use Rattle.epx_compare.proofs.missing.append_counts.Goals as goal

@@ -1,7 +1,8 @@
 use Rattle.std.proofs.Common.{◌≡◌, ◌∙◌, ℕ, ◌+◌, ◌<◌, ◌≤◌, ◌^◌, not, ◌&&◌, List, All, Some, take}
 use Rattle.std.proofs.Common.{length, get_or, slice_get, sym, ap, subst, arith}
 use Rattle.epx_types.proofs.Common.{list_any, length-take-le, count_by-le-length, slice_get-get_or}
-use Rattle.epx_types.proofs.Common.{take-length, Id, Instance, Placed}
+use Rattle.epx_types.proofs.Common.{take-length, Instance, Placed}
+use Rattle.epx_types.specs.declared.id.Id.{Id}
 use Rattle.epx_rows.specs.Rows.{row_of}
 use Rattle.epx_versions.specs.SameInstances.{same_id}
 use Rattle.epx_compare.specs.MissingDeps.{depends_on}

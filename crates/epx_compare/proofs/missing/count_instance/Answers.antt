@@ -1,5 +1,6 @@
 use Rattle.std.proofs.Common.{◌∙◌, ◌↔◌, ◌+◌, List, Contains, subst₂, sym, ap, if◌then◌else◌}
-use Rattle.epx_types.proofs.Common.{on_ok_weaker, Id, Instance}
+use Rattle.epx_types.proofs.Common.{on_ok_weaker, Instance}
+use Rattle.epx_types.specs.declared.id.Id.{Id}
 use Rattle.epx_compare.specs.inner.MissingCounts.{with_one, is_missing, deps_at_numbers}
 use Rattle.epx_compare.proofs.DependencyLemmas.{same_missing}
 use Rattle.epx_compare.proofs.MissingCountLemmas.{AreCounts-agree}

@@ -1,6 +1,7 @@
 use Rattle.std.proofs.Common.{◌≡◌, ℕ, ◌+◌, ◌<◌, ◌^◌, List, take, get_or, slice_get, Some, None}
 use Rattle.std.proofs.Common.{Contains, Option, MatchOption, true, false, is_some, sym, ap, subst}
-use Rattle.epx_types.proofs.Common.{slice_get-get_or, Id, Contains-slice_get}
+use Rattle.epx_types.proofs.Common.{slice_get-get_or, Contains-slice_get}
+use Rattle.epx_types.specs.declared.id.Id.{Id}
 use Rattle.epx_versions.specs.SameInstances.{same_id}
 use Rattle.epx_compare.specs.inner.MissingCounts.{AreCounts, with_one, is_missing}
 use Rattle.epx_compare.proofs.MissingCountLemmas.{AreCounts-agree, committed_next, missing_next}

@@ -1,5 +1,5 @@
 use Rattle.std.proofs.Common.{ℕ, take}
-use Rattle.epx_types.proofs.Common.{Id}
+use Rattle.epx_types.specs.declared.id.Id.{Id}
 use Rattle.epx_compare.specs.inner.MissingCounts.{AreCounts, with_one, is_missing}
 use Rattle.epx_compare.proofs.missing.count_missing.Given as goal
 

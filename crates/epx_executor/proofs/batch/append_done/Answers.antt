@@ -1,5 +1,6 @@
 use Rattle.std.proofs.Common.{◌∷◌, [], ◌++◌, List, sym, ap, ◌∙◌, take, filter, get_or}
-use Rattle.epx_types.proofs.Common.{append_assoc, Id, is_among}
+use Rattle.epx_types.proofs.Common.{append_assoc, is_among}
+use Rattle.epx_types.specs.declared.id.Id.{Id}
 use Rattle.epx_executor.proofs.FilterLemmas.{filter-kept, filter-skipped}
 use Rattle.epx_executor.proofs.RemainderLemmas.{was_done, was_left}
 use Rattle.epx_executor.proofs.batch.append_done.Goals as goal

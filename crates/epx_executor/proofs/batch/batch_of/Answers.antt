@@ -1,5 +1,6 @@
 use Rattle.std.proofs.Common.{◌⊎◌, ◌↔◌, ◌∙◌, List, Contains, ap, subst}
-use Rattle.epx_types.proofs.Common.{Id, commands_in}
+use Rattle.epx_types.proofs.Common.{commands_in}
+use Rattle.epx_types.specs.declared.id.Id.{Id}
 use Rattle.epx_executor.proofs.batch.batch_of.Goals as goal
 
 pub returns : goal.returns

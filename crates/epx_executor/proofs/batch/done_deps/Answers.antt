@@ -1,7 +1,8 @@
 use Rattle.std.proofs.Common.{◌≡◌, ◌↔◌, List, Contains, take, filter, flat_map, get_or, sym, ap}
 use Rattle.std.proofs.Common.{◌++◌, ◌∙◌, arith}
-use Rattle.epx_types.proofs.Common.{take_all, IfOk-weaker, get_or_from_slice_get, Id, is_among}
+use Rattle.epx_types.proofs.Common.{take_all, IfOk-weaker, get_or_from_slice_get, is_among}
 use Rattle.epx_types.proofs.Common.{Instance}
+use Rattle.epx_types.specs.declared.id.Id.{Id}
 use Rattle.epx_executor.specs.inner.Batches.{AreDoneDeps}
 use Rattle.epx_executor.proofs.FilterLemmas.{flat_map-more}
 use Rattle.epx_executor.proofs.RemainderLemmas.{AreDoneDeps-gathered}

@@ -1,6 +1,8 @@
 use Rattle.std.proofs.Common.{◌≡◌, ◌∷◌, [], ◌++◌, ℕ, List, map, take, get_or, slice_get, unwrap_or}
 use Rattle.std.proofs.Common.{sym, ap, ap₂, ◌∙◌}
-use Rattle.epx_types.proofs.Common.{map-append, take_more, Id, Op, instance_of, ops_or_empty}
+use Rattle.epx_types.proofs.Common.{map-append, take_more, instance_of, ops_or_empty}
+use Rattle.epx_types.specs.declared.id.Id.{Id}
+use Rattle.epx_types.specs.declared.op.Op.{Op}
 use Rattle.epx_executor.proofs.FoundOpsLemmas.{ops_at_position}
 use Rattle.epx_executor.proofs.batch.positions_of.Goals as goal
 

@@ -1,7 +1,7 @@
 use Rattle.std.proofs.Common.{◌∷◌, [], Contains, sym, subst, rules, List}
-use Rattle.epx_types.proofs.Common.{Contains-append_left, Id}
-use Rattle.epx_executor.proofs.FilingMapLemmas.{Contains-from_listed, IsListed-updated}
-use Rattle.epx_executor.proofs.FilingMapLemmas.{none-listed}
+use Rattle.epx_types.proofs.Common.{Contains-append_left}
+use Rattle.epx_types.specs.declared.id.Id.{Id}
+use Rattle.epx_executor.proofs.FilingMapLemmas.{Contains-from_listed, IsListed-updated, none-listed}
 use Rattle.epx_executor.proofs.blockers.list_under.Goals as goal
 
 pub returns-in_err-push-clause-kept : goal.returns-in_err-push-clause-kept

@@ -1,7 +1,8 @@
 use Rattle.std.proofs.Common.{◌≡◌, ◌+◌, sym, ap, subst, List, Bool, length, Contains, ◌∙◌}
 use Rattle.std.specs.Bool.{if◌then◌else◌}
 use Rattle.std.specs.BTreeSet.{contains}
-use Rattle.epx_types.proofs.Common.{id_cmp, Id}
+use Rattle.epx_types.proofs.Common.{id_cmp}
+use Rattle.epx_types.specs.declared.id.Id.{Id}
 use Rattle.epx_executor.specs.inner.Filings.{AreSeen}
 use Rattle.epx_executor.proofs.FilingSearchLemmas.{AreAppended-none, AreSeen-more, Contains-seen}
 use Rattle.epx_executor.proofs.FilingSearchLemmas.{true-from_not}

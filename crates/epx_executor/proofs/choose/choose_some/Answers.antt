@@ -1,5 +1,5 @@
 use Rattle.std.proofs.Common.{List, Contains, sym, subst, inl, inr, arith}
-use Rattle.epx_types.proofs.Common.{Id}
+use Rattle.epx_types.specs.declared.id.Id.{Id}
 use Rattle.epx_executor.specs.inner.Choices.{IsSortedOut, NeedsMissing}
 use Rattle.epx_executor.proofs.ChoiceLemmas.{each_all, each_more, IsChoice-gathered}
 use Rattle.epx_executor.proofs.ChoiceLemmas.{IsSortedOut-more}

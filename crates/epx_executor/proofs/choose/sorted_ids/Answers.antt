@@ -1,5 +1,6 @@
 use Rattle.std.proofs.Common.{◌↔◌, List, Contains, IfOk, ap, subst, ◌∙◌}
-use Rattle.epx_types.proofs.Common.{take_all, Id, ids_of}
+use Rattle.epx_types.proofs.Common.{take_all, ids_of}
+use Rattle.epx_types.specs.declared.id.Id.{Id}
 use Rattle.epx_executor.proofs.choose.sorted_ids.Goals as goal
 
 pub returns-clause-exact : goal.returns-clause-exact

@@ -1,5 +1,6 @@
 use Rattle.std.proofs.Common.{◌+◌, ◌-◌, ◌/◌, get_or, sym, subst, ◌∙◌, arith}
-use Rattle.epx_types.proofs.Common.{Id, Below}
+use Rattle.epx_types.proofs.Common.{Below}
+use Rattle.epx_types.specs.declared.id.Id.{Id}
 use Rattle.epx_executor.specs.declared.done_runs.Run.{Run}
 use Rattle.epx_executor.specs.Runs.{start_of, end_of}
 use Rattle.epx_executor.proofs.RunLemmas.{run_before, run_after, Below-from_lt}

@@ -1,5 +1,6 @@
 use Rattle.std.proofs.Common.{◌⊎◌, ◌↔◌, ◌++◌, ◌∷◌, [], List, ◌∙◌, sym, subst, ap, All, Some, arith}
-use Rattle.epx_types.proofs.Common.{All-push, All-pop, Id, UpTo}
+use Rattle.epx_types.proofs.Common.{All-push, All-pop, UpTo}
+use Rattle.epx_types.specs.declared.id.Id.{Id}
 use Rattle.epx_executor.specs.declared.done_runs.Run.{Run}
 use Rattle.epx_executor.specs.Runs.{AreRuns, start_of, IsInRun, IsInRuns}
 use Rattle.epx_executor.proofs.RunLemmas.{AreRuns-lengthened, IsInRuns-lengthened, AreRuns-after}

@@ -1,5 +1,6 @@
 use Rattle.std.proofs.Common.{◌↔◌, ◌+◌, List, Contains, take, sym, subst, arith}
-use Rattle.epx_types.proofs.Common.{IsPermutation, All-push, take_all, Id}
+use Rattle.epx_types.proofs.Common.{IsPermutation, All-push, take_all}
+use Rattle.epx_types.specs.declared.id.Id.{Id}
 use Rattle.epx_executor.specs.declared.done_runs.Run.{Run}
 use Rattle.epx_executor.specs.Runs.{AreFilled, IsInRuns, IsFilledRun}
 use Rattle.epx_executor.proofs.RunLemmas.{IsInRuns-of_more, AreFilled-sorted, IsInRuns-sorted}

@@ -1,5 +1,5 @@
 use Rattle.std.proofs.Common.{◌↔◌, take, Contains}
-use Rattle.epx_types.proofs.Common.{Id}
+use Rattle.epx_types.specs.declared.id.Id.{Id}
 use Rattle.epx_executor.specs.Runs.{AreFilled, IsInRuns}
 use Rattle.epx_executor.proofs.done_runs.sorted_runs.Given as goal
 

@@ -1,7 +1,9 @@
 use Rattle.std.proofs.Common.{◌≡◌, ◌∷◌, [], ◌++◌, ℕ, List, map, take, get_or, slice_get, sym, ap}
 use Rattle.std.proofs.Common.{ap₂, ◌∙◌, Bor}
-use Rattle.epx_types.proofs.Common.{map-append, take_more, slice_get-get_or, Command, Id, Op}
-use Rattle.epx_types.proofs.Common.{ops_or_empty, Instance}
+use Rattle.epx_types.proofs.Common.{map-append, take_more, slice_get-get_or, ops_or_empty, Instance}
+use Rattle.epx_types.specs.declared.command.Command.{Command}
+use Rattle.epx_types.specs.declared.id.Id.{Id}
+use Rattle.epx_types.specs.declared.op.Op.{Op}
 use Rattle.std.proofs.lemmas.Option.{slice_get_past}
 use Rattle.epx_executor.proofs.execute_all.commands_at.Goals as goal
 use Rattle.epx_executor.proofs.execute_all.commands_at.Goals.{in-Some, in-None}

@@ -1,5 +1,6 @@
 use Rattle.std.proofs.Common.{map, length, ap, ◌∙◌}
-use Rattle.epx_types.proofs.Common.{length-map, Command, length-replies}
+use Rattle.epx_types.proofs.Common.{length-map, length-replies}
+use Rattle.epx_types.specs.declared.command.Command.{Command}
 use Rattle.epx_executor.proofs.execute_all.execute_all.Goals as goal
 
 pub pair_up-requires : goal.pair_up-requires

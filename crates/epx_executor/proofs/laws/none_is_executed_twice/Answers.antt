@@ -1,5 +1,7 @@
 use Rattle.std.proofs.Common.{◌≡◌, List, slice_get, Some, subst}
-use Rattle.epx_types.proofs.Common.{Id, Reply, ranked_ids, Contains-slice_get}
+use Rattle.epx_types.proofs.Common.{ranked_ids, Contains-slice_get}
+use Rattle.epx_types.specs.declared.id.Id.{Id}
+use Rattle.epx_types.specs.declared.reply.Reply.{Reply}
 use Rattle.epx_laws.specs.ResumedRunLaws.{run_on}
 use Rattle.epx_executor.proofs.CommitLemmas.{zip_at}
 use Rattle.epx_executor.proofs.OrderedLemmas.{executed_is_left}

@@ -1,5 +1,5 @@
 use Rattle.std.proofs.Common.{◌⊎◌, ◌≡◌, sym, ◌∙◌, subst}
-use Rattle.epx_types.proofs.Common.{Id}
+use Rattle.epx_types.specs.declared.id.Id.{Id}
 use Rattle.epx_executor.specs.inner.Filings.{IsBlockedBy}
 use Rattle.epx_executor.proofs.RefileLemmas.{filed_if_ok, filed_new, filed_stay}
 use Rattle.epx_executor.proofs.RefileLemmas.{last_is, new_behind}

@@ -1,5 +1,6 @@
 use Rattle.std.proofs.Common.{◌≡◌, Contains, sym, ap, subst, arith}
-use Rattle.epx_types.proofs.Common.{Id, Reaches, IsCommitted, Waiting}
+use Rattle.epx_types.proofs.Common.{Reaches, IsCommitted, Waiting}
+use Rattle.epx_types.specs.declared.id.Id.{Id}
 use Rattle.epx_executor.specs.inner.Filings.{IsFiled}
 use Rattle.epx_executor.proofs.RefileLemmas.{waiters_all, waiters_next, within_more}
 use Rattle.epx_executor.proofs.refile.file_waiters.Goals as goal

@@ -1,5 +1,6 @@
 use Rattle.std.proofs.Common.{List, Contains, take}
-use Rattle.epx_types.proofs.Common.{Id, IsCommitted, Instance, Reaches, Waiting, waiting_ids}
+use Rattle.epx_types.proofs.Common.{IsCommitted, Instance, Reaches, Waiting, waiting_ids}
+use Rattle.epx_types.specs.declared.id.Id.{Id}
 use Rattle.epx_executor.specs.inner.Choices.{AreWithin}
 use Rattle.epx_executor.specs.inner.Filings.{IsFiled}
 use Rattle.epx_executor.proofs.refile.file_waiters.Given as goal

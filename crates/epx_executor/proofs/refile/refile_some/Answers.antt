@@ -1,5 +1,6 @@
 use Rattle.std.proofs.Common.{List, subst}
-use Rattle.epx_types.proofs.Common.{Id, Instance}
+use Rattle.epx_types.proofs.Common.{Instance}
+use Rattle.epx_types.specs.declared.id.Id.{Id}
 use Rattle.epx_executor.specs.inner.Choices.{AreWithin}
 use Rattle.epx_executor.proofs.RefileLemmas.{refiled_some}
 use Rattle.epx_executor.proofs.refile.refile_some.Goals as goal

@@ -1,7 +1,6 @@
 use Rattle.std.proofs.Common.{◌+◌, List, take, sym, subst, arith}
-use Rattle.epx_types.proofs.Common.{Id}
-use Rattle.epx_executor.proofs.RefileLemmas.{AreFiledWithout, filed_without_all}
-use Rattle.epx_executor.proofs.RefileLemmas.{filed_without_next}
+use Rattle.epx_types.specs.declared.id.Id.{Id}
+use Rattle.epx_executor.proofs.RefileLemmas.{AreFiledWithout, filed_without_all, filed_without_next}
 use Rattle.epx_executor.proofs.refile.take_out.Goals as goal
 
 pub loop-id-preserved : goal.loop-id-preserved

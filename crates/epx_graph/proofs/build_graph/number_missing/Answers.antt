@@ -1,6 +1,6 @@
 use Rattle.std.proofs.Common.{◌≡◌, ◌++◌, ◌∷◌, [], ◌+◌, List, Some, slice_get, Contains, length}
 use Rattle.std.proofs.Common.{take, drop, get_or, sym, ap, subst, ◌∙◌}
-use Rattle.epx_types.proofs.Common.{Id}
+use Rattle.epx_types.specs.declared.id.Id.{Id}
 use Rattle.epx_graph.specs.inner.Remainder.{rest_of}
 use Rattle.epx_graph.specs.inner.Nodes.{ArePositionsOf}
 use Rattle.epx_graph.proofs.RisingRowLemmas.{missing_skip, missing_more}

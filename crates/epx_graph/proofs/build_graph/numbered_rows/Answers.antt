@@ -1,7 +1,8 @@
 use Rattle.std.proofs.Common.{◌≡◌, ◌++◌, ◌∷◌, [], ◌+◌, List, ℕ, All, AllPairs, length, sym, ap}
 use Rattle.std.proofs.Common.{subst, ◌∙◌, arith}
-use Rattle.epx_types.proofs.Common.{Below, Id, IsCommitted, without_deps, remaining_ids}
+use Rattle.epx_types.proofs.Common.{Below, IsCommitted, without_deps, remaining_ids}
 use Rattle.epx_types.proofs.Common.{AllPairs-from_IsRising}
+use Rattle.epx_types.specs.declared.id.Id.{Id}
 use Rattle.epx_graph.specs.inner.Remainder.{rest_of}
 use Rattle.epx_graph.specs.inner.Nodes.{positions_of, missing_of, ArePositionsOf, AreRowsOf}
 use Rattle.epx_graph.proofs.MapNodeLemmas.{rows_more}

@@ -1,5 +1,5 @@
 use Rattle.std.proofs.Common.{sym, ap, ◌∙◌, append-nil}
-use Rattle.epx_types.proofs.Common.{Id}
+use Rattle.epx_types.specs.declared.id.Id.{Id}
 use Rattle.epx_rows.specs.OpenRows.{OpenRowView}
 use Rattle.epx_graph.specs.declared.left.IdState.TheVariants as found
 use Rattle.epx_graph.proofs.RemainderLemmas.{gathered_next}

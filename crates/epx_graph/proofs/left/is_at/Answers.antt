@@ -1,5 +1,6 @@
 use Rattle.std.proofs.Common.{get_or, sym, ◌∙◌}
-use Rattle.epx_types.proofs.Common.{Id, ids_decide}
+use Rattle.epx_types.proofs.Common.{ids_decide}
+use Rattle.epx_types.specs.declared.id.Id.{Id}
 use Rattle.epx_graph.proofs.NeighbourLemmas.{other_default}
 use Rattle.epx_graph.proofs.left.is_at.Goals as goal
 

@@ -1,5 +1,6 @@
 use Rattle.std.proofs.Common.{◌-◌, get_or, nat_cmp, sym, subst, ◌∙◌, arith}
-use Rattle.epx_types.proofs.Common.{Id, Below}
+use Rattle.epx_types.proofs.Common.{Below}
+use Rattle.epx_types.specs.declared.id.Id.{Id}
 use Rattle.epx_graph.proofs.NeighbourLemmas.{is_lt-from_lt, other_default, below_before}
 use Rattle.epx_graph.proofs.neighbours.all_below_before.Goals as goal
 

@@ -1,6 +1,5 @@
-use Rattle.epx_laws.proofs.ComponentCountLemmas.{leaders_of, length-leaders_of}
-use Rattle.epx_laws.proofs.ComponentCountLemmas.{AllPairs-leaders_of, leaders_of-lead}
-use Rattle.epx_laws.proofs.ComponentCountLemmas.{Contains-leaders_of}
+use Rattle.epx_laws.proofs.ComponentCountLemmas.{leaders_of, length-leaders_of, AllPairs-leaders_of}
+use Rattle.epx_laws.proofs.ComponentCountLemmas.{leaders_of-lead, Contains-leaders_of}
 use Rattle.epx_laws.proofs.order.components_are_counted.Goals as goal
 
 pub returns : goal.returns

@@ -1,5 +1,6 @@
 use Rattle.std.proofs.Common.{◌≡◌, [], ap, ◌∙◌, IsUtf8, rules}
-use Rattle.epx_types.proofs.Common.{IfSome_then, NotJson}
+use Rattle.epx_types.proofs.Common.{IfSome_then}
+use Rattle.epx_types.specs.declared.fault.Why.TheVariants.{NotJson}
 use Rattle.json.specs.Lex.{tokens}
 use Rattle.serde_json.specs.Data.{object}
 use Rattle.epx_lines.specs.Meaning.{need, meaning_of_value}

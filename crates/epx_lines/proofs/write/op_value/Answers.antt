@@ -1,6 +1,7 @@
 use Rattle.std.proofs.Common.{Option, Some, None, ℤ, List, ℕ}
 use Rattle.std.specs.Option.{IfSome}
-use Rattle.epx_types.proofs.Common.{FitsKey, Is}
+use Rattle.epx_types.proofs.Common.{FitsKey}
+use Rattle.epx_types.specs.declared.op.Op.TheVariants.{Is}
 use Rattle.epx_lines.specs.inner.WrittenParts.{IsWritableOp, IsWritableValue}
 use Rattle.epx_lines.proofs.WrittenPartLemmas.{IsWritableOp-Get, IsWritableOp-Put}
 use Rattle.epx_lines.proofs.WrittenPartLemmas.{IsWritableOp-Del, IsWritableOp-Add}

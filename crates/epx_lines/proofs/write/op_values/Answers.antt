@@ -1,5 +1,6 @@
 use Rattle.std.proofs.Common.{arith, subst}
-use Rattle.epx_types.proofs.Common.{common_steps, Op}
+use Rattle.epx_types.proofs.Common.{common_steps}
+use Rattle.epx_types.specs.declared.op.Op.{Op}
 use Rattle.std.proofs.lemmas.List.Elements.{All-more}
 use Rattle.epx_lines.specs.inner.WrittenParts.{IsWritableOp}
 use Rattle.epx_lines.proofs.write.op_values.Goals as goal

@@ -1,5 +1,4 @@
-use Rattle.std.proofs.Common.{◌++◌, ◌∙◌, [], length, subst, ap, arith}
-use Rattle.std.proofs.Common.{append_assoc}
+use Rattle.std.proofs.Common.{◌++◌, ◌∙◌, [], length, subst, ap, arith, append_assoc}
 use Rattle.epx_merge.specs.inner.Gathered.{AreGathered}
 use Rattle.epx_merge.proofs.gathered_lines.gather.Goals as goal
 

@@ -1,5 +1,5 @@
 use Rattle.std.proofs.Common.{[], List, Result, rules}
-use Rattle.epx_types.proofs.Common.{Why}
+use Rattle.epx_types.specs.declared.fault.Why.{Why}
 use Rattle.epx_lines.specs.declared.Line.{Line}
 use Rattle.epx_merge.specs.LedgerNotes.{AreReadUpTo}
 use Rattle.epx_merge.specs.LogLines.{meanings_of, placed_of, bad_lines_of}

@@ -2,8 +2,7 @@ use Rattle.std.proofs.Common.{Some, ap, refl}
 use Rattle.epx_devices.specs.MemoryDevices.{memory_source}
 use Rattle.epx_names.specs.Tasks.{HasInput}
 use Rattle.epx_tool.specs.Findings.{found_of}
-use Rattle.epx_program.proofs.OutcomeLemmas.{outcome_of_first, outcome_of_logs}
-use Rattle.epx_program.proofs.OutcomeLemmas.{outcome_of_nothing}
+use Rattle.epx_program.proofs.OutcomeLemmas.{outcome_of_first, outcome_of_logs, outcome_of_nothing}
 use Rattle.epx_program.proofs.do_task.write_answer.Goals as goal
 
 pub returns-then-not-has_input : goal.returns-then-not-has_input

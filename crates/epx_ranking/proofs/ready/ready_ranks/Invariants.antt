@@ -1,5 +1,6 @@
 use Rattle.std.proofs.Common.{List}
-use Rattle.epx_types.proofs.Common.{Id, remaining}
+use Rattle.epx_types.proofs.Common.{remaining}
+use Rattle.epx_types.specs.declared.id.Id.{Id}
 use Rattle.epx_graph.proofs.Common.{IsGraphOf}
 use Rattle.epx_ranking.proofs.ReadyRankLemmas.{AreGathered}
 use Rattle.epx_ranking.proofs.ready.ready_ranks.Given as goal

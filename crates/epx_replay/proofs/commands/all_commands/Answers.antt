@@ -1,5 +1,6 @@
 use Rattle.std.proofs.Common.{◌≡◌, ◌++◌, ◌∙◌, map, flat_map, refl, ap, rules}
-use Rattle.epx_types.proofs.Common.{map-append, Command, instance_of, ops_or_empty, commands_in}
+use Rattle.epx_types.proofs.Common.{map-append, instance_of, ops_or_empty, commands_in}
+use Rattle.epx_types.specs.declared.command.Command.{Command}
 use Rattle.epx_claims.specs.inner.PieceItems.{items_of_piece}
 use Rattle.epx_claims.proofs.JoinedPieceLemmas.{parts_joined}
 use Rattle.epx_replay.proofs.ReplayLemmas.{map-flat_map}

@@ -1,5 +1,4 @@
-use Rattle.std.proofs.Common.{◌≡◌, [], ◌∷◌, Some, w64, to_z, of_z, refl, sym, ap, ◌∙◌, arith}
-use Rattle.std.proofs.Common.{rules}
+use Rattle.std.proofs.Common.{◌≡◌, [], ◌∷◌, Some, w64, to_z, of_z, refl, sym, ap, ◌∙◌, arith, rules}
 use Rattle.epx_lines.proofs.TokenValueLemmas.{BeginsWithAll-deeper}
 use Rattle.epx_report.proofs.NamedFormLemmas.{form_named-store}
 use Rattle.epx_report.proofs.direct.take_store.Goals as goal

@@ -1,5 +1,4 @@
-use Rattle.std.proofs.Common.{refl}
-use Rattle.std.proofs.Common.{◌∷◌, []}
+use Rattle.std.proofs.Common.{refl, ◌∷◌, []}
 use Rattle.serde_json.specs.Data as value
 use Rattle.epx_report.proofs.LineTextLemmas.{line_alone}
 use Rattle.epx_report.proofs.view_lines.name_line.Goals as goal

@@ -1,5 +1,6 @@
 use Rattle.std.proofs.Common.{◌≡◌, ◌∙◌, ◌↔◌, List, [], true, IfOk, sym, subst}
-use Rattle.epx_types.proofs.Common.{IfOk-weaker, Id, Contents, remaining, Instance, remaining-nil}
+use Rattle.epx_types.proofs.Common.{IfOk-weaker, Contents, remaining, Instance, remaining-nil}
+use Rattle.epx_types.specs.declared.id.Id.{Id}
 use Rattle.epx_picture.specs.Pictures.{IsPicture}
 use Rattle.epx_trace.specs.TraceTexts.{IsTraceText}
 use Rattle.epx_why.specs.WhyTexts.{IsPathText}

@@ -1,7 +1,7 @@
 use Rattle.std.proofs.Common.{◌≡◌, ◌+◌, ℕ, List, Option, length, inl, inr, refl, ap, sym, ◌∙◌}
 use Rattle.std.proofs.Common.{subst, arith, IfSome}
-use Rattle.epx_types.proofs.Common.{TooManyLogs, Read, max_log_bytes}
-use Rattle.epx_types.specs.declared.fault.Fault.TheVariants.{Write}
+use Rattle.epx_types.proofs.Common.{max_log_bytes}
+use Rattle.epx_types.specs.declared.fault.Fault.TheVariants.{TooManyLogs, Read, Write}
 use Rattle.epx_devices.specs.Deliveries.{IsLogStop}
 use Rattle.epx_devices.specs.Transfers.{ConsumesExactly}
 use Rattle.epx_merge.specs.Refusals.{FitLimits}
@@ -10,14 +10,11 @@ use Rattle.epx_tool.specs.inner.MapQuestions.{IsTaskReading}
 use Rattle.epx_tool.proofs.LogsWithInputLemmas.{reading_refusal_with_input}
 use Rattle.epx_tool.proofs.LogsWithInputLemmas.{refusal_of_reading_with_input}
 use Rattle.epx_tool.proofs.QuestionLemmas.{both_made}
-use Rattle.epx_tool.proofs.ReturnedFaultLemmas.{same_error}
-use Rattle.epx_merge.proofs.ReturnedFaultLemmas.{neither, ok_is_no_fault}
-use Rattle.epx_merge.proofs.ReturnedFaultLemmas.{ok_does_not_stop}
-use Rattle.epx_tool.proofs.ReturnedFaultLemmas.{ok_failed_iff}
-use Rattle.epx_merge.proofs.ReturnedFaultLemmas.{input_not_write, input_not_too_many}
-use Rattle.epx_tool.proofs.ReturnedFaultLemmas.{input_failed_iff}
-use Rattle.epx_merge.proofs.ReturnedFaultLemmas.{stops_at_input}
+use Rattle.epx_tool.proofs.ReturnedFaultLemmas.{same_error, ok_failed_iff, input_failed_iff}
 use Rattle.epx_tool.proofs.ReturnedFaultLemmas.{HasRead-input, HasRead-written}
+use Rattle.epx_merge.proofs.ReturnedFaultLemmas.{neither, ok_is_no_fault, ok_does_not_stop}
+use Rattle.epx_merge.proofs.ReturnedFaultLemmas.{input_not_write, input_not_too_many}
+use Rattle.epx_merge.proofs.ReturnedFaultLemmas.{stops_at_input}
 use Rattle.epx_tool.proofs.RunEndingLemmas.{leaves_again, leaves_after}
 use Rattle.epx_tool.proofs.read_both.read_both.Goals as goal
 

@@ -2,7 +2,8 @@ use Rattle.std.proofs.Common.{◌≡◌, ◌<◌, ◌≤◌, ◌∙◌, ◌∷�
 use Rattle.epx_txn.proofs.EvaluationLemmas.{at_start, after_read, after_done, reply_of_abort}
 use Rattle.epx_txn.proofs.EvaluationLemmas.{writes_of_abort, reply_at_end, writes_at_end}
 use Rattle.std.specs.FinMap as contents
-use Rattle.epx_types.proofs.Common.{Values, entries-empty}
+use Rattle.epx_types.proofs.Common.{entries-empty}
+use Rattle.epx_types.specs.declared.reply.Reply.TheVariants.{Values}
 use Rattle.epx_txn.proofs.evaluation.operate_all.Goals as goal
 use Rattle.epx_txn.proofs.evaluation.operate_all.Goals.{in-Read+in_ok-push-in-Read, in-Done}
 

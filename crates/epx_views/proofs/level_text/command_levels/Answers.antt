@@ -1,5 +1,6 @@
 use Rattle.std.proofs.Common.{List, map, ap, ◌∙◌, subst, IfOk}
-use Rattle.epx_types.proofs.Common.{Op, AreLevels}
+use Rattle.epx_types.proofs.Common.{AreLevels}
+use Rattle.epx_types.specs.declared.op.Op.{Op}
 use Rattle.epx_views.proofs.level_text.command_levels.Goals as goal
 
 pub returns : goal.returns

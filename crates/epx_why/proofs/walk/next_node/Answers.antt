@@ -1,5 +1,4 @@
-use Rattle.std.proofs.Common.{◌≡◌, Bool, true, false, take, sym, subst, inl, inr}
-use Rattle.std.proofs.Common.{◌+◌}
+use Rattle.std.proofs.Common.{◌≡◌, Bool, true, false, take, sym, subst, inl, inr, ◌+◌}
 use Rattle.epx_why.specs.inner.NodeWalks.{AreNext}
 use Rattle.epx_why.proofs.TargetLemmas.{next_without, next_with}
 use Rattle.epx_why.proofs.walk.next_node.Goals as goal

@@ -1,7 +1,8 @@
 use Rattle.std.proofs.Common.{◌≡◌, ◌++◌, ◌<◌, ◌≤◌, ◌∙◌, ℕ, Bool, true, false, List, [], flat_map}
 use Rattle.std.proofs.Common.{codes, Some, slice_get, Contains, sym, ap, subst, inl, inr}
-use Rattle.epx_types.proofs.Common.{cases_lt, IfOk-weaker, slice_get_within, Id, Ranked}
+use Rattle.epx_types.proofs.Common.{cases_lt, IfOk-weaker, slice_get_within, Ranked}
 use Rattle.epx_types.proofs.Common.{IsExecutionOrder}
+use Rattle.epx_types.specs.declared.id.Id.{Id}
 use Rattle.epx_graph.proofs.Common.{IsGraphOf}
 use Rattle.epx_report.specs.ReportLines.{waiting_line}
 use Rattle.epx_report.specs.ViewLines.{missing_line}

@@ -1,8 +1,7 @@
 use Rattle.std.proofs.Common.{sym, subst, arith}
 use Rattle.epx_committed.specs.Ledgers.{IsLedgerOf}
 use Rattle.epx_committed.proofs.LineRowLemmas.{AreSortedRows, AreLineRows-moved, have_lists}
-use Rattle.epx_committed.proofs.LineRowLemmas.{ManyInstances-rows, FewInstances-rows}
-use Rattle.epx_committed.proofs.LineRowLemmas.{IsMerged-rows}
+use Rattle.epx_committed.proofs.LineRowLemmas.{ManyInstances-rows, FewInstances-rows, IsMerged-rows}
 use Rattle.epx_committed.proofs.LedgerCloseLemmas.{IsDisagreementAt-least}
 use Rattle.epx_committed.proofs.ledger.Ledger.close.Goals as goal
 

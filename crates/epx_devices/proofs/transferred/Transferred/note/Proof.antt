@@ -26,7 +26,7 @@ use denote.Triple.Entry.{on_entry}
 use denote.Triple.Spec.{Meets, triple_of}
 use denote.Triple.Table.{entered}
 use denote.Triple.Walked.{says, Stays, stay_ref, walk_of, AllGo, Goes-ref, Walks, ends_at, walked}
-use denote.Triple.Walked.{walk_Meets}
+use denote.Triple.Walked.{walk_Meets, stay_none_slice, Goes-none_slice}
 use Rattle.epx_devices.specs.declared.transferred.Transferred.{Transferred}
 use Rattle.epx_devices.specs.contracts.transferred.Transferred as T
 use Rattle.epx_devices.specs.contracts.transferred.Transferred.note.Key.{name as #it}
@@ -36,7 +36,6 @@ use Rattle.epx_devices.proofs.transferred.Transferred.note.Code as code
 use denote.Builtin.{u8}
 use denote.Exit.{yes}
 use denote.Slice.{ShrSlice, slice_val, shr_slice_vals, shr_slice_Tells}
-use denote.Triple.Walked.{stay_none_slice, Goes-none_slice}
 
 abbrev Arg : Type 0
 Arg = MutBor Transferred × (Bor (List ℕ) × Unit {0})

@@ -1,5 +1,6 @@
 use Rattle.std.proofs.Common.{[], Contains, subst, take, arith}
-use Rattle.epx_types.proofs.Common.{take_all, Id}
+use Rattle.epx_types.proofs.Common.{take_all}
+use Rattle.epx_types.specs.declared.id.Id.{Id}
 use Rattle.epx_executor.specs.inner.Filings.{AreAppended}
 use Rattle.epx_executor.proofs.FilingSearchLemmas.{AreAppended-under, IsSearched-first}
 use Rattle.epx_executor.proofs.FilingSearchLemmas.{IsSearched-more, length-le_from_found}

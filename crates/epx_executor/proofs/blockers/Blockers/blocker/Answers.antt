@@ -1,6 +1,6 @@
 use Rattle.std.proofs.Common.{◌+◌, ◌-◌, sym, subst, arith, length, Option}
 use Rattle.std.specs.Option.{MatchOption}
-use Rattle.epx_types.proofs.Common.{Id}
+use Rattle.epx_types.specs.declared.id.Id.{Id}
 use Rattle.epx_executor.specs.inner.Filings.{Filings, IsBlockedBy, IsFiled}
 use Rattle.epx_executor.proofs.FilingLemmas.{IsOnWay-first, IsOnWay-next}
 use Rattle.epx_executor.proofs.FilingMapLemmas.{Contains-from_get, not_filed-from_get}

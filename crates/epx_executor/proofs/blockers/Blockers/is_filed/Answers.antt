@@ -1,5 +1,6 @@
 use Rattle.std.proofs.Common.{◌≡◌, ◌↔◌, ◌∙◌, Option, None, Some, is_some, IsTrue, refl, ap, subst}
-use Rattle.epx_types.proofs.Common.{BTreeMap, IsOrdered, get, Id, id_cmp}
+use Rattle.epx_types.proofs.Common.{BTreeMap, IsOrdered, get, id_cmp}
+use Rattle.epx_types.specs.declared.id.Id.{Id}
 use Rattle.epx_executor.specs.inner.Filings.{Filings, IsFiled}
 use Rattle.epx_executor.proofs.FilingLemmas.{IsFiled-under, filed_under}
 use Rattle.epx_executor.proofs.FilingMapLemmas.{Contains-from_get, get-from_Contains}

@@ -1,5 +1,6 @@
 use Rattle.std.proofs.Common.{[], List, Contains, sym, subst, take, get_or, arith}
-use Rattle.epx_types.proofs.Common.{take_all, Id, Contains-nil}
+use Rattle.epx_types.proofs.Common.{take_all, Contains-nil}
+use Rattle.epx_types.specs.declared.id.Id.{Id}
 use Rattle.epx_executor.specs.inner.Filings.{AreAppended, Filings}
 use Rattle.epx_executor.proofs.FilingMapLemmas.{none-listed, Contains-from_get}
 use Rattle.epx_executor.proofs.FilingMapLemmas.{Contains-from_listed, get-from_Contains}

@@ -1,5 +1,5 @@
 use Rattle.std.proofs.Common.{◌≡◌, ◌↔◌, Contains, subst}
-use Rattle.epx_types.proofs.Common.{Id}
+use Rattle.epx_types.specs.declared.id.Id.{Id}
 use Rattle.epx_executor.specs.inner.Filings.{Filings}
 use Rattle.epx_executor.proofs.FilingLemmas.{AreFilings-left}
 use Rattle.epx_executor.proofs.FilingMapLemmas.{Contains-removed}

@@ -1,5 +1,6 @@
 use Rattle.std.proofs.Common.{true≢false, Contains, sym, ap, subst, ◌∙◌, inl, inr}
-use Rattle.epx_types.proofs.Common.{Id, is_among, not_done}
+use Rattle.epx_types.proofs.Common.{is_among, not_done}
+use Rattle.epx_types.specs.declared.id.Id.{Id}
 use Rattle.epx_executor.specs.inner.Choices.{NeedsMissing}
 use Rattle.epx_executor.proofs.ChoiceLemmas.{from_push, of_push}
 use Rattle.epx_executor.proofs.RemainderLemmas.{from_among, was_done, was_left}

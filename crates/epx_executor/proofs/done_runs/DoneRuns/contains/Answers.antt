@@ -1,5 +1,5 @@
 use Rattle.std.proofs.Common.{List, Contains, sym, subst}
-use Rattle.epx_types.proofs.Common.{Id}
+use Rattle.epx_types.specs.declared.id.Id.{Id}
 use Rattle.epx_executor.specs.declared.done_runs.Run.{Run}
 use Rattle.epx_executor.specs.Runs.{IsInRuns}
 use Rattle.epx_executor.proofs.RunLemmas.{Contains-ids_in, from_ids_in}

@@ -1,5 +1,6 @@
 use Rattle.std.proofs.Common.{◌∷◌, [], List, Contains, sym, subst, inl, inr}
-use Rattle.epx_types.proofs.Common.{Id, Contains-nil, Contains-head, Contains-cons_cases}
+use Rattle.epx_types.proofs.Common.{Contains-nil, Contains-head, Contains-cons_cases}
+use Rattle.epx_types.specs.declared.id.Id.{Id}
 use Rattle.epx_executor.proofs.done_runs.DoneRuns.insert.Goals as goal
 
 pub returns-clause-ok : goal.returns-clause-ok

@@ -1,7 +1,10 @@
 use Rattle.std.proofs.Common.{◌≡◌, ◌⊎◌, ◌↔◌, ℕ, List, Option, IfSome, Contains, map, length}
 use Rattle.std.proofs.Common.{slice_get, zip, sym, subst, refl, ap, ap₂, ◌∙◌, arith}
-use Rattle.epx_types.proofs.Common.{length-map, IfSome_then, Command, Id, Op, ops_or_empty}
-use Rattle.epx_types.proofs.Common.{Contents, remaining, execute, Instance, Waiting}
+use Rattle.epx_types.proofs.Common.{length-map, IfSome_then, ops_or_empty, Contents, remaining}
+use Rattle.epx_types.proofs.Common.{execute, Instance, Waiting}
+use Rattle.epx_types.specs.declared.command.Command.{Command}
+use Rattle.epx_types.specs.declared.id.Id.{Id}
+use Rattle.epx_types.specs.declared.op.Op.{Op}
 use Rattle.std.proofs.lemmas.Result.{err_from_is_err_and}
 use Rattle.epx_committed.specs.MergedLines.{IsMergeFault}
 use Rattle.epx_executor.specs.CallLines.{call_lines}

@@ -1,6 +1,7 @@
 use Rattle.std.proofs.Common.{◌≡◌, ◌⊎◌, ◌↔◌, ◌+◌, Bool, true, not, List, [], ◌∷◌, ◌++◌, take}
 use Rattle.std.proofs.Common.{Contains, sym, ap, ◌∙◌, subst, inl, inr, arith}
-use Rattle.epx_types.proofs.Common.{Id, is_among, Instance, is_among_cases}
+use Rattle.epx_types.proofs.Common.{is_among, Instance, is_among_cases}
+use Rattle.epx_types.specs.declared.id.Id.{Id}
 use Rattle.epx_executor.proofs.PendingLemmas.{AreInserted, all_inserted, done_next, inserted_next}
 use Rattle.epx_executor.proofs.PendingLemmas.{none_found, noted, noted_push, one_found, there_next}
 use Rattle.epx_executor.proofs.RemainderLemmas.{from_among, was_done, was_left}

@@ -1,5 +1,6 @@
 use Rattle.std.proofs.Common.{◌↔◌, List, Contains, sym, ap, ◌∙◌, subst}
-use Rattle.epx_types.proofs.Common.{Id, ids_of, IsRising, Instance}
+use Rattle.epx_types.proofs.Common.{ids_of, IsRising, Instance}
+use Rattle.epx_types.specs.declared.id.Id.{Id}
 use Rattle.epx_executor.proofs.RemainderLemmas.{same_instances}
 use Rattle.epx_executor.proofs.pending.Pending.update.Goals as goal
 

@@ -1,5 +1,6 @@
 use Rattle.std.proofs.Common.{◌≡◌, List, Contains, get_or, length, sym, ap, ◌∙◌, subst, arith}
-use Rattle.epx_types.proofs.Common.{nat_tests, Id}
+use Rattle.epx_types.proofs.Common.{nat_tests}
+use Rattle.epx_types.specs.declared.id.Id.{Id}
 use Rattle.epx_graph.specs.inner.Remainder.{RemainderView}
 use Rattle.epx_graph.proofs.RemainderLemmas.{all_rest, count_skip, count_more}
 use Rattle.epx_graph.proofs.left.Remainder.count_undone.Goals as goal

@@ -1,6 +1,6 @@
 use Rattle.std.proofs.Common.{◌≡◌, ◌∙◌, ◌<◌, List, Result, map, length, get_or, slice_get, ap}
 use Rattle.std.proofs.Common.{rules, sym}
-use Rattle.epx_types.proofs.Common.{Why}
+use Rattle.epx_types.specs.declared.fault.Why.{Why}
 use Rattle.epx_lines.specs.Meaning.{meaning_of}
 use Rattle.epx_lines.specs.declared.Line.{Line}
 use Rattle.epx_merge.proofs.LineCacheLemmas.{found_at}

@@ -1,6 +1,7 @@
 use Rattle.std.proofs.Common.{◌≡◌, ◌++◌, [], sym, ap, ◌∙◌, subst, append-nil}
 use Rattle.std.proofs.lemmas.Map.Iter.{rest_all}
-use Rattle.epx_types.proofs.Common.{Id, IsRising}
+use Rattle.epx_types.proofs.Common.{IsRising}
+use Rattle.epx_types.specs.declared.id.Id.{Id}
 use Rattle.epx_lines.proofs.EntryLemmas.{IsRising-fold}
 use Rattle.epx_report.proofs.IdSetLemmas.{id_eq_by_cmp, into_vec_ids}
 use Rattle.epx_report.proofs.id_set.IdSet.into_vec.Goals as goal

@@ -1,6 +1,7 @@
 use Rattle.std.proofs.Common.{◌≡◌, ◌∙◌, ◌++◌, ◌∷◌, [], Err, Result, Some, slice_get, sym, ap, subst}
 use Rattle.std.proofs.Common.{◌≤◌, length, arith}
-use Rattle.epx_types.proofs.Common.{nat_tests, slice_get-get_or, Why, Instance, Placed}
+use Rattle.epx_types.proofs.Common.{nat_tests, slice_get-get_or, Instance, Placed}
+use Rattle.epx_types.specs.declared.fault.Why.{Why}
 use Rattle.epx_lines.specs.declared.Line.{Line}
 use Rattle.epx_merge.specs.LogLines.{bad_lines_among, placed_among}
 use Rattle.epx_versions.specs.declared.read_line.ReadLine.{ReadLine}

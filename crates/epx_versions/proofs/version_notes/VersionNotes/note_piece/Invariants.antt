@@ -1,5 +1,6 @@
 use Rattle.std.proofs.Common.{List, Result, Vec}
-use Rattle.epx_types.proofs.Common.{Global, Why}
+use Rattle.epx_types.proofs.Common.{Global}
+use Rattle.epx_types.specs.declared.fault.Why.{Why}
 use Rattle.epx_seed.specs.declared.Seed.{Seed}
 use Rattle.epx_lines.specs.declared.Line.{Line}
 use Rattle.epx_merge.specs.LogLines.{MeaningAt}
