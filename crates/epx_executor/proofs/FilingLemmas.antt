@@ -2,7 +2,8 @@
 use Rattle.std.proofs.Common.{◌≡◌, ◌⊎◌, ◌↔◌, ℕ, zero, suc, ◌+◌, ◌<◌, ◌≤◌, List, [], ◌∷◌, ◌++◌}
 use Rattle.std.proofs.Common.{length, get_or, Contains, All, refl, sym, ap, subst, inl, inr, ◌∙◌}
 use Rattle.std.proofs.Common.{arith, false}
-use Rattle.epx_types.proofs.Common.{IsDistinct, eq_by_cmp, keys_of, cases_Bool, get_or_default}
+use Rattle.epx_types.proofs.Common.{eq_by_cmp, keys_of, cases_Bool, get_or_default}
+use Rattle.std.specs.List.{IsDistinct}
 use Rattle.epx_types.proofs.Common.{Contains-from_any, list_any-from_Contains, id_cmp, Id-cases}
 use Rattle.epx_types.proofs.Common.{id_cmp_total, id_cmp-IsAntisymmetric, Contains-cons_cases}
 use Rattle.epx_types.proofs.Common.{Contains-map, Contains-from_map, Contains-nil}

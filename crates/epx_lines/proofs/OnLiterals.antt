@@ -1,4 +1,5 @@
-use Rattle.epx_types.proofs.Common.{⊤, is_utf8}
+use Rattle.epx_types.proofs.Common.{⊤}
+use Rattle.std.specs.Str.{is_utf8}
 use Rattle.std.specs.Fmt.{digits}
 use Rattle.std.specs.Str.{chars}
 use Rattle.serde_json.proofs.OnLiterals.{serde_json_on_literals}

@@ -54,3 +54,7 @@ rising_others-same self xs rising apart =
     ap (fold (insert_key id_cmp) []) (all_others self xs apart) ∙ fold_rising [] xs rising
 
 -- ---- other Ids inserted one after another
+
+-- the Ids so far, into which the Ids of a list are inserted that are not the instance itself
+abbrev pub with_others : Id → List Id → List Id → List Id
+with_others self found ids = fold (insert_key id_cmp) found (filter (is_other self) ids)
