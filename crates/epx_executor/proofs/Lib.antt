@@ -2,7 +2,7 @@ mod RunLemmas
 mod PairLemmas
 mod FilterLemmas
 mod RemainderLemmas
-mod CallLineLemmas
+pub mod CallLineLemmas
 mod OrderedLemmas
 mod PendingLemmas
 mod RefileLemmas
@@ -16,6 +16,6 @@ mod FoundOpsLemmas
 mod CommitLemmas
 mod FiledAfterLemmas
 mod HistoryLemmas
-mod PrefixLemmas
+pub mod PrefixLemmas
 mod RestartLemmas
 mod ChoiceLemmas
