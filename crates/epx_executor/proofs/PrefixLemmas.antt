@@ -21,7 +21,7 @@ use Rattle.epx_executor.proofs.HistoryLemmas.{came_later}
 
 -- ---- the parts of pairs
 
-zip_firsts : {X Y : Type 0} (xs : List X) (ys : List Y) → length ys ≡ length xs
+pub zip_firsts : {X Y : Type 0} (xs : List X) (ys : List Y) → length ys ≡ length xs
     → map (λ p. p.0) (zip xs ys) ≡ xs
 zip_firsts [] ys e = refl
 zip_firsts (x ∷ xs) [] e = absurd (omega (arith, e))
