@@ -99,7 +99,7 @@ filter_in_order p (l ∷ lines) order =
       )
     ]
 
-earlier_log : (p q : Place) → p.log ≡ 0 → q.log ≡ 1 → Earlier p q
+pub earlier_log : (p q : Place) → p.log ≡ 0 → q.log ≡ 1 → Earlier p q
 earlier_log p q e h = grind (arith, nat_tests)
 
 -- ---- the lines of a call
