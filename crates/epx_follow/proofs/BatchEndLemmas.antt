@@ -1,0 +1,282 @@
+-- The lines that a follower holds after a batch, and what the end of the batch did.
+use Rattle.std.proofs.Common.{◌≡◌, inl, inr, ◌∙◌, ℕ, List, [], ◌∷◌, ◌++◌, map, zip}
+use Rattle.std.proofs.Common.{length, Contains, Option, Some, false, not, refl}
+use Rattle.std.proofs.Common.{sym, ap, ap₂, subst, arith, append-nil, Bor, ◌+◌, ◌<◌, take, get_or}
+use Rattle.epx_types.proofs.Common.{map-append, take_more}
+use Rattle.epx_types.proofs.Common.{Contains-filter, Contains-append_cases}
+use Rattle.epx_types.proofs.Common.{Contains-from_filter, Contains-from_map, Contains-map}
+use Rattle.epx_types.proofs.Common.{Contains-nil, Earlier, Instance, Placed, is_among, not_among}
+use Rattle.epx_types.proofs.Common.{ranked_ids, Contains-head, Contains-cons}
+use Rattle.std.specs.Option.{unwrap_or}
+use Rattle.epx_committed.specs.MergedLines.{IsMerged}
+use Rattle.epx_laws.specs.ResumedRunLaws.{run_on}
+use Rattle.epx_types.proofs.remaining.RemainingLemmas.{is_among_cases}
+use Rattle.epx_types.specs.declared.id.Id.{Id}
+use Rattle.epx_types.specs.declared.place.Place.{Place}
+use Rattle.epx_types.specs.declared.reply.Reply.{Reply}
+use Rattle.epx_follow.specs.BatchEnds.{AreAtFirstLines, EndsBatch, batch_text}
+use Rattle.epx_executor.specs.Commits.{AllWait, ExecutorView, IsCommit, not_done}
+use Rattle.epx_follow.specs.Following.{FollowerView, held_lines, instances_of}
+use Rattle.epx_follow.specs.FollowerLaws.{BatchIsACommit, executor_of}
+use Rattle.epx_follow.specs.inner.CallPlaces.{held_places}
+use Rattle.epx_follow.specs.inner.FirstPlaces.{HasFirstPlaces, IsFirstPlace}
+use Rattle.epx_follow.specs.inner.HeldLines.{AreHeld, batch_lines, no_place, pending_lines}
+use Rattle.epx_follow.proofs.CallPlaceLemmas.{call_has_real, real_has_call}
+use Rattle.epx_follow.proofs.SameInstanceLemmas.{merged_alike}
+use Rattle.epx_executor.specs.CallLines.{call_lines}
+use Rattle.epx_follow.proofs.FirstPlaceLemmas.{AreForgotten}
+use Rattle.epx_follow.proofs.HeldLineLemmas.{NotedCases, first_place_by, noted_cases}
+
+-- ---- instances and places of lines
+
+pub instances-pending : (noted : Id → Option Place) (m : List Instance)
+    → instances_of (pending_lines noted m) ≡ m
+instances-pending noted [] = refl
+instances-pending noted (e ∷ m) = ap (λ es. e ∷ es) (instances-pending noted m)
+
+pub instances-batch : (places : List Place) (es : List Instance) → length places ≡ length es
+    → instances_of (batch_lines places es) ≡ es
+instances-batch [] [] same = refl
+instances-batch [] (e ∷ es) same = absurd (omega (arith, same))
+instances-batch (p ∷ places) [] same = absurd (omega (arith, same))
+instances-batch (p ∷ places) (e ∷ es) same =
+    ap (λ more. e ∷ more) (instances-batch places es (omega (arith, same)))
+
+pub places-batch : (places : List Place) (es : List Instance) → length places ≡ length es
+    → held_places (batch_lines places es) ≡ places
+places-batch [] [] same = refl
+places-batch [] (e ∷ es) same = absurd (omega (arith, same))
+places-batch (p ∷ places) [] same = absurd (omega (arith, same))
+places-batch (p ∷ places) (e ∷ es) same =
+    ap (λ more. p ∷ more) (places-batch places es (omega (arith, same)))
+
+pub batch_lines-push : (places : List Place) (es : List Instance) (p : Place) (e : Instance)
+    → length places ≡ length es → batch_lines (places ++ p ∷ []) (es ++ e ∷ [])
+    ≡ batch_lines places es ++ record { place = p; instance = e } ∷ []
+batch_lines-push [] [] p e same = refl
+batch_lines-push [] (f ∷ es) p e same = absurd (omega (arith, same))
+batch_lines-push (q ∷ places) [] p e same = absurd (omega (arith, same))
+batch_lines-push (q ∷ places) (f ∷ es) p e same =
+    ap (λ more. record { place = q; instance = f } ∷ more)
+    (batch_lines-push places es p e (omega (arith, same)))
+
+-- where one place is noted for each, other notes of the same give the same lines
+pub pending_lines-same : (before after : Id → Option Place) (m : List Instance)
+    → ((e : Instance) → Contains m e → after e.id ≡ before e.id)
+    → pending_lines after m ≡ pending_lines before m
+pending_lines-same before after [] same = refl
+pending_lines-same before after (e ∷ m) same =
+    ap₂ (λ (o : Option Place) es. record { place = unwrap_or o no_place; instance = e } ∷ es)
+    (same e (Contains-head e m))
+    (pending_lines-same before after m (λ f h. same f (Contains-cons e m f h)))
+
+-- the places of the first k of some instances, and of the next one
+pub places-next : (noted : Id → Option Place) (entries : List (Bor Instance)) (k : ℕ)
+    (d : Bor Instance) (found after : List Place) (p : Place) → k < length entries
+    → found ≡ held_places (pending_lines noted (map (λ e. e.now) (take k entries)))
+    → p ≡ unwrap_or (noted (get_or entries k d).now.id) no_place → after ≡ found ++ p ∷ []
+    → after ≡ held_places (pending_lines noted (map (λ e. e.now) (take (k + 1) entries)))
+places-next noted entries k d found after p l so_far is pushed =
+    let place = λ (e : Bor Instance). unwrap_or (noted e.now.id) no_place in
+    let next = get_or entries k d in
+    pushed ∙ ap₂ (λ (ps : List Place) q. ps ++ q ∷ []) (so_far ∙ mapped (take k entries)) is
+    ∙ sym (map-append place (take k entries) (next ∷ []))
+    ∙ ap (map place) (sym (take_more entries k d l)) ∙ sym (mapped (take (k + 1) entries))
+  where
+    mapped : (es : List (Bor Instance))
+        → held_places (pending_lines noted (map (λ e. e.now) es))
+        ≡ map (λ e. unwrap_or (noted e.now.id) no_place) es
+    mapped [] = refl
+    mapped (e ∷ es) = ap (λ ps. unwrap_or (noted e.now.id) no_place ∷ ps) (mapped es)
+
+-- ---- the end of a batch
+
+-- `noted` are the places before a commit, of whose replies the Ids are forgotten in `left`
+module _ (noted left : Id → Option Place) (before : FollowerView) (held : AreHeld noted before)
+    (after : ExecutorView) (replies : List (Id × Reply))
+    (commit : IsCommit (executor_of before) (instances_of before.batch) after replies)
+    (settled : AllWait after) (forgotten : AreForgotten noted (ranked_ids commit.order) left)
+  where
+    abbrev lines : List Placed
+    lines = held_lines before
+
+    abbrev call : List Placed
+    call = call_lines before.done (instances_of before.pending) (instances_of before.batch)
+
+    abbrev executed : List Id
+    executed = ranked_ids commit.order
+
+    -- a pending instance at its place
+    abbrev at_place : Instance → Placed
+    at_place e = record { place = unwrap_or (left e.id) no_place; instance = e }
+
+    abbrev waiting : List Placed
+    waiting = pending_lines left after.pending
+
+    merged : IsMerged lines commit.other
+    merged = merged_alike call lines
+        (real_has_call before.done before.pending before.batch held.left)
+        (call_has_real before.done before.pending before.batch held.left) commit.other
+        commit.merged
+
+    -- what waits now is of the map, and not executed
+    of_map : (e : Instance) → Contains after.pending e
+        → Contains commit.other e × (¬ Contains executed e.id)
+    of_map e h = (
+      Contains-from_filter (λ d. not (is_among after.done d.id)) commit.other e
+          (subst (λ (m : List Instance). Contains m e) commit.pending h),
+      λ there. settled.not_done e h ((commit.done e.id).1 (inr there)),
+    )
+
+    -- it is at the first line that names it
+    first_line : (e : Instance) → Contains after.pending e
+        → IsFirstPlace lines e.id (at_place e).place × Contains lines (at_place e)
+    first_line e h =
+        let there = of_map e h in
+        let l = merged.committed.given e there.0 in
+        elim (noted_cases noted lines held.first_places e.id) [
+          | inl none ↦ absurd (none.1 l.0 l.1 (ap (λ (d : Instance). d.id) l.2))
+          | inr some ↦
+              let f = some.2 in
+              let is : (at_place e).place ≡ some.0 =
+              ap (λ (o : Option Place). unwrap_or o no_place)
+              (forgotten.1 e.id there.1 ∙ some.1) in
+              let same : f.line.instance ≡ e =
+              merged.agree f.line l.0 f.within l.1
+              (f.named ∙ sym (ap (λ (d : Instance). d.id) l.2)) ∙ l.2 in
+              let line : f.line ≡ at_place e =
+              ap₂ (λ p d. record { place = p; instance = d }) (f.there ∙ sym is) same in (
+                subst (IsFirstPlace lines e.id) (sym is) f,
+                subst (Contains lines) line f.within,
+              )
+        ]
+
+    -- each line that is held now was held
+    was_held : (p : Placed) → Contains waiting p → Contains lines p
+        × ((q : Placed) → Contains lines q → q.instance.id ≡ p.instance.id
+        → ¬ Earlier q.place p.place)
+    was_held p h =
+        let e = Contains-from_map at_place after.pending p h in
+        let f = first_line e.0 e.1 in
+        subst (λ (q : Placed). Contains lines q × ((r : Placed) → Contains lines r
+        → r.instance.id ≡ q.instance.id → ¬ Earlier r.place q.place)) e.2 (f.1, f.0.first)
+
+    pub at_first_lines : AreAtFirstLines lines (not_done after.done commit.other) waiting
+    at_first_lines = record {
+      instances = instances-pending left after.pending ∙ commit.pending;
+      given = λ p h. (was_held p h).0;
+      first = λ p q h. (was_held p h).1 q;
+    }
+
+    -- an instance on a line is executed or waits
+    waits_now : (p : Placed) → Contains lines p → ¬ Contains executed p.instance.id
+        → Contains after.pending p.instance
+    waits_now p h new =
+        let left_out : ¬ Contains after.done p.instance.id =
+        λ there. elim ((commit.done p.instance.id).0 there) [
+          | inl done ↦ elim (Contains-append_cases before.pending before.batch p h) [
+            | inl old ↦ held.settled.not_done p.instance
+                (Contains-map (λ (q : Placed). q.instance) before.pending p old) done
+            | inr came ↦ held.left p came done
+          ]
+          | inr now ↦ new now
+        ] in
+        subst (λ (m : List Instance). Contains m p.instance) (sym commit.pending)
+        (Contains-filter (λ d. not (is_among after.done d.id)) commit.other p.instance
+        (merged.committed.whole p h) (ap not (not_among after.done p.instance.id left_out)))
+
+    -- what is noted for an Id
+    noted_now : (x : Id) → NotedCases left waiting x
+    noted_now x = elim (is_among_cases executed x) [
+      | inl done ↦ inl (
+        forgotten.0 x done.1,
+        λ p h named.
+            let e = Contains-from_map at_place after.pending p h in
+            (of_map e.0 e.1).1 (subst (Contains executed)
+            (sym (ap (λ (q : Placed). q.instance.id) e.2 ∙ named)) done.1),
+      )
+      | inr new ↦ elim (noted_cases noted lines held.first_places x) [
+        | inl none ↦ inl (
+          forgotten.1 x new.1 ∙ none.0,
+          λ p h. none.1 p (was_held p h).0,
+        )
+        | inr some ↦
+            let f = some.2 in
+            let is : left x ≡ Some some.0 = forgotten.1 x new.1 ∙ some.1 in
+            let waits = waits_now f.line f.within
+            (λ there. new.1 (subst (Contains executed) f.named there)) in
+            inr (
+              some.0,
+              is,
+              record {
+                line = at_place f.line.instance;
+                within = Contains-map at_place after.pending f.line.instance waits;
+                named = f.named;
+                there = ap (λ (o : Option Place). unwrap_or o no_place) (ap left f.named ∙ is);
+                first = λ p h. f.first p (was_held p h).0;
+              },
+            )
+      ]
+    ]
+
+    -- the follower after the batch
+    abbrev pub ended : FollowerView
+    ended = record {
+      done = after.done;
+      store = after.store;
+      pending = waiting;
+      batch = [];
+      next = before.next;
+      is_open = false;
+    }
+
+    pub held_ended : AreHeld left ended
+    held_ended = record {
+      settled = subst (λ (m : List Instance).
+          AllWait (record { done = after.done; store = after.store; pending = m }))
+          (sym (instances-pending left after.pending)) settled;
+      left = λ p h. absurd (Contains-nil p h);
+      in_order = λ i j d l k. absurd (omega (arith, l, k));
+      apart = λ p q h none. absurd (Contains-nil q none);
+      past = λ p h. held.past p (was_held p (subst (λ (ls : List Placed). Contains ls p)
+          (append-nil waiting) h)).0;
+      first_places = subst (HasFirstPlaces left) (sym (append-nil waiting))
+          (λ x. first_place_by left waiting x (noted_now x));
+    }
+
+    pub ends_batch : (text : List ℕ)
+        → text ≡ batch_text (length before.pending) (length waiting) replies
+        → EndsBatch before ended text
+    ends_batch text is = record {
+      other = commit.other;
+      order = commit.order;
+      merged = merged;
+      ordered = commit.ordered;
+      store = commit.store;
+      done = commit.done;
+      pending = at_first_lines;
+      closed = (refl, refl);
+      next = refl;
+      written = is ∙ ap (batch_text (length before.pending) (length waiting)) commit.replied;
+    }
+
+-- ---- the law
+
+pub batch_is_a_commit : BatchIsACommit
+batch_is_a_commit before after text left ends =
+    let call = call_lines before.done (instances_of before.pending) (instances_of before.batch) in (
+      zip (ranked_ids ends.order) (run_on before.done before.store ends.other ends.order).replies,
+      record {
+        other = ends.other;
+        order = ends.order;
+        merged = merged_alike (held_lines before) call
+            (call_has_real before.done before.pending before.batch left)
+            (real_has_call before.done before.pending before.batch left) ends.other ends.merged;
+        ordered = ends.ordered;
+        store = ends.store;
+        replied = refl;
+        done = ends.done;
+        pending = ends.pending.instances;
+      },
+      ends.written,
+    )

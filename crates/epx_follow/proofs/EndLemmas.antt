@@ -1,0 +1,107 @@
+-- The end of a batch, of a follower as it keeps its lines.
+use Rattle.std.proofs.Common.{◌≡◌, ◌⊎◌, inl, inr, ◌∙◌, ℕ, ◌≤◌, Bool, List, []}
+use Rattle.std.proofs.Common.{length, map, Option, false, sym, ap, ap₂, subst, subst₂}
+use Rattle.std.proofs.Common.{arith, not, ◌^◌}
+use Rattle.epx_types.proofs.Common.{Contents, Instance, Placed, commands_in, length-map}
+use Rattle.epx_types.proofs.Common.{length-replies, ranked_ids, remaining, is_among}
+use Rattle.epx_types.specs.declared.fault.Fault.{Fault}
+use Rattle.epx_types.specs.declared.fault.Fault.TheVariants.{Memory}
+use Rattle.epx_types.specs.declared.id.Id.{Id}
+use Rattle.epx_types.specs.declared.place.Place.{Place}
+use Rattle.epx_types.specs.declared.reply.Reply.{Reply}
+use Rattle.epx_committed.specs.MergedLines.{IsMergeFault}
+use Rattle.epx_laws.specs.ResumedRunLaws.{run_on}
+use Rattle.epx_executor.specs.CallLines.{call_lines}
+use Rattle.epx_executor.specs.Commits.{AllWait, ExecutorView, IsCommit}
+use Rattle.epx_follow.specs.BatchEnds.{EndsBatch, batch_text}
+use Rattle.epx_follow.specs.Following.{FollowerView, held_lines, instances_of}
+use Rattle.epx_follow.specs.FollowerLaws.{executor_of}
+use Rattle.epx_follow.specs.inner.CallPlaces.{at_lines, held_places}
+use Rattle.epx_follow.specs.inner.HeldLines.{AreHeld, pending_lines}
+use Rattle.epx_follow.proofs.BatchEndLemmas.{ends_batch, held_ended, instances-batch}
+use Rattle.epx_follow.proofs.BatchEndLemmas.{instances-pending, places-batch}
+use Rattle.epx_follow.proofs.CallPlaceLemmas.{fault_real}
+use Rattle.epx_follow.proofs.FirstPlaceLemmas.{AreForgotten}
+use Rattle.epx_follow.proofs.HoldLemmas.{shown}
+use Rattle.epx_executor.proofs.CallLineLemmas.{merged_are_few}
+use Rattle.epx_executor.proofs.PrefixLemmas.{zip_firsts}
+use Rattle.std.proofs.lemmas.List.Sums.{count_by-le-length, length-filter}
+
+-- the Ids of the replies of a commit are those of its order
+executed_are : (v after : ExecutorView) (came : List Instance) (replies : List (Id × Reply))
+    → (commit : IsCommit v came after replies)
+    → map (λ r. r.0) replies ≡ ranked_ids commit.order
+executed_are v after came replies commit =
+    let ids = ranked_ids commit.order in
+    let m = remaining v.done commit.other in
+    ap (map (λ (r : Id × Reply). r.0)) commit.replied
+    ∙ zip_firsts ids (run_on v.done v.store commit.other commit.order).replies
+    (length-replies (commands_in m ids) v.store ∙ length-map ids _)
+
+-- few wait after a commit
+pub few_wait : (v after : ExecutorView) (came : List Instance) (replies : List (Id × Reply))
+    → IsCommit v came after replies → length after.pending ≤ 2 ^ 20
+few_wait v after came replies commit =
+    let passes = λ (e : Instance). not (is_among after.done e.id) in
+    omega (
+      arith,
+      merged_are_few (call_lines v.done v.pending came) commit.other commit.merged,
+      length-filter passes commit.other,
+      count_by-le-length passes commit.other,
+      ap length commit.pending,
+    )
+
+module _ (done : List Id) (store : Contents) (noted : Id → Option Place)
+    (pending : List Instance) (places : List Place) (batch : List Instance) (next : Place)
+    (is_open : Bool)
+    (held : AreHeld noted (shown done store noted pending places batch next is_open))
+    (same : length places ≡ length batch) where
+  abbrev was : FollowerView
+  was = shown done store noted pending places batch next is_open
+
+  pending_are : instances_of was.pending ≡ pending
+  pending_are = instances-pending noted pending
+
+  batch_are : instances_of was.batch ≡ batch
+  batch_are = instances-batch places batch same
+
+  -- a refused call is a refusal of the lines, at their places
+  pub refused : (fault result : Fault) → IsMergeFault (call_lines done pending batch) fault
+      → (result ≡ Memory) ⊎ (result ≡ at_lines (held_places was.pending) places fault)
+      → IsMergeFault (held_lines was) result
+  refused fault result h (inl memory) = subst (IsMergeFault (held_lines was)) (sym memory) tt
+  refused fault result h (inr is) =
+      subst (IsMergeFault (held_lines was)) (sym (is
+      ∙ ap (λ (ps : List Place). at_lines (held_places was.pending) ps fault)
+      (sym (places-batch places batch same))))
+      (fault_real done was.pending was.batch held.left held.settled.rising held.apart
+      held.in_order fault
+      (subst₂ (λ (p b : List Instance). IsMergeFault (call_lines done p b) fault)
+      (sym pending_are) (sym batch_are) h))
+
+  module _ (left : Id → Option Place) (after : ExecutorView) (replies : List (Id × Reply))
+      (ids : List Id) (ids_are : ids ≡ map (λ r. r.0) replies)
+      (commit : IsCommit (record { done = done; store = store; pending = pending }) batch after
+      replies) (settled : AllWait after) (forgotten : AreForgotten noted ids left) where
+    commits : IsCommit (executor_of was) (instances_of was.batch) after replies
+    commits = subst₂ (λ (p b : List Instance).
+        IsCommit (record { done = done; store = store; pending = p }) b after replies)
+        (sym pending_are) (sym batch_are) commit
+
+    forgets : AreForgotten noted (ranked_ids commits.order) left
+    forgets = subst (λ (xs : List Id). AreForgotten noted xs left) (ids_are
+        ∙ executed_are (executor_of was) after (instances_of was.batch) replies commits) forgotten
+
+    abbrev now : FollowerView
+    now = shown after.done after.store left after.pending [] [] next false
+
+    pub held_now : AreHeld left now
+    held_now = held_ended noted left was held after replies commits settled forgets
+
+    pub ends : (text : List ℕ) → text ≡ batch_text (length pending) (length after.pending) replies
+        → EndsBatch was now text
+    ends text is = ends_batch noted left was held after replies commits settled forgets text
+        (is ∙ ap₂ (λ n m. batch_text n m replies)
+        (ap length (sym pending_are) ∙ length-map was.pending (λ (p : Placed). p.instance))
+        (ap length (sym (instances-pending left after.pending))
+        ∙ length-map (pending_lines left after.pending) (λ (p : Placed). p.instance)))

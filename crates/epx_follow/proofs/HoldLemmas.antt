@@ -1,0 +1,80 @@
+-- The lines that a follower holds, as it keeps them, after one more line of an instance.
+use Rattle.std.proofs.Common.{◌≡◌, inl, inr, ◌∙◌, Bool, true, List, [], ◌∷◌, ◌++◌, length}
+use Rattle.std.proofs.Common.{Contains, Option, refl, sym, ap₂, subst}
+use Rattle.std.specs.Option.{unwrap_or}
+use Rattle.epx_types.proofs.Common.{Contains-append_left, Contains-map, Contents, Instance, Placed}
+use Rattle.epx_types.proofs.Common.{not_among}
+use Rattle.epx_types.proofs.remaining.RemainingLemmas.{is_among_cases}
+use Rattle.epx_types.specs.declared.id.Id.{Id}
+use Rattle.epx_types.specs.declared.place.Place.{Place}
+use Rattle.epx_follow.specs.Following.{FollowerView, held_lines, joined, next_line, passed}
+use Rattle.epx_follow.specs.inner.HeldLines.{AreHeld, batch_lines, no_place, pending_lines}
+use Rattle.epx_follow.proofs.BatchEndLemmas.{batch_lines-push, pending_lines-same}
+use Rattle.epx_follow.proofs.HeldLineLemmas.{IsNoted, held_joined, noted_cases, stays_noted}
+use Rattle.epx_follow.proofs.HeldLineLemmas.{with_line}
+
+-- a line of an executed instance is passed over
+pub joined_done : (v : FollowerView) (e : Instance) → Contains v.done e.id → joined v e ≡ passed v
+joined_done v e h = elim (is_among_cases v.done e.id) [
+  | inl found ↦ let among = found.0 in rw among refl
+  | inr missed ↦ absurd (missed.1 h)
+]
+
+-- what a follower shows of what it keeps
+abbrev pub shown : List Id → Contents → (Id → Option Place) → List Instance → List Place
+    → List Instance → Place → Bool → FollowerView
+shown done store noted pending places batch next is_open = record {
+  done = done;
+  store = store;
+  pending = pending_lines noted pending;
+  batch = batch_lines places batch;
+  next = next;
+  is_open = is_open;
+}
+
+module _ (done : List Id) (store : Contents) (before after : Id → Option Place)
+    (pending : List Instance) (places more : List Place) (batch longer : List Instance)
+    (next : Place) (is_open : Bool) (e : Instance)
+    (held : AreHeld before (shown done store before pending places batch next is_open))
+    (same : length places ≡ length batch) (new : ¬ Contains done e.id)
+    (noted : IsNoted before e.id next after) (place_more : more ≡ places ++ next ∷ [])
+    (one_more : longer ≡ batch ++ e ∷ []) where
+  abbrev was : FollowerView
+  was = shown done store before pending places batch next is_open
+
+  abbrev now : FollowerView
+  now = shown done store after pending more longer (next_line next) true
+
+  -- what waits has its places still
+  still : (d : Instance) → Contains pending d → after d.id ≡ before d.id
+  still d h =
+      let line : Placed = record { place = unwrap_or (before d.id) no_place; instance = d } in
+      let held_line : Contains (held_lines was) line =
+      Contains-append_left was.pending was.batch line
+      (Contains-map (λ (i : Instance). record {
+        place = unwrap_or (before i.id) no_place;
+        instance = i;
+      }) pending d h) in
+      elim (noted_cases before (held_lines was) held.first_places d.id) [
+        | inl none ↦ absurd (none.1 line held_line refl)
+        | inr some ↦
+            stays_noted before after (held_lines was) (record { place = next; instance = e }) noted
+            held.past d.id some.0 some.1 ∙ sym some.1
+      ]
+
+  now_is : with_line before after was e noted held new ≡ now
+  now_is = ap₂ (λ waits came. record {
+    done = done;
+    store = store;
+    pending = waits;
+    batch = came;
+    next = next_line next;
+    is_open = true;
+  }) (sym (pending_lines-same before after pending still))
+      (sym (ap₂ batch_lines place_more one_more ∙ batch_lines-push places batch next e same))
+
+  pub held_now : AreHeld after now
+  held_now = subst (AreHeld after) now_is (held_joined before after was e noted held new)
+
+  pub now_joined : now ≡ joined was e
+  now_joined = sym now_is ∙ (let other = not_among done e.id new in rw other refl)

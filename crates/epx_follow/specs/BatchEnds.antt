@@ -1,0 +1,55 @@
+-- What the end of a batch does, and the text that it writes.
+use Rattle.std.specs.Prelude.{◌≡◌, ◌⊎◌, ◌↔◌, ℕ, ◌+◌, ◌-◌, false, List, [], ◌∷◌, ◌++◌, length, zip}
+use Rattle.std.specs.Prelude.{flat_map, codes, Contains}
+use Rattle.serde_json.specs.Data.{Data, string}
+use Rattle.epx_types.specs.declared.id.Id.{Id}
+use Rattle.epx_types.specs.declared.reply.Reply.{Reply}
+use Rattle.epx_types.specs.Done.{remaining}
+use Rattle.epx_types.specs.ExecutionOrder.{Ranked, ranked_ids, IsExecutionOrder}
+use Rattle.epx_types.specs.Instances.{Instance}
+use Rattle.epx_types.specs.PlacedLines.{Placed, Earlier}
+use Rattle.epx_committed.specs.MergedLines.{IsMerged}
+use Rattle.epx_laws.specs.ResumedRunLaws.{run_on}
+use Rattle.epx_report.specs.ReportLines.{data_of_number, line_of, reply_line}
+use Rattle.epx_executor.specs.Commits.{not_done}
+use Rattle.epx_follow.specs.Following.{FollowerView, instances_of, held_lines}
+
+-- so many instances came that no earlier batch had, so many are executed, and so many wait
+abbrev pub came_data : ℕ → ℕ → ℕ → List Data
+came_data came executed waiting = string (codes "came") ∷ data_of_number came
+    ∷ string (codes "executed") ∷ data_of_number executed
+    ∷ string (codes "waiting") ∷ data_of_number waiting ∷ []
+
+abbrev pub came_line : ℕ → ℕ → ℕ → List ℕ
+came_line came executed waiting = line_of (came_data came executed waiting)
+
+-- The text of a batch: its counts, and a line for each reply. What came is what is executed or
+-- waits now, without what waited before
+abbrev pub batch_text : ℕ → ℕ → List (Id × Reply) → List ℕ
+batch_text waited waiting replies =
+    came_line (length replies + waiting - waited) (length replies) waiting
+    ++ flat_map reply_line replies
+
+-- some instances, each at the place of the first of the lines that name it
+pub record AreAtFirstLines (lines : List Placed) (m : List Instance) (placed : List Placed) : Type
+    0 where
+  pub instances : instances_of placed ≡ m
+  pub given : (p : Placed) → Contains placed p → Contains lines p
+  pub first : (p q : Placed) → Contains placed p → Contains lines q
+      → q.instance.id ≡ p.instance.id → ¬ Earlier q.place p.place
+
+-- The lines that are held commit the map `other`. What is ready in its remaining map is executed
+-- in the execution order, and is done then. The others wait
+pub record EndsBatch (before after : FollowerView) (text : List ℕ) : Type 0 where
+  pub other : List Instance
+  pub order : List Ranked
+  pub merged : IsMerged (held_lines before) other
+  pub ordered : IsExecutionOrder (remaining before.done other) order
+  pub store : after.store ≡ (run_on before.done before.store other order).final
+  pub done : (x : Id) → Contains after.done x
+      ↔ (Contains before.done x ⊎ Contains (ranked_ids order) x)
+  pub pending : AreAtFirstLines (held_lines before) (not_done after.done other) after.pending
+  pub closed : (after.batch ≡ []) × (after.is_open ≡ false)
+  pub next : after.next ≡ before.next
+  pub written : text ≡ batch_text (length before.pending) (length after.pending)
+      (zip (ranked_ids order) (run_on before.done before.store other order).replies)

@@ -1,0 +1,47 @@
+-- What a follower holds between two lines.
+use Rattle.std.specs.Prelude.{◌+◌, Bool, true, List, [], ◌∷◌, ◌++◌, map, if◌then◌else◌}
+use Rattle.epx_types.specs.declared.id.Id.{Id}
+use Rattle.epx_types.specs.declared.place.Place.{Place}
+use Rattle.epx_types.specs.Contents.{Contents}
+use Rattle.epx_types.specs.Done.{is_among}
+use Rattle.epx_types.specs.Instances.{Instance}
+use Rattle.epx_types.specs.PlacedLines.{Placed}
+
+pub record FollowerView : Type 0 where
+  -- the executed instances
+  pub done : List Id
+  -- the contents of the store
+  pub store : Contents
+  -- the committed instances that wait, by rising Id, each at the place of its first line
+  pub pending : List Placed
+  -- the lines of the open batch that commit an instance, without those of executed instances
+  pub batch : List Placed
+  -- the place of the next line
+  pub next : Place
+  -- whether a line came since the last batch ended
+  pub is_open : Bool
+
+abbrev pub instances_of : List Placed → List Instance
+instances_of lines = map (λ p. p.instance) lines
+
+-- the lines of instances that are not executed
+abbrev pub held_lines : FollowerView → List Placed
+held_lines v = v.pending ++ v.batch
+
+-- the place of the line after this one
+abbrev pub next_line : Place → Place
+next_line p = record { log = p.log; line = p.line + 1 }
+
+-- a line without an instance came
+abbrev pub passed : FollowerView → FollowerView
+passed v = record v { next = next_line v.next; is_open = true }
+
+-- the batch with a line of this instance, unless the instance is executed
+abbrev pub batch_with : FollowerView → Instance → List Placed
+batch_with v e =
+    if is_among v.done e.id then v.batch
+    else v.batch ++ record { place = v.next; instance = e } ∷ []
+
+-- a line of this instance came
+abbrev pub joined : FollowerView → Instance → FollowerView
+joined v e = record v { batch = batch_with v e; next = next_line v.next; is_open = true }

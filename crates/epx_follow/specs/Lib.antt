@@ -1,0 +1,5 @@
+pub mod Following
+pub mod BatchEnds
+pub mod LinesTaken
+pub mod FollowerLaws
+pub mod inner

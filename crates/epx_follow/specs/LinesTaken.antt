@@ -1,0 +1,42 @@
+-- What a follower does with a line.
+use Rattle.std.specs.Prelude.{◌≡◌, ◌⊎◌, ℕ, Bool, true, false, List, [], Result, Ok, Err}
+use Rattle.epx_types.specs.declared.fault.Fault.{Fault}
+use Rattle.epx_types.specs.declared.fault.Fault.TheVariants.{Memory, BadLine}
+use Rattle.epx_types.specs.declared.fault.Why.{Why}
+use Rattle.epx_lines.specs.Meaning.{is_blank, meaning_of}
+use Rattle.epx_lines.specs.declared.Line.{Line}
+use Rattle.epx_lines.specs.declared.Line.TheVariants.{Blank, Entry}
+use Rattle.epx_committed.specs.MergedLines.{IsMergeFault}
+use Rattle.epx_follow.specs.Following.{FollowerView, held_lines, passed, joined}
+use Rattle.epx_follow.specs.BatchEnds.{EndsBatch}
+
+-- the batch ends here, or stays open and nothing is written
+abbrev pub EndsIf : Bool → FollowerView → FollowerView → List ℕ → Type 0
+EndsIf true before after text = EndsBatch before after text
+EndsIf false before after text = (after ≡ before) × (text ≡ [])
+
+-- A blank line ends the batch. A line of an instance joins it. With `each` every line ends one
+abbrev pub TakesAs : Bool → Bool → Result Line Why → FollowerView → FollowerView → List ℕ → Type 0
+TakesAs each true m before after text = EndsBatch (passed before) after text
+TakesAs each false (Ok Blank) before after text = EndsIf each (passed before) after text
+TakesAs each false (Ok (Entry e)) before after text = EndsIf each (joined before e) after text
+TakesAs each false (Err why) before after text = ⊥
+
+abbrev pub TakesLine : Bool → List ℕ → FollowerView → FollowerView → List ℕ → Type 0
+TakesLine each line before after text =
+    TakesAs each (is_blank line) (meaning_of line) before after text
+
+-- why the batch does not end
+abbrev pub RefusesIf : Bool → FollowerView → Fault → Type 0
+RefusesIf true v fault = IsMergeFault (held_lines v) fault
+RefusesIf false v fault = fault ≡ Memory
+
+abbrev pub RefusesAs : Bool → Bool → Result Line Why → FollowerView → Fault → Type 0
+RefusesAs each true m v fault = IsMergeFault (held_lines (passed v)) fault
+RefusesAs each false (Ok Blank) v fault = RefusesIf each (passed v) fault
+RefusesAs each false (Ok (Entry e)) v fault = (fault ≡ Memory) ⊎ RefusesIf each (joined v e) fault
+RefusesAs each false (Err why) v fault = (fault ≡ Memory) ⊎ (fault ≡ BadLine v.next why)
+
+-- why a line is refused. Out of memory says nothing about it
+abbrev pub RefusesLine : Bool → List ℕ → FollowerView → Fault → Type 0
+RefusesLine each line v fault = RefusesAs each (is_blank line) (meaning_of line) v fault

@@ -1,0 +1,24 @@
+-- The lines that a call of the executor names: those of log 0 are of the lines of pending
+-- instances, and those of log 1 for the lines of the batch.
+use Rattle.std.specs.Prelude.{◌-◌, cond, nat_eq, List, map, get_or}
+use Rattle.epx_types.specs.declared.fault.Fault.{Fault}
+use Rattle.epx_types.specs.declared.fault.Fault.TheVariants.{Disagree}
+use Rattle.epx_types.specs.declared.place.Place.{Place}
+use Rattle.epx_types.specs.PlacedLines.{Placed}
+
+abbrev pub held_places : List Placed → List Place
+held_places lines = map (λ p. p.place) lines
+
+-- the place that a named line is of, of these places of both lists
+abbrev pub place_among : List Place → List Place → Place → Place
+place_among pending batch at =
+    get_or (cond (nat_eq at.log 0) pending batch) (at.line - 1) at
+
+abbrev pub real_place : List Placed → List Placed → Place → Place
+real_place pending batch at = place_among (held_places pending) (held_places batch) at
+
+-- the fault of a call, with the places that its lines are of
+abbrev pub at_lines : List Place → List Place → Fault → Fault
+at_lines pending batch (Disagree id first second) =
+    Disagree id (place_among pending batch first) (place_among pending batch second)
+at_lines pending batch fault = fault

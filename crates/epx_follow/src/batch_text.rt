@@ -1,0 +1,67 @@
+//! The text that the end of a batch writes.
+ghost use Rattle.std.specs.Prelude.{◌≡◌, ◌<◌, ◌^◌, ◌+◌, false, length, map, zip, IfOk};
+ghost use Rattle.serde_json.specs.View.{view};
+ghost use Rattle.serde_json.specs.Written.{has_float};
+ghost use Rattle.epx_report.specs.ReportLines.{array_of};
+ghost use Rattle.epx_follow.specs.BatchEnds.{came_data, batch_text};
+
+use epx_report::{append_line, append_replies};
+use epx_types::{Id, Memory, Reply};
+use serde_json::{Value, json};
+use std::alloc::{AllocError, Global};
+
+/// The value of the first line of the text.
+fn came_value(
+    alloc: Global,
+    came: usize,
+    executed: usize,
+    waiting: usize,
+) -> Result<Value, AllocError>
+    ensures data { IfOk result (λ v. view v ≡ array_of (came_data came executed waiting)) }
+    ensures whole { IfOk result (λ v. has_float (view v) ≡ false) }
+{
+    let (came, executed, waiting) = (came as u64, executed as u64, waiting as u64);
+    json!(in alloc; ["came", came, "executed", executed, "waiting", waiting])
+}
+
+/// The instances and the replies of a list of both.
+pub(crate) fn parts_of(
+    alloc: Global,
+    executed: Vec<(Id, Reply)>,
+) -> Result<(Vec<Id>, Vec<Reply>), Memory>
+    ensures ids { IfOk result (λ v. v.0.items ≡ map (λ r. r.0) executed.items) }
+    ensures replies { IfOk result (λ v. v.1.items ≡ map (λ r. r.1) executed.items) }
+{
+    let mut ids = Vec::with_capacity(alloc, executed.len())?;
+    let mut replies = Vec::with_capacity(alloc, executed.len())?;
+    for (id, reply) in executed {
+        ids.push(id)?;
+        replies.push(reply)?;
+    }
+    Ok((ids, replies))
+}
+
+/// The text of a batch before which `waited` instances waited, and after which `waiting` do.
+pub(crate) fn batch_text(
+    alloc: Global,
+    waited: usize,
+    waiting: usize,
+    ids: &[Id],
+    replies: &[Reply],
+) -> Result<Vec<u8>, Memory>
+    requires same { length ids.now ≡ length replies.now }
+    requires few { length ids.now + waiting < 2 ^ 64 }
+    ensures { IfOk result (λ text.
+        text.items ≡ batch_text waited waiting (zip ids.now replies.now)) }
+{
+    let executed = ids.len();
+    let came = (executed + waiting).saturating_sub(waited);
+    let mut text = Vec::new(alloc);
+    append_line(
+        alloc,
+        &mut text,
+        &came_value(alloc, came, executed, waiting)?,
+    )?;
+    append_replies(alloc, &mut text, ids, replies)?;
+    Ok(text)
+}

@@ -1,0 +1,217 @@
+//! Follows a log: takes its lines one after another, and executes it batch by batch.
+ghost use Rattle.std.specs.Prelude.{◌≡◌, ◌<◌, ◌^◌, [], false, Contains, IfOk, IfErr};
+ghost use Rattle.std.specs.Prelude.{MatchResult};
+ghost use Rattle.std.specs.FinMap as contents;
+ghost use Rattle.epx_committed.specs.MergedLines.{IsMergeFault};
+ghost use Rattle.epx_follow.specs.BatchEnds.{EndsBatch};
+ghost use Rattle.epx_follow.specs.Following.{held_lines, next_line, passed, joined};
+ghost use Rattle.epx_follow.specs.FollowerLaws.{executor_of};
+ghost use Rattle.epx_follow.specs.LinesTaken.{TakesLine, RefusesLine};
+
+use crate::batch_text::{batch_text, parts_of};
+use crate::first_places::{forget_places, note_place};
+use crate::line_places::fault_at_lines;
+use epx_executor::Executor;
+use epx_executor::laws::commit_leaves_none_ready;
+use epx_lines::{Line, LineFault, LineReader, is_blank_line};
+use epx_types::{Entry, Fault, Id, Memory, Place, Plan};
+use std::alloc::Global;
+use std::collections::BTreeMap;
+use std::marker::Model;
+use std::random::RandomSource;
+use std::thread::Threads;
+
+/// What is executed of a log so far, and the lines that are held: those of instances that wait, and
+/// those of the batch that is open.
+///
+/// A batch takes time n log n in its lines and in what the executor looks at. Memory holds what
+/// waits, the store twice, and the executed instances as runs of numbers.
+#[derive(Drop)]
+pub struct Follower {
+    executor: Executor,
+    /// The place of the first line of each instance that waits or is in the open batch.
+    places: BTreeMap<Id, Place>,
+    /// The instances of the open batch that are not executed.
+    batch: Vec<Entry>,
+    /// The places of their lines.
+    batch_places: Vec<Place>,
+    next: Place,
+    is_open: bool,
+    reader: LineReader,
+}
+
+impl Model for Follower {
+    ghost use Rattle.std.specs.Prelude.{◌≡◌, length};
+    ghost use Rattle.std.specs.Coded.{codes};
+    ghost use Rattle.epx_executor.specs.Commits.{contents_code};
+    ghost use Rattle.epx_follow.specs.Following.{FollowerView};
+    ghost use Rattle.epx_follow.specs.inner.FirstPlaces.{place_in};
+    ghost use Rattle.epx_follow.specs.inner.HeldLines.{AreHeld, batch_lines, pending_lines};
+
+    ghost Value = { FollowerView };
+
+    ghost coded = { Prim.hlevel (codes, contents_code) };
+
+    ghost view = { λ f. record {
+      done = f.executor.done;
+      store = f.executor.store;
+      pending = pending_lines (place_in f.places) f.executor.pending;
+      batch = batch_lines f.batch_places.items f.batch.items;
+      next = f.next;
+      is_open = f.is_open;
+    } };
+
+    ghost invariant = { λ f. AreHeld (place_in f.places) (record {
+      done = f.executor.done;
+      store = f.executor.store;
+      pending = pending_lines (place_in f.places) f.executor.pending;
+      batch = batch_lines f.batch_places.items f.batch.items;
+      next = f.next;
+      is_open = f.is_open;
+    }) × (length f.batch_places.items ≡ length f.batch.items) };
+}
+
+impl Follower {
+    /// Nothing is executed, and line 1 of log 0 is the next.
+    pub fn new(alloc: Global) -> Follower
+        ensures { result ≡ record {
+          done = [];
+          store = contents.empty;
+          pending = [];
+          batch = [];
+          next = record { log = 0; line = 1 };
+          is_open = false;
+        } }
+    {
+        Follower {
+            executor: Executor::new(alloc),
+            places: BTreeMap::new(alloc),
+            batch: Vec::new(alloc),
+            batch_places: Vec::new(alloc),
+            next: Place { log: 0, line: 1 },
+            is_open: false,
+            reader: LineReader::new(alloc),
+        }
+    }
+
+    /// A line without an instance came.
+    fn pass_line(self) -> Follower
+        requires { self.next.line < 2 ^ 63 }
+        ensures { result ≡ passed self }
+    {
+        let mut follower = self;
+        follower.next.line += 1;
+        follower.is_open = true;
+        follower
+    }
+
+    /// A line of an instance that is not executed came.
+    fn hold_entry(self, entry: Entry) -> Result<Follower, Memory>
+        requires line { self.next.line < 2 ^ 63 }
+        requires left { ¬ Contains self.done entry.id }
+        ensures { IfOk result (λ follower. follower ≡ joined self entry) }
+    {
+        let mut follower = self;
+        let id = entry.id();
+        let place = follower.next;
+        follower.batch.push(entry)?;
+        follower.batch_places.push(place)?;
+        note_place(&mut follower.places, id, place)?;
+        follower.next.line += 1;
+        follower.is_open = true;
+        Ok(follower)
+    }
+
+    /// A line of an instance came.
+    fn join_entry(self, entry: Entry) -> Result<Follower, Memory>
+        requires { self.next.line < 2 ^ 63 }
+        ensures { IfOk result (λ follower. follower ≡ joined self entry) }
+    {
+        if self.executor.is_done(entry.id()) {
+            drop(entry);
+            return Ok(self.pass_line());
+        }
+        self.hold_entry(entry)
+    }
+
+    /// Ends the batch: executes what is ready now. Returns the text of the batch, too.
+    pub fn end_batch<R: Threads + RandomSource + Sync>(
+        self,
+        rt: &R,
+        alloc: Global,
+        plan: Plan,
+    ) -> Result<(Follower, Vec<u8>), Fault>
+        ensures { MatchResult result (λ v. EndsBatch self v.0 v.1.items)
+            (IsMergeFault (held_lines self)) }
+    {
+        let Follower {
+            mut executor,
+            mut places,
+            batch,
+            batch_places,
+            next,
+            is_open: _,
+            reader,
+        } = self;
+        let waited = executor.pending_len();
+        let executed = match executor.commit(rt, alloc, batch, plan) {
+            Ok(executed) => executed,
+            Err(fault) => {
+                return Err(fault_at_lines(alloc, &executor, &places, &batch_places, fault));
+            }
+        };
+        let (ids, replies) = parts_of(alloc, executed)?;
+        forget_places(&mut places, &ids);
+        let text = batch_text(alloc, waited, executor.pending_len(), &ids, &replies)?;
+        commit_leaves_none_ready();
+        let follower = Follower {
+            executor,
+            places,
+            batch: Vec::new(alloc),
+            batch_places: Vec::new(alloc),
+            next,
+            is_open: false,
+            reader,
+        };
+        Ok((follower, text))
+    }
+
+    /// Takes a line, without its line feed. A blank one ends the batch, and with `each` every line
+    /// does. Returns the text of a batch that ended, too.
+    pub fn take_line<R: Threads + RandomSource + Sync>(
+        self,
+        rt: &R,
+        alloc: Global,
+        line: &[u8],
+        each: bool,
+        plan: Plan,
+    ) -> Result<(Follower, Vec<u8>), Fault>
+        requires { self.next.line < 2 ^ 63 }
+        ensures taken { IfOk result (λ v. TakesLine each line.now self v.0 v.1.items) }
+        ensures counted { IfOk result (λ v. v.0.next ≡ next_line self.next) }
+        ensures refused { IfErr result (RefusesLine each line.now self) }
+    {
+        let mut follower = self;
+        if is_blank_line(line) {
+            return follower.pass_line().end_batch(rt, alloc, plan);
+        }
+        let place = follower.next;
+        let follower = match follower.reader.read(alloc, line) {
+            Ok(Line::Entry(entry)) => follower.join_entry(entry)?,
+            Ok(Line::Blank) => follower.pass_line(),
+            Err(LineFault::Memory) => return Err(Fault::Memory),
+            Err(LineFault::Bad(why)) => return Err(Fault::BadLine { place, why }),
+        };
+        if each {
+            return follower.end_batch(rt, alloc, plan);
+        }
+        Ok((follower, Vec::new(alloc)))
+    }
+
+    /// What is executed, stored and pending. The open batch is no part of it.
+    pub fn executor(&self) -> &Executor
+        ensures { result.now ≡ executor_of self.now }
+    {
+        &self.executor
+    }
+}
