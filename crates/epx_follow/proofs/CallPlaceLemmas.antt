@@ -1,4 +1,4 @@
--- What is said of the lines of a call holds of the real lines that they are of.
+-- What is said of the lines of a call holds of the lines of the log that they name.
 use Rattle.std.proofs.Common.{◌≡◌, ◌≢◌, ◌⊎◌, ◌<◌, ◌+◌, ◌-◌, get_or, ℕ, suc, Bool, true, not}
 use Rattle.std.proofs.Common.{Some, List, [], ◌∷◌, ◌++◌, slice_get, Contains, AllPairs}
 use Rattle.std.proofs.Common.{refl, sym, ap, ◌∙◌, subst, subst₂, inl, inr, arith}
@@ -32,7 +32,7 @@ id_of e = e.id
 -- ---- instances of real lines, on consecutive lines of a log
 
 module _ (log : ℕ) where
-  -- p is the line from n on that is of the line r: r has position k, and p is on line n + k
+  -- p is the line from n on that names the line r: r has position k, and p is on line n + k
   record IsLineFor (n : ℕ) (lines : List Placed) (p r : Placed) : Type 0 where
     k : ℕ
     at : slice_get lines k ≡ Some r
@@ -55,7 +55,7 @@ module _ (log : ℕ) where
     on_line = omega (arith, f.on_line);
   }
 
-  -- each of the lines is of a real one
+  -- each of the lines names a real one
   from_lines : (n : ℕ) (lines : List Placed) (p : Placed)
       → Contains (lines_from log n (instances_of lines)) p
       → (r : Placed) × IsLineFor n lines p r
@@ -72,7 +72,7 @@ module _ (log : ℕ) where
             (r.0, later_line n l lines p r.0 r.1)
       ]
 
-  -- each real line has one that is of it
+  -- each real line is named by one
   to_lines : (n : ℕ) (lines : List Placed) (r : Placed) → Contains lines r
       → (p : Placed) × Contains (lines_from log n (instances_of lines)) p × IsLineFor n lines p r
   to_lines n [] r h = absurd (Contains-nil r h)
@@ -121,23 +121,23 @@ module _ (done : List Id) (pending batch : List Placed) where
   abbrev IsLeft : Placed → Bool
   IsLeft p = not (is_among done p.instance.id)
 
-  -- p is of a line r of either list
+  -- p names a line r of either list
   abbrev IsOfEither : Placed → Placed → Type 0
   IsOfEither p r = IsLineFor 0 1 pending p r ⊎ IsLineFor 1 1 batch p r
 
-  -- the line p of the call is of the real line r
+  -- the line p of the call names the real line r
   record IsFor (p r : Placed) : Type 0 where
     within : Contains real r
     kind : IsOfEither p r
     same : r.instance ≡ p.instance
     place : r.place ≡ real_place pending batch p.place
 
-  -- log 0 is of the pending lines
+  -- log 0 names the pending lines
   pub real_place-pending : (at : Place) (k : ℕ) (r : Placed) → at.log ≡ 0 → at.line ≡ 1 + k
       → slice_get pending k ≡ Some r → real_place pending batch at ≡ r.place
   real_place-pending at k r log line h = rw log (place_at pending _ at.line k r line h)
 
-  -- log 1 is of the batch
+  -- log 1 names those of the batch
   pub real_place-batch : (at : Place) (k : ℕ) (r : Placed) → at.log ≡ 1 → at.line ≡ 1 + k
       → slice_get batch k ≡ Some r → real_place pending batch at ≡ r.place
   real_place-batch at k r log line h = rw log (place_at batch _ at.line k r line h)
@@ -158,7 +158,7 @@ module _ (done : List Id) (pending batch : List Placed) where
     place = sym (real_place-batch p.place f.k r f.in_log f.on_line f.at);
   }
 
-  -- each line of the call is of a real one
+  -- each line of the call names a real one
   real_of : (p : Placed) → Contains call p → (r : Placed) × IsFor p r
   real_of p h =
       elim (Contains-append_cases (lines_from 0 1 (instances_of pending))
@@ -171,7 +171,7 @@ module _ (done : List Id) (pending batch : List Placed) where
   -- ---- none of the batch is done
 
   module _ (left : (p : Placed) → Contains batch p → ¬ Contains done p.instance.id) where
-    -- each real line has one of the call that is of it
+    -- each real line is named by one of the call
     call_of : (r : Placed) → Contains real r → (p : Placed) × Contains call p × IsFor p r
     call_of r h =
         let old_lines = lines_from 0 1 (instances_of pending) in
@@ -205,7 +205,7 @@ module _ (done : List Id) (pending batch : List Placed) where
         (earlier : (p q : Placed) → Contains pending p → Contains batch q
         → Earlier p.place q.place)
         (in_order : AllPairs (λ p q. Earlier p.place q.place) batch) where
-      -- lines of one pending instance are of one line
+      -- lines of one pending instance name one line
       same_pending : (p q r s : Placed) → IsLineFor 0 1 pending p r → IsLineFor 0 1 pending q s
           → p.instance.id ≡ q.instance.id → r ≡ s
       same_pending p q r s a b same =

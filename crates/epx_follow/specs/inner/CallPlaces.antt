@@ -1,5 +1,5 @@
--- The lines that a call of the executor names: those of log 0 are of the lines of pending
--- instances, and those of log 1 for the lines of the batch.
+-- The lines of a call of the executor. Those of log 0 name the lines of pending instances, and
+-- those of log 1 the lines of the batch.
 use Rattle.std.specs.Prelude.{◌-◌, cond, nat_eq, List, map, get_or}
 use Rattle.epx_types.specs.declared.fault.Fault.{Fault}
 use Rattle.epx_types.specs.declared.fault.Fault.TheVariants.{Disagree}
@@ -9,7 +9,7 @@ use Rattle.epx_types.specs.PlacedLines.{Placed}
 abbrev pub held_places : List Placed → List Place
 held_places lines = map (λ p. p.place) lines
 
--- the place that a named line is of, of these places of both lists
+-- the place that a line of a call names, among the places of both lists
 abbrev pub place_among : List Place → List Place → Place → Place
 place_among pending batch at =
     get_or (cond (nat_eq at.log 0) pending batch) (at.line - 1) at
@@ -17,7 +17,7 @@ place_among pending batch at =
 abbrev pub real_place : List Placed → List Placed → Place → Place
 real_place pending batch at = place_among (held_places pending) (held_places batch) at
 
--- the fault of a call, with the places that its lines are of
+-- the fault of a call, with the places that its lines name
 abbrev pub at_lines : List Place → List Place → Fault → Fault
 at_lines pending batch (Disagree id first second) =
     Disagree id (place_among pending batch first) (place_among pending batch second)
