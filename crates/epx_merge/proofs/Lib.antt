@@ -2,7 +2,7 @@ mod ReadPieceLemmas
 mod LinePieceLemmas
 mod RedundantLineLemmas
 mod DropsCachedLemmas
-mod OnwardLemmas
+pub mod OnwardLemmas
 pub mod LogPartLemmas
 mod LedgerNoteLemmas
 mod LineBatchLemmas
