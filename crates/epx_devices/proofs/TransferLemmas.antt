@@ -61,7 +61,7 @@ module _ {S : Type 0} (D : SourceModel S) where
       (before.0, AreReads-append r.next now steps next before.1 read)
 
   -- one more read returned a part of the bytes
-  delivered-then : (first now later : S) (bytes part : List ℕ) (room : ℕ)
+  pub delivered-then : (first now later : S) (bytes part : List ℕ) (room : ℕ)
       → Delivers D first now bytes → D.reads now room part later
       → Delivers D first later (bytes ++ part)
   delivered-then first now later bytes part room sofar read =
