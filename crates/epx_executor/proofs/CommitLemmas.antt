@@ -1,8 +1,10 @@
 -- What a commit comes to.
 use Rattle.std.proofs.Common.{◌≡◌, ◌⊎◌, ◌↔◌, ◌≤◌, ◌^◌, ℕ, zero, suc, List, [], ◌∷◌, map, zip}
 use Rattle.std.proofs.Common.{length, arith, Contains, slice_get, Option, None, Some, refl, sym, ap}
-use Rattle.std.proofs.Common.{◌∙◌, subst, inl, inr}
+use Rattle.std.proofs.Common.{◌∙◌, not, subst, inl, inr}
+use Rattle.std.proofs.lemmas.List.Sums.{count_by-le-length, length-filter}
 use Rattle.epx_types.proofs.Common.{length-map, ids_of, instance_of, ops_or_empty, Contents}
+use Rattle.epx_types.proofs.Common.{is_among, max_instances}
 use Rattle.epx_types.proofs.Common.{execute, remaining, Ranked, ranked_ids, IsExecutionOrder}
 use Rattle.epx_types.proofs.Common.{IsRising, Instance, IsReady, HasRemaining, Waiting}
 use Rattle.epx_types.proofs.Common.{IsRising-same, IsExecutionOrder-IsLawful}
@@ -129,6 +131,18 @@ module _ (done : List Id) (c : Contents) (pending came : List Instance) (choice 
   settled_after_batch v is also =
       settled_after done now batch.m order v batch.merged.committed.rising batch.ordered
       batch.done_now is also
+
+  pub few_after_batch : (left : List Instance) → left ≡ not_done now batch.m
+      → length left ≤ max_instances
+  few_after_batch left is =
+      let stays = λ (e : Instance). not (is_among now e.id) in
+      omega (
+        arith,
+        merged_are_few (call_lines done pending came) batch.m batch.merged,
+        length-filter stays batch.m,
+        count_by-le-length stays batch.m,
+        ap length is,
+      )
 
   -- an entry of a pending Id is the pending one
   pub agree_with_pending : (p e : Instance) → Contains pending p → Contains entries e

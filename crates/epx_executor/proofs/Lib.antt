@@ -5,6 +5,7 @@ mod RemainderLemmas
 pub mod CallLineLemmas
 mod OrderedLemmas
 mod PendingLemmas
+mod PendingMapLemmas
 mod RefileLemmas
 mod PartLemmas
 mod PartLineLemmas

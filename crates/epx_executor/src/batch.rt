@@ -1,26 +1,28 @@
-//! What a call of `commit` makes ready.
-ghost use Rattle.std.specs.Prelude.{◌≡◌, ◌++◌, filter, map, slice_get, Contains, IfOk, OnOk};
-ghost use Rattle.std.specs.Prelude.{List, MatchResult, IfSome};
+//! What a call of `commit` makes ready, and what waits.
+ghost use Rattle.std.specs.Prelude.{◌≡◌, ◌≤◌, ◌++◌, filter, length, map, slice_get, Contains};
+ghost use Rattle.std.specs.Prelude.{List, MatchResult, IfOk, IfSome, OnOk};
 ghost use Rattle.epx_types.specs.declared.id.Id.{Id};
 ghost use Rattle.epx_types.specs.CommittedMap.{ids_of, ops_or_empty, commands_in};
 ghost use Rattle.epx_types.specs.Done.{is_among, remaining};
 ghost use Rattle.epx_types.specs.ExecutionOrder.{IsExecutionOrder};
 ghost use Rattle.epx_types.specs.Ids.{IsRising};
 ghost use Rattle.epx_types.specs.Instances.{Instance};
+ghost use Rattle.epx_types.specs.Limits.{max_instances};
 ghost use Rattle.epx_committed.specs.MergedLines.{IsMerged, IsMergeFault};
 ghost use Rattle.epx_types.specs.WaitingLists.{IsWaitingList};
+ghost use Rattle.epx_graph.specs.GraphOf.{IsGraphOf};
 ghost use Rattle.epx_executor.specs.CallLines.{call_lines, lines_from};
 ghost use Rattle.epx_executor.specs.inner.Batches.{AreDoneDeps, IsMapBatch, IsCallBatch};
 ghost use Rattle.epx_executor.specs.inner.Choices.{IsChoice};
 ghost use Rattle.epx_executor.specs.inner.Filings.{Filings};
 
-use crate::call_lines::{is_left, merge_call, pending_lines};
+use crate::call_lines::{is_left, merge_call, merge_pending, pending_lines};
 use crate::choose::{Choice, looked_at};
 use crate::done_runs::DoneRuns;
 use crate::pending::Pending;
 use epx_committed::{Merged, PlacedEntry};
 use epx_components::OrderList;
-use epx_graph::{Waiter, build_after, waiting};
+use epx_graph::{Graph, Waiter, build_after, waiting};
 use epx_ranking::order;
 use epx_types::id_list::sort_unique;
 use epx_types::{Entry, Fault, Id, Memory, Plan};
@@ -66,6 +68,43 @@ fn positions_of(alloc: Global, merged: &Merged, ids: &[Id]) -> Result<Vec<(Id, u
     Ok(positions)
 }
 
+/// The graph of the remaining map. No instance of the map is done.
+fn graph_remaining<R: Threads + Sync>(
+    rt: &R,
+    alloc: Global,
+    done: &DoneRuns,
+    merged: &Merged,
+    plan: Plan,
+) -> Result<Graph, Memory>
+    requires { (x : Id) → Contains (ids_of merged.now) x → ¬ Contains done.now x }
+    ensures { IfOk result (λ graph. IsGraphOf (remaining done.now merged.now) graph) }
+{
+    // Of the done instances, only those that the map depends on matter. So the cost does not grow
+    // with all that was ever executed.
+    let deps = done_deps(alloc, done, merged)?;
+    build_after(rt, alloc, merged, &deps, plan)
+}
+
+/// The waiting list of the pending instances. It makes no execution order.
+pub(crate) fn waiting_pending<R: Threads + RandomSource + Sync>(
+    rt: &R,
+    alloc: Global,
+    done: &DoneRuns,
+    pending: &Pending,
+    plan: Plan,
+) -> Result<Vec<Waiter>, Memory>
+    requires rising { IsRising (ids_of pending.now) }
+    requires left { (e : Instance) → Contains pending.now e → ¬ Contains done.now e.id }
+    requires few { length pending.now ≤ max_instances }
+    ensures { IfOk result
+        (λ waiters. IsWaitingList (remaining done.now pending.now) waiters.items) }
+{
+    let entries = pending.entries(alloc)?;
+    let merged = merge_pending(rt, alloc, &entries)?;
+    let graph = graph_remaining(rt, alloc, done, &merged, plan)?;
+    waiting(alloc, &graph)
+}
+
 /// The execution order of the remaining map, and what waits in it. No instance of the map is done.
 fn order_remaining<R: Threads + Sync>(
     rt: &R,
@@ -80,10 +119,7 @@ fn order_remaining<R: Threads + Sync>(
     ensures waiting { IfOk result
         (λ v. IsWaitingList (remaining done.now merged.now) v.1.items) }
 {
-    // Of the done instances, only those that the map depends on matter. So the cost does not grow
-    // with all that was ever executed.
-    let deps = done_deps(alloc, done, merged)?;
-    let graph = build_after(rt, alloc, merged, &deps, plan)?;
+    let graph = graph_remaining(rt, alloc, done, merged, plan)?;
     let waiters = waiting(alloc, &graph)?;
     Ok((order(rt, alloc, merged, &graph)?, waiters))
 }

@@ -1,7 +1,11 @@
 //! The map that the lines of a call commit.
-ghost use Rattle.std.specs.Prelude.{◌≡◌, ◌∷◌, [], ◌++◌, List, map, not, IfOk, OnOk, MatchResult};
-ghost use Rattle.epx_types.specs.Instances.{Instance};
+ghost use Rattle.std.specs.Prelude.{◌≡◌, ◌≤◌, ◌∷◌, [], ◌++◌, List, length, map, not, IfOk, OnOk};
+ghost use Rattle.std.specs.Prelude.{MatchResult};
+ghost use Rattle.epx_types.specs.CommittedMap.{ids_of};
 ghost use Rattle.epx_types.specs.Done.{is_among};
+ghost use Rattle.epx_types.specs.Ids.{IsRising};
+ghost use Rattle.epx_types.specs.Instances.{Instance};
+ghost use Rattle.epx_types.specs.Limits.{max_instances};
 ghost use Rattle.epx_committed.specs.MergedLines.{IsMerged, IsMergeFault};
 ghost use Rattle.epx_executor.specs.CallLines.{call_lines, lines_from, lines_not_done};
 
@@ -82,4 +86,24 @@ pub(crate) fn merge_call<R: RandomSource>(
     ledger.note(old)?;
     ledger.note(new)?;
     ledger.close()
+}
+
+/// The map of pending entries, which come by rising Id. A map of so few is never refused.
+pub(crate) fn merge_pending<R: RandomSource>(
+    rt: &R,
+    alloc: Global,
+    entries: &[&Entry],
+) -> Result<Merged, Memory>
+    requires rising { IsRising (ids_of (map (λ e. e.now) entries.now)) }
+    requires few { length entries.now ≤ max_instances }
+    ensures { IfOk result (λ merged. merged ≡ map (λ e. e.now) entries.now) }
+{
+    let lines = pending_lines(alloc, entries)?;
+    match merge_call(rt, alloc, &DoneRuns::new(alloc), lines, Vec::new(alloc)) {
+        Ok(merged) => Ok(merged),
+        Err(fault) => match fault {
+            Fault::Memory => Err(Memory),
+            _ => unreachable!(),
+        },
+    }
 }

@@ -2,17 +2,20 @@
 ghost use Rattle.std.specs.Prelude.{◌≡◌, ◌↔◌, [], Contains, length, map};
 ghost use Rattle.std.specs.Prelude.{IsTrue, IfOk, IfErr, IfSome, OnErr};
 ghost use Rattle.std.specs.FinMap as contents;
+ghost use Rattle.epx_types.specs.Done.{remaining};
+ghost use Rattle.epx_types.specs.WaitingLists.{IsWaitingList};
 ghost use Rattle.epx_committed.specs.MergedLines.{IsMergeFault};
 ghost use Rattle.epx_executor.specs.CallLines.{call_lines};
 ghost use Rattle.epx_executor.specs.Commits.{IsCommit, AllWait};
 
-use crate::batch::{Batch, next_batch};
+use crate::batch::{Batch, next_batch, waiting_pending};
 use crate::blockers::Blockers;
 use crate::choose::choose;
 use crate::done_runs::DoneRuns;
 use crate::execute_all::{commands_at, execute_all, store_after};
 use crate::pending::Pending;
 use crate::refile::refile;
+use epx_graph::Waiter;
 use epx_txn::Store;
 use epx_types::{Entry, Fault, Id, Memory, Plan, Reply};
 use std::alloc::Global;
@@ -43,9 +46,10 @@ pub struct Executor {
 }
 
 impl Model for Executor {
-    ghost use Rattle.std.specs.Prelude.{◌≡◌, IfSome};
+    ghost use Rattle.std.specs.Prelude.{◌≡◌, ◌≤◌, length, IfSome};
     ghost use Rattle.std.specs.Coded.{codes};
     ghost use Rattle.epx_types.specs.Done.{remaining};
+    ghost use Rattle.epx_types.specs.Limits.{max_instances};
     ghost use Rattle.epx_executor.specs.Commits.{contents_code, ExecutorView, AllWait};
     ghost use Rattle.epx_executor.specs.inner.Choices.{AreFiledIn};
 
@@ -64,7 +68,8 @@ impl Model for Executor {
       store = e.store;
       pending = e.pending;
     }) × IfSome e.spare (λ s. s ≡ e.store)
-        × IfSome e.blockers (AreFiledIn (remaining e.done e.pending)) };
+        × IfSome e.blockers (AreFiledIn (remaining e.done e.pending))
+        × (length e.pending ≤ max_instances) };
 }
 
 /// Takes the second store, or copies the first if there is none.
@@ -149,6 +154,23 @@ impl Executor {
         ensures settled { AllWait self.now }
     {
         self.pending.entries(alloc)
+    }
+
+    /// The waiting list of the pending instances, by rising Id: each with the least missing
+    /// instance that it reaches. An instance is missing if it is neither executed nor pending.
+    ///
+    /// Takes time n log n in the pending instances and their dependencies, and copies the entries.
+    /// `Memory` is the only error.
+    pub fn waiting<R: Threads + RandomSource + Sync>(
+        &self,
+        rt: &R,
+        alloc: Global,
+        plan: Plan,
+    ) -> Result<Vec<Waiter>, Memory>
+        ensures { IfOk result (λ waiters.
+            IsWaitingList (remaining self.now.done self.now.pending) waiters.items) }
+    {
+        waiting_pending(rt, alloc, &self.done, &self.pending, plan)
     }
 
     /// An executor that goes on where another one stopped, from what that one holds: its done

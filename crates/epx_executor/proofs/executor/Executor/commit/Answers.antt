@@ -11,8 +11,9 @@ use Rattle.epx_executor.specs.CallLines.{call_lines}
 use Rattle.epx_executor.specs.Commits.{ExecutorView, IsCommit, not_done}
 use Rattle.epx_executor.specs.inner.Choices.{AreFiledIn, IsRefiled}
 use Rattle.epx_executor.specs.inner.Filings.{Filings}
-use Rattle.epx_executor.proofs.CommitLemmas.{agree_with_pending, few_in_batch, IsCommit-batch}
-use Rattle.epx_executor.proofs.CommitLemmas.{left_after, length_of_batch, settled_after_batch}
+use Rattle.epx_executor.proofs.CommitLemmas.{agree_with_pending, few_after_batch, few_in_batch}
+use Rattle.epx_executor.proofs.CommitLemmas.{IsCommit-batch, left_after, length_of_batch}
+use Rattle.epx_executor.proofs.CommitLemmas.{settled_after_batch}
 use Rattle.epx_executor.proofs.FiledAfterLemmas.{IsChoiceOf, filed_after}
 use Rattle.epx_executor.proofs.RemainderLemmas.{remaining-not_done}
 use Rattle.epx_executor.proofs.executor.Executor.commit.Given as given
@@ -124,7 +125,12 @@ filed g c =
     refiled))))
 
 pub invariant_of-self : goal.invariant_of-self
-invariant_of-self g c = (c.self.invariant.0, c.in_err-spare.ensures.left, c.self.invariant.2)
+invariant_of-self g c = (
+  c.self.invariant.0,
+  c.in_err-spare.ensures.left,
+  c.self.invariant.2,
+  c.self.invariant.3,
+)
 
 pub returns-clause-ok : goal.returns-clause-ok
 returns-clause-ok g c =
@@ -168,4 +174,7 @@ invariant_of-self-2 g c =
           c.in_ok-batch.ensures _ refl (left g c),
       IfSome_then c.store_after.result c.store_after.ensures (λ s is. is ∙ alike),
       filed g c,
+      few_after_batch inside.done inside.store inside.pending c.args.came.items
+          c.in_ok-choice.choice b.entries.items b.order b.positions.items b.waiters.items b.done
+          c.in_ok-batch.ensures c.update.new.self (left g c),
     )
