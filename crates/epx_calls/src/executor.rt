@@ -1,4 +1,8 @@
 //! Tests of the executor: what each commit executes, how it refuses, and how it goes on.
+//!
+//! The proof of an early return covers the drop of each value that is owned there. That is long for
+//! an executor, an entry or a list of replies, so these are borrowed, or passed on at once.
+use crate::effects::{Wanted, expect_reply};
 use crate::fixtures::{id, key, plan};
 use epx_executor::{DoneRuns, Executor};
 use epx_types::{Entry, Fault, Id, Op, Place, Reply};
@@ -8,184 +12,197 @@ use std::random::RandomSource;
 use std::test::Fail;
 use std::thread::Threads;
 
-/// An instance that adds one to the key `k`, after another one.
-fn add_one(
-    rt: &impl Abort,
+/// The Id, sequence number and dependencies of an instance that is committed, the instances that
+/// the commit executes, and how many are pending after it.
+type Step<'a> = (Id, u64, &'a [Id], &'a [Id], usize);
+
+/// An executor, and what its calls take.
+#[derive(Drop)]
+struct Fixture<'a, R> {
+    rt: &'a R,
     alloc: Global,
-    of: Id,
-    seq: u64,
-    dependency: Id,
-) -> Result<Entry, Fail> {
-    let deps = vec![in alloc; dependency]?;
-    let key = key(rt, alloc, "k")?;
-    let mut ops = Vec::new(alloc);
-    ops.push(Op::Add { key, amount: 1 })?;
-    Ok(Entry::new(of, seq, deps, ops).ok_or("an entry")?)
+    executor: Executor,
+    /// Whether a commit that meets a fault is tried again.
+    tries_again: bool,
 }
 
-/// The first instance of replica 0, without dependencies or operations.
-fn first(alloc: Global) -> Result<Entry, Fail> {
-    let entry = Entry::new(id(0, 0), 1, Vec::new(alloc), Vec::new(alloc));
-    Ok(entry.ok_or("an entry")?)
-}
-
-/// Commits one entry.
-fn commit<R: Abort + Threads + RandomSource + Sync>(
-    rt: &R,
-    alloc: Global,
-    executor: &mut Executor,
-    entry: Entry,
-) -> Result<Vec<(Id, Reply)>, Fail> {
-    let came = vec![in alloc; entry]?;
-    match executor.commit(rt, alloc, came, plan(rt)) {
-        Ok(executed) => Ok(executed),
-        Err(Fault::Memory) => Err(Fail::from("out of memory")),
-        Err(_) => Err(Fail::from("the entry is refused")),
+impl<'a, R: Abort + Threads + RandomSource + Sync> Fixture<'a, R> {
+    fn new(rt: &'a R, alloc: Global) -> Self {
+        Fixture {
+            rt,
+            alloc,
+            executor: Executor::new(alloc),
+            tries_again: false,
+        }
     }
-}
 
-/// Whether instances were executed in this order.
-fn were_executed(executed: &[(Id, Reply)], wanted: &[Id]) -> bool {
-    executed
-        .iter()
-        .map(|pair| pair.0)
-        .eq(wanted.iter().copied())
+    /// An instance. If it has dependencies, it adds one to the key `k`.
+    fn entry(&self, of: Id, seq: u64, deps: &[Id]) -> Result<Entry, Fail> {
+        let mut ops = Vec::new(self.alloc);
+        if !deps.is_empty() {
+            let key = key(self.rt, self.alloc, "k")?;
+            ops.push(Op::Add { key, amount: 1 })?;
+        }
+        let deps = Vec::from_slice(self.alloc, deps)?;
+        Ok(Entry::new(of, seq, deps, ops).expect(self.rt, "an entry"))
+    }
+
+    fn commit_all(&mut self, came: Vec<Entry>) -> Result<Vec<(Id, Reply)>, Fault> {
+        self.executor
+            .commit(self.rt, self.alloc, came, plan(self.rt))
+    }
+
+    /// Commits one entry. If that is tried again, a fault must leave the executor as it was.
+    fn commit(&mut self, entry: Entry) -> Result<Vec<(Id, Reply)>, Fail> {
+        let (of, again) = (entry.id(), entry.copy(self.alloc)?);
+        let (pending, keys) = (self.executor.pending_len(), self.executor.store().len());
+        match self.commit_all(vec![in self.alloc; entry]?) {
+            Err(_) if self.tries_again => {
+                assert!(self.rt; self.executor.pending_len() == pending);
+                assert!(self.rt; self.executor.store().len() == keys && !self.executor.is_done(of));
+                Ok(self.commit_all(vec![in self.alloc; again]?)?)
+            }
+            committed => Ok(committed?),
+        }
+    }
+
+    /// Expects that these instances were executed in this order. None of them reads.
+    fn expect(&self, executed: &[(Id, Reply)], wanted: &[Id]) {
+        assert!(self.rt; executed.len() == wanted.len());
+        for (pair, of) in executed.iter().zip(wanted) {
+            assert!(self.rt; pair.0 == *of && self.executor.is_done(*of));
+            expect_reply(self.rt, &pair.1, Wanted::Values(&[]));
+        }
+    }
+
+    /// Takes steps, and expects that the store then has this number under `k`, and nothing else.
+    fn run(&mut self, steps: &[Step], count: Option<i64>) -> Result<(), Fail> {
+        for (of, seq, deps, wanted, pending) in steps {
+            let entry = self.entry(*of, *seq, deps)?;
+            let executed = self.commit(entry)?;
+            self.expect(&executed, wanted);
+            assert!(self.rt; self.executor.pending_len() == *pending, "after {of}");
+            let waiters = self.executor.waiting(self.rt, self.alloc, plan(self.rt))?;
+            assert!(self.rt; waiters.len() == *pending, "after {of}");
+        }
+        let store = self.executor.store();
+        assert!(self.rt; store.get(&key(self.rt, self.alloc, "k")?) == count);
+        assert!(self.rt; store.len() == count.is_some() as u128);
+        Ok(())
+    }
+
+    fn disagree(&mut self) -> Result<(), Fail> {
+        self.run(&[(id(0, 1), 2, &[id(0, 0)], &[], 1)], None)?;
+        let other = self.entry(id(0, 1), 3, &[id(0, 0)])?;
+        let came = vec![in self.alloc; self.entry(id(0, 0), 1, &[])?, other]?;
+        let fault = self.commit_all(came).err();
+        assert!(self.rt; !self.executor.is_done(id(0, 0)) && self.executor.pending_len() == 1);
+        let wanted = Fault::Disagree {
+            id: id(0, 1),
+            first: Place { log: 0, line: 1 },
+            second: Place { log: 1, line: 2 },
+        };
+        assert!(self.rt; fault == Some(wanted) || fault == Some(Fault::Memory));
+        Ok(())
+    }
+
+    /// An executor that goes on from what this one holds. It executes nothing yet.
+    fn successor(&self, pending: Vec<Entry>) -> Result<Self, Fail> {
+        let done = DoneRuns::from_runs(self.alloc, self.executor.done().runs())?;
+        let store = self.executor.store().copy()?;
+        let after = Executor::after(self.rt, self.alloc, done, store, pending, plan(self.rt));
+        let (executor, replies) = after?;
+        assert!(self.rt; replies.is_empty() && executor.pending_len() == 1);
+        assert!(self.rt; executor.is_done(id(0, 0)));
+        Ok(Fixture { executor, ..*self })
+    }
+
+    fn go_on(&mut self) -> Result<(), Fail> {
+        self.run(&[(id(0, 0), 1, &[], &[id(0, 0)], 0)], None)?;
+        self.run(&[(id(0, 2), 3, &[id(0, 1)], &[], 1)], None)?;
+        let pending = vec![in self.alloc; self.entry(id(0, 2), 3, &[id(0, 1)])?]?;
+        let mut other = self.successor(pending)?;
+        let next: [Step; 1] = [(id(0, 1), 2, &[id(0, 0)], &[id(0, 1), id(0, 2)], 0)];
+        self.run(&next, Some(2))?;
+        other.run(&next, Some(2))
+    }
 }
 
 #[test]
 fn an_instance_is_executed_once_what_it_reaches_has_come(rt: HostRuntime) -> Result<(), Fail> {
-    let mut executor = Executor::new(rt.alloc());
-    let later = add_one(&rt, rt.alloc(), id(0, 1), 2, id(0, 0))?;
-    let executed = commit(&rt, rt.alloc(), &mut executor, later)?;
-    assert!(rt; executed.is_empty() && executor.pending_len() == 1);
-    let executed = commit(&rt, rt.alloc(), &mut executor, first(rt.alloc())?)?;
-    assert!(rt; were_executed(&executed, &[id(0, 0), id(0, 1)]));
-    assert!(rt; executor.pending_len() == 0 && executor.is_done(id(0, 1)));
-    assert!(rt; executor.store().get(&key(&rt, rt.alloc(), "k")?) == Some(1));
-    Ok(())
+    let steps: [Step; 2] = [
+        (id(0, 1), 2, &[id(0, 0)], &[], 1),
+        (id(0, 0), 1, &[], &[id(0, 0), id(0, 1)], 0),
+    ];
+    Fixture::new(&rt, rt.alloc()).run(&steps, Some(1))
 }
 
 #[test]
 fn a_disagreement_names_the_pending_entry_and_the_one_that_came(
     rt: HostRuntime,
 ) -> Result<(), Fail> {
-    let mut executor = Executor::new(rt.alloc());
-    let pending = add_one(&rt, rt.alloc(), id(0, 1), 2, id(0, 0))?;
-    let _none = commit(&rt, rt.alloc(), &mut executor, pending)?;
-    let mut came = vec![in rt.alloc(); first(rt.alloc())?]?;
-    came.push(add_one(&rt, rt.alloc(), id(0, 1), 3, id(0, 0))?)?;
-    let refused = executor.commit(&rt, rt.alloc(), came, plan(&rt));
-    assert!(rt; refused.is_err() && !executor.is_done(id(0, 0)) && executor.pending_len() == 1);
-    if let Err(fault) = refused {
-        let first = Place { log: 0, line: 1 };
-        let second = Place { log: 1, line: 2 };
-        let wanted = Fault::Disagree {
-            id: id(0, 1),
-            first,
-            second,
-        };
-        assert!(rt; fault == wanted || fault == Fault::Memory);
-    }
-    Ok(())
+    Fixture::new(&rt, rt.alloc()).disagree()
 }
 
 #[test]
 fn what_is_done_is_passed_over(rt: HostRuntime) -> Result<(), Fail> {
-    let mut executor = Executor::new(rt.alloc());
-    let _first = commit(&rt, rt.alloc(), &mut executor, first(rt.alloc())?)?;
-    let other = add_one(&rt, rt.alloc(), id(0, 0), 7, id(9, 9))?;
-    let executed = commit(&rt, rt.alloc(), &mut executor, other)?;
-    assert!(rt; executed.is_empty() && executor.pending_len() == 0);
-    Ok(())
+    let steps: [Step; 2] = [
+        (id(0, 0), 1, &[], &[id(0, 0)], 0),
+        (id(0, 0), 7, &[id(9, 9)], &[], 0),
+    ];
+    Fixture::new(&rt, rt.alloc()).run(&steps, None)
 }
 
 // Under `tools/refusals` the first call meets the refused allocation, and the second does not.
 #[test]
 fn a_commit_that_ran_out_of_memory_can_be_tried_again(rt: HostRuntime) -> Result<(), Fail> {
-    let mut executor = Executor::new(rt.alloc());
-    let _first = commit(&rt, rt.alloc(), &mut executor, first(rt.alloc())?)?;
-    let entry = add_one(&rt, rt.alloc(), id(0, 1), 2, id(0, 0))?;
-    let again = entry.copy(rt.alloc())?;
-    let came = vec![in rt.alloc(); entry]?;
-    if executor.commit(&rt, rt.alloc(), came, plan(&rt)).is_err() {
-        assert!(rt; !executor.is_done(id(0, 1)) && executor.store().len() == 0);
-        let executed = commit(&rt, rt.alloc(), &mut executor, again)?;
-        assert!(rt; were_executed(&executed, &[id(0, 1)]));
-    }
-    assert!(rt; executor.store().get(&key(&rt, rt.alloc(), "k")?) == Some(1));
-    Ok(())
+    let steps: [Step; 2] = [
+        (id(0, 0), 1, &[], &[id(0, 0)], 0),
+        (id(0, 1), 2, &[id(0, 0)], &[id(0, 1)], 0),
+    ];
+    let mut fixture = Fixture::new(&rt, rt.alloc());
+    fixture.tries_again = true;
+    fixture.run(&steps, Some(1))
 }
 
 // Under `tools/refusals` one of these calls meets the refused allocation: what waits stays, and is
 // executed once what it needs has come.
 #[test]
 fn what_waits_stays_where_a_commit_runs_out_of_memory(rt: HostRuntime) -> Result<(), Fail> {
-    let mut executor = Executor::new(rt.alloc());
-    for number in 1..4 {
-        let entry = add_one(&rt, rt.alloc(), id(0, number), number, id(0, number - 1))?;
-        let again = entry.copy(rt.alloc())?;
-        let came = vec![in rt.alloc(); entry]?;
-        let waiting = executor.pending_len();
-        if executor.commit(&rt, rt.alloc(), came, plan(&rt)).is_err() {
-            assert!(rt; executor.pending_len() == waiting);
-            let _none = commit(&rt, rt.alloc(), &mut executor, again)?;
-        }
-    }
-    assert!(rt; executor.pending_len() == 3);
-    let executed = commit(&rt, rt.alloc(), &mut executor, first(rt.alloc())?)?;
-    assert!(rt; were_executed(&executed, &[id(0, 0), id(0, 1), id(0, 2), id(0, 3)]));
-    assert!(rt; executor.pending_len() == 0 && executor.store().len() == 1);
-    Ok(())
+    let all = [id(0, 0), id(0, 1), id(0, 2), id(0, 3)];
+    let steps: [Step; 4] = [
+        (id(0, 1), 1, &[id(0, 0)], &[], 1),
+        (id(0, 2), 2, &[id(0, 1)], &[], 2),
+        (id(0, 3), 3, &[id(0, 2)], &[], 3),
+        (id(0, 0), 1, &[], &all, 0),
+    ];
+    let mut fixture = Fixture::new(&rt, rt.alloc());
+    fixture.tries_again = true;
+    fixture.run(&steps, Some(3))
 }
 
 #[test]
 fn what_waits_for_the_second_of_two_is_looked_at_again(rt: HostRuntime) -> Result<(), Fail> {
-    let mut executor = Executor::new(rt.alloc());
-    let mut deps = vec![in rt.alloc(); id(0, 0)]?;
-    deps.push(id(1, 0))?;
-    let both = Entry::new(id(2, 0), 3, deps, Vec::new(rt.alloc())).ok_or("an entry")?;
-    let _none = commit(&rt, rt.alloc(), &mut executor, both)?;
-    let behind = add_one(&rt, rt.alloc(), id(2, 1), 4, id(2, 0))?;
-    let _none = commit(&rt, rt.alloc(), &mut executor, behind)?;
-    let executed = commit(&rt, rt.alloc(), &mut executor, first(rt.alloc())?)?;
-    assert!(rt; were_executed(&executed, &[id(0, 0)]) && executor.pending_len() == 2);
-    let last = Entry::new(id(1, 0), 1, Vec::new(rt.alloc()), Vec::new(rt.alloc()));
-    let executed = commit(&rt, rt.alloc(), &mut executor, last.ok_or("an entry")?)?;
-    assert!(rt; were_executed(&executed, &[id(1, 0), id(2, 0), id(2, 1)]));
-    Ok(())
+    let steps: [Step; 4] = [
+        (id(2, 0), 3, &[id(0, 0), id(1, 0)], &[], 1),
+        (id(2, 1), 4, &[id(2, 0)], &[], 2),
+        (id(0, 0), 1, &[], &[id(0, 0)], 2),
+        (id(1, 0), 1, &[], &[id(1, 0), id(2, 0), id(2, 1)], 0),
+    ];
+    Fixture::new(&rt, rt.alloc()).run(&steps, Some(2))
 }
 
 #[test]
 fn a_cycle_that_comes_one_by_one_is_executed_as_one(rt: HostRuntime) -> Result<(), Fail> {
-    let mut executor = Executor::new(rt.alloc());
-    for number in 0..3 {
-        let next = if number == 2 { 0 } else { number + 1 };
-        let entry = add_one(&rt, rt.alloc(), id(0, number), number + 1, id(0, next))?;
-        let executed = commit(&rt, rt.alloc(), &mut executor, entry)?;
-        assert!(rt; number == 2 || executed.is_empty());
-        assert!(rt; number < 2 || were_executed(&executed, &[id(0, 0), id(0, 1), id(0, 2)]));
-    }
-    Ok(())
+    let steps: [Step; 3] = [
+        (id(0, 0), 1, &[id(0, 1)], &[], 1),
+        (id(0, 1), 2, &[id(0, 2)], &[], 2),
+        (id(0, 2), 3, &[id(0, 0)], &[id(0, 0), id(0, 1), id(0, 2)], 0),
+    ];
+    Fixture::new(&rt, rt.alloc()).run(&steps, Some(3))
 }
 
 #[test]
 fn an_executor_goes_on_from_what_another_one_holds(rt: HostRuntime) -> Result<(), Fail> {
-    let mut executor = Executor::new(rt.alloc());
-    let _first = commit(&rt, rt.alloc(), &mut executor, first(rt.alloc())?)?;
-    let waits = add_one(&rt, rt.alloc(), id(0, 2), 3, id(0, 1))?;
-    let pending = vec![in rt.alloc(); waits.copy(rt.alloc())?]?;
-    let _none = commit(&rt, rt.alloc(), &mut executor, waits)?;
-    let done = DoneRuns::from_runs(rt.alloc(), executor.done().runs())?;
-    let store = executor.store().copy()?;
-    let after = Executor::after(&rt, rt.alloc(), done, store, pending, plan(&rt));
-    let Ok((mut other, replies)) = after else {
-        return Err(Fail::from("out of memory"));
-    };
-    assert!(rt; replies.is_empty() && other.pending_len() == 1 && other.is_done(id(0, 0)));
-    let next = add_one(&rt, rt.alloc(), id(0, 1), 2, id(0, 0))?;
-    let again = next.copy(rt.alloc())?;
-    let executed = commit(&rt, rt.alloc(), &mut executor, next)?;
-    assert!(rt; were_executed(&executed, &[id(0, 1), id(0, 2)]));
-    assert!(rt; commit(&rt, rt.alloc(), &mut other, again)? == executed);
-    Ok(())
+    Fixture::new(&rt, rt.alloc()).go_on()
 }
