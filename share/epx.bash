@@ -8,7 +8,7 @@ _epx_offer() {
 
 # Offers subcommands: all of them where none begins as a misspelt word does.
 _epx_offer_commands() {
-    local commands="run order levels graph resume audit check compare why trace help"
+    local commands="run order levels graph resume audit check compare why trace follow help"
     _epx_offer "$commands"
     [ "${#COMPREPLY[@]}" -gt 0 ] || read -ra COMPREPLY <<<"$commands"
 }
@@ -26,6 +26,7 @@ _epx() {
         check) options=" --workers --cut --explain --exit-code --prefix --help " firsts=0 ;;
         why) options=" --workers --cut --explain --reaches --help " firsts=1 ;;
         trace) options=" --workers --cut --explain --reads --help " firsts=1 ;;
+        follow) options=" --workers --cut --explain --each --help " firsts=0 ;;
         *) _epx_offer ""; return ;;
     esac
     for word in "${COMP_WORDS[@]:2:COMP_CWORD-2}"; do

@@ -26,7 +26,7 @@ pub(crate) fn words_of(alloc: Global, call: &str) -> io::Result<Vec<&str>> {
 }
 
 /// Lists of words that `epx` is run with while a log is its input, and what the input is.
-pub(crate) fn lists_with_input() -> [(&'static [&'static str], InputKind); 6] {
+pub(crate) fn lists_with_input() -> [(&'static [&'static str], InputKind); 8] {
     [
         (&["epx", "run", "apart.jsonl", "-", "-"], InputKind::Other),
         (&["epx", "-"], InputKind::Other),
@@ -34,5 +34,7 @@ pub(crate) fn lists_with_input() -> [(&'static [&'static str], InputKind); 6] {
         (&["epx", "run"], InputKind::Other),
         (&["epx", "run", "-"], InputKind::Other),
         (&["epx", "check", "--explain", "-"], InputKind::Other),
+        (&["epx", "follow"], InputKind::Terminal),
+        (&["epx", "follow", "--each", "-"], InputKind::Other),
     ]
 }

@@ -2,18 +2,19 @@
 use epx_tool::{Flags, Task, Words, read_words};
 use epx_types::{Memory, Plan};
 use std::alloc::Global;
+use std::fmt::Debug;
 use std::io::{self, ErrorKind};
 
-/// The task with its plan, and the paths, one a line.
-fn work_text(
+/// What is done, with its plan, and the paths, one a line.
+fn work_text<T: Debug + Drop>(
     alloc: Global,
-    task: Task,
+    work: T,
     plan: Plan,
     ending: &str,
     paths: Option<Vec<String>>,
 ) -> io::Result<String> {
     let (workers, cut) = (plan.workers(), plan.cut());
-    let mut text = format!(in alloc; "{task:?} with {workers} workers and cut {cut}{ending}\n")?;
+    let mut text = format!(in alloc; "{work:?} with {workers} workers and cut {cut}{ending}\n")?;
     let Some(paths) = paths else {
         text.push_str("standard input\n")?;
         return Ok(text);
@@ -23,6 +24,13 @@ fn work_text(
         text.push('\n')?;
     }
     Ok(text)
+}
+
+/// That logs are followed, and how.
+#[derive(Clone, Copy, Debug)]
+struct Follow {
+    each: bool,
+    explain: bool,
 }
 
 /// What the flags ask for.
@@ -49,6 +57,12 @@ fn text_of(alloc: Global, words: Words) -> io::Result<String> {
             paths,
             flags,
         } => work_text(alloc, task, plan, flags_text(flags), paths),
+        Words::Follow {
+            plan,
+            paths,
+            each,
+            explain,
+        } => work_text(alloc, Follow { each, explain }, plan, "", paths),
     }
 }
 

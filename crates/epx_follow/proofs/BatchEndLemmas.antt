@@ -14,7 +14,7 @@ use Rattle.epx_types.proofs.remaining.RemainingLemmas.{is_among_cases}
 use Rattle.epx_types.specs.declared.id.Id.{Id}
 use Rattle.epx_types.specs.declared.place.Place.{Place}
 use Rattle.epx_types.specs.declared.reply.Reply.{Reply}
-use Rattle.epx_follow.specs.BatchEnds.{AreAtFirstLines, EndsBatch, batch_text}
+use Rattle.epx_follow.specs.BatchEnds.{AreAtFirstLines, EndsBatch, batch_text, count_new}
 use Rattle.epx_executor.specs.Commits.{AllWait, ExecutorView, IsCommit, not_done}
 use Rattle.epx_follow.specs.Following.{FollowerView, held_lines, instances_of}
 use Rattle.epx_follow.specs.FollowerLaws.{BatchIsACommit, executor_of}
@@ -244,10 +244,9 @@ module _ (noted left : Id → Option Place) (before : FollowerView) (held : AreH
           (λ x. first_place_by left waiting x (noted_now x));
     }
 
-    pub ends_batch : (text : List ℕ)
-        → text ≡ batch_text (length before.pending) (length waiting) replies
-        → EndsBatch before ended text
-    ends_batch text is = record {
+    pub ends_batch : (came : ℕ) (text : List ℕ) → came ≡ count_new before commit.other
+        → text ≡ batch_text came (length waiting) replies → EndsBatch before ended text
+    ends_batch came text new is = record {
       other = commit.other;
       order = commit.order;
       merged = merged;
@@ -257,7 +256,8 @@ module _ (noted left : Id → Option Place) (before : FollowerView) (held : AreH
       pending = at_first_lines;
       closed = (refl, refl);
       next = refl;
-      written = is ∙ ap (batch_text (length before.pending) (length waiting)) commit.replied;
+      written = is
+          ∙ ap₂ (λ n rs. batch_text n (length waiting) rs) new commit.replied;
     }
 
 -- ---- the law

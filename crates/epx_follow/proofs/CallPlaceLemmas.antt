@@ -20,10 +20,11 @@ use Rattle.epx_types.specs.declared.fault.Fault.TheVariants.{Read, Write, BadBas
 use Rattle.epx_types.specs.declared.place.Place.{Place}
 use Rattle.epx_committed.specs.MergedLines.{IsDisagreementAt, IsMergeFault}
 use Rattle.epx_committed.proofs.LineOrderLemmas.{earlier_line}
+use Rattle.epx_laws.specs.AgreementLaws.{HaveInstancesOf}
 use Rattle.epx_executor.specs.CallLines.{call_lines, lines_from, lines_not_done}
 use Rattle.epx_executor.proofs.CallLineLemmas.{earlier_log, line_at}
 use Rattle.epx_follow.specs.Following.{instances_of}
-use Rattle.epx_follow.proofs.SameInstanceLemmas.{HaveTheirInstances, few_alike, many_alike}
+use Rattle.epx_follow.proofs.SameInstanceLemmas.{few_alike, many_alike}
 use Rattle.epx_follow.specs.inner.CallPlaces.{at_lines, held_places, real_place}
 
 abbrev id_of : Instance → Id
@@ -193,10 +194,10 @@ module _ (done : List Id) (pending batch : List Placed) where
         ]
 
     -- both have the same instances
-    pub real_has_call : HaveTheirInstances call real
+    pub real_has_call : HaveInstancesOf real call
     real_has_call p h = let r = real_of p h in (r.0, r.1.within, r.1.same)
 
-    pub call_has_real : HaveTheirInstances real call
+    pub call_has_real : HaveInstancesOf call real
     call_has_real r h = let p = call_of r h in (p.0, p.1, sym p.2.same)
 
     -- ---- the order of the call's lines of one instance is that of the real lines

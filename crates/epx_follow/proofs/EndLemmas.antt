@@ -1,6 +1,6 @@
 -- The end of a batch, of a follower as it keeps its lines.
-use Rattle.std.proofs.Common.{◌≡◌, ◌⊎◌, inl, inr, ◌∙◌, ℕ, ◌≤◌, Bool, List, []}
-use Rattle.std.proofs.Common.{length, map, Option, false, sym, ap, ap₂, subst, subst₂}
+use Rattle.std.proofs.Common.{◌≡◌, ◌⊎◌, inl, inr, ◌∙◌, ℕ, ◌+◌, ◌≤◌, Bool, List, []}
+use Rattle.std.proofs.Common.{length, map, Option, false, sym, ap, subst, subst₂}
 use Rattle.std.proofs.Common.{arith, not, ◌^◌}
 use Rattle.epx_types.proofs.Common.{Contents, Instance, Placed, commands_in, length-map}
 use Rattle.epx_types.proofs.Common.{length-replies, ranked_ids, remaining, is_among}
@@ -13,7 +13,7 @@ use Rattle.epx_committed.specs.MergedLines.{IsMergeFault}
 use Rattle.epx_laws.specs.ResumedRunLaws.{run_on}
 use Rattle.epx_executor.specs.CallLines.{call_lines}
 use Rattle.epx_executor.specs.Commits.{AllWait, ExecutorView, IsCommit}
-use Rattle.epx_follow.specs.BatchEnds.{EndsBatch, batch_text}
+use Rattle.epx_follow.specs.BatchEnds.{EndsBatch, batch_text, count_new}
 use Rattle.epx_follow.specs.Following.{FollowerView, held_lines, instances_of}
 use Rattle.epx_follow.specs.FollowerLaws.{executor_of}
 use Rattle.epx_follow.specs.inner.CallPlaces.{at_lines, held_places}
@@ -21,6 +21,7 @@ use Rattle.epx_follow.specs.inner.HeldLines.{AreHeld, pending_lines}
 use Rattle.epx_follow.proofs.BatchEndLemmas.{ends_batch, held_ended, instances-batch}
 use Rattle.epx_follow.proofs.BatchEndLemmas.{instances-pending, places-batch}
 use Rattle.epx_follow.proofs.CallPlaceLemmas.{fault_real}
+use Rattle.epx_follow.proofs.CountLemmas.{counted}
 use Rattle.epx_follow.proofs.FirstPlaceLemmas.{AreForgotten}
 use Rattle.epx_follow.proofs.HoldLemmas.{shown}
 use Rattle.epx_executor.proofs.CallLineLemmas.{merged_are_few}
@@ -79,29 +80,56 @@ module _ (done : List Id) (store : Contents) (noted : Id → Option Place)
       (subst₂ (λ (p b : List Instance). IsMergeFault (call_lines done p b) fault)
       (sym pending_are) (sym batch_are) h))
 
-  module _ (left : Id → Option Place) (after : ExecutorView) (replies : List (Id × Reply))
-      (ids : List Id) (ids_are : ids ≡ map (λ r. r.0) replies)
+  module _ (after : ExecutorView) (replies : List (Id × Reply)) (ids : List Id)
+      (ids_are : ids ≡ map (λ r. r.0) replies)
       (commit : IsCommit (record { done = done; store = store; pending = pending }) batch after
-      replies) (settled : AllWait after) (forgotten : AreForgotten noted ids left) where
+      replies) where
     commits : IsCommit (executor_of was) (instances_of was.batch) after replies
     commits = subst₂ (λ (p b : List Instance).
         IsCommit (record { done = done; store = store; pending = p }) b after replies)
         (sym pending_are) (sym batch_are) commit
 
-    forgets : AreForgotten noted (ranked_ids commits.order) left
-    forgets = subst (λ (xs : List Id). AreForgotten noted xs left) (ids_are
-        ∙ executed_are (executor_of was) after (instances_of was.batch) replies commits) forgotten
+    executed_ids : ids ≡ ranked_ids commits.order
+    executed_ids =
+        ids_are ∙ executed_are (executor_of was) after (instances_of was.batch) replies commits
 
-    abbrev now : FollowerView
-    now = shown after.done after.store left after.pending [] [] next false
+    waiting_ids : length was.pending ≡ length pending
+    waiting_ids = sym (length-map was.pending (λ (p : Placed). p.instance))
+        ∙ ap length pending_are
 
-    pub held_now : AreHeld left now
-    held_now = held_ended noted left was held after replies commits settled forgets
+    -- no more waited than are executed or wait now
+    pub few_waited : length pending ≤ length ids + length after.pending
+    few_waited = omega (
+      arith,
+      counted noted was held after replies commits,
+      ap length executed_ids,
+      waiting_ids,
+    )
 
-    pub ends : (text : List ℕ) → text ≡ batch_text (length pending) (length after.pending) replies
-        → EndsBatch was now text
-    ends text is = ends_batch noted left was held after replies commits settled forgets text
-        (is ∙ ap₂ (λ n m. batch_text n m replies)
-        (ap length (sym pending_are) ∙ length-map was.pending (λ (p : Placed). p.instance))
-        (ap length (sym (instances-pending left after.pending))
-        ∙ length-map (pending_lines left after.pending) (λ (p : Placed). p.instance)))
+    module _ (left : Id → Option Place) (settled : AllWait after)
+        (forgotten : AreForgotten noted ids left) where
+      forgets : AreForgotten noted (ranked_ids commits.order) left
+      forgets = subst (λ (xs : List Id). AreForgotten noted xs left) executed_ids forgotten
+
+      abbrev now : FollowerView
+      now = shown after.done after.store left after.pending [] [] next false
+
+      pub held_now : AreHeld left now
+      held_now = held_ended noted left was held after replies commits settled forgets
+
+      pub ends : (came : ℕ) (text : List ℕ)
+          → came + length pending ≡ length ids + length after.pending
+          → text ≡ batch_text came (length after.pending) replies → EndsBatch was now text
+      ends came text count is =
+          let new : came ≡ count_new was commits.other =
+          omega (
+            arith,
+            counted noted was held after replies commits,
+            ap length executed_ids,
+            waiting_ids,
+            count,
+          ) in
+          ends_batch noted left was held after replies commits settled forgets came text new
+          (is ∙ ap (λ n. batch_text came n replies)
+          (ap length (sym (instances-pending left after.pending))
+          ∙ length-map (pending_lines left after.pending) (λ (p : Placed). p.instance)))

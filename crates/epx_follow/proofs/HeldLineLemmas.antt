@@ -1,16 +1,16 @@
 -- The lines that a follower holds, after a line without an instance, and after one of an instance.
 use Rattle.std.proofs.Common.{◌≡◌, ◌≢◌, ◌⊎◌, inl, inr, ◌∙◌, List, [], ◌∷◌, ◌++◌, Contains}
 use Rattle.std.proofs.Common.{Option, None, Some, MatchOption, refl, sym, ap, subst}
-use Rattle.std.proofs.Common.{arith, append_assoc, true}
+use Rattle.std.proofs.Common.{◌+◌, arith, append_assoc, true}
 use Rattle.epx_types.proofs.Common.{AllPairs-append, Contains-append_cases}
 use Rattle.epx_types.proofs.Common.{Contains-append_left, Contains-append_right}
 use Rattle.epx_types.proofs.Common.{Contains-cons_cases, Contains-head, Contains-nil, Earlier}
 use Rattle.epx_types.proofs.Common.{Id-cases, Instance, Placed, below_asymm, below_irrefl}
-use Rattle.epx_types.proofs.Common.{below_trans, place_cmp_total}
+use Rattle.epx_types.proofs.Common.{below_trans, nat_tests, place_cmp_total}
 use Rattle.epx_types.specs.declared.id.Id.{Id}
 use Rattle.epx_types.specs.declared.place.Place.{Place}
 use Rattle.epx_committed.proofs.LineOrderLemmas.{earlier_line}
-use Rattle.epx_follow.specs.Following.{FollowerView, held_lines, next_line, passed}
+use Rattle.epx_follow.specs.Following.{FollowerView, at_next_log, held_lines, next_line, passed}
 use Rattle.epx_follow.specs.inner.FirstPlaces.{HasFirstPlaces, IsFirstPlace, NoneNames}
 use Rattle.epx_follow.specs.inner.HeldLines.{AreHeld}
 
@@ -29,6 +29,23 @@ held_passed noted v h = record {
   in_order = h.in_order;
   apart = h.apart;
   past = λ p in_p. before_next p.place v.next (h.past p in_p);
+  first_places = h.first_places;
+}
+
+-- ---- the end of a log
+
+earlier_next : (p : Place) → Earlier p (record { log = p.log + 1; line = 1 })
+earlier_next p = grind (arith, nat_tests)
+
+pub held_next_log : (noted : Id → Option Place) (v : FollowerView) → AreHeld noted v
+    → AreHeld noted (at_next_log v)
+held_next_log noted v h = record {
+  settled = h.settled;
+  left = h.left;
+  in_order = h.in_order;
+  apart = h.apart;
+  past = λ p in_p. below_trans place_cmp_total p.place v.next (at_next_log v).next
+      (h.past p in_p) (earlier_next v.next);
   first_places = h.first_places;
 }
 

@@ -1,17 +1,14 @@
 -- Lines that commit the same instances are few alike, and commit the same map.
-use Rattle.std.proofs.Common.{◌≡◌, List, Contains, sym, ap, ◌∙◌, subst}
-use Rattle.epx_types.proofs.Common.{Instance, Placed}
+use Rattle.std.proofs.Common.{List, Contains, ap, ◌∙◌, subst}
+use Rattle.epx_types.proofs.Common.{Instance, IsCommittedBy-Agree, Placed}
+use Rattle.epx_types.specs.CommittedMap.{IsCommittedBy}
 use Rattle.epx_types.specs.declared.id.Id.{Id}
 use Rattle.epx_committed.specs.InstanceCounts.{AreNamedBy, FewInstances, ManyInstances}
 use Rattle.epx_committed.specs.MergedLines.{IsMerged}
+use Rattle.epx_laws.specs.AgreementLaws.{HaveInstancesOf}
 
--- each line of the first list has one of the second with the same instance
-abbrev pub HaveTheirInstances : List Placed → List Placed → Type 0
-HaveTheirInstances lines others =
-    (p : Placed) → Contains lines p → (r : Placed) × Contains others r × (r.instance ≡ p.instance)
-
-module _ (lines others : List Placed) (there : HaveTheirInstances lines others)
-    (back : HaveTheirInstances others lines) where
+module _ (lines others : List Placed) (there : HaveInstancesOf others lines)
+    (back : HaveInstancesOf lines others) where
   named_alike : (ids : List Id) → AreNamedBy lines ids → AreNamedBy others ids
   named_alike ids named = record {
     rising = named.rising;
@@ -27,19 +24,16 @@ module _ (lines others : List Placed) (there : HaveTheirInstances lines others)
   pub many_alike : ManyInstances lines → ManyInstances others
   many_alike many = (many.0, named_alike many.0 many.1, many.2)
 
+  committed_alike : (m : List Instance) → IsCommittedBy lines m → IsCommittedBy others m
+  committed_alike m committed = record {
+    rising = committed.rising;
+    given = λ e h. let p = committed.given e h in let r = there p.0 p.1 in (r.0, r.1, r.2 ∙ p.2);
+    whole = λ r h. let p = back r h in subst (Contains m) p.2 (committed.whole p.0 p.1);
+  }
+
   pub merged_alike : (m : List Instance) → IsMerged lines m → IsMerged others m
   merged_alike m merged = record {
     small = few_alike merged.small;
-    agree = λ r s in_r in_s same.
-        let p = back r in_r in
-        let q = back s in_s in
-        sym p.2 ∙ merged.agree p.0 q.0 p.1 q.1
-        (ap (λ (e : Instance). e.id) p.2 ∙ same ∙ ap (λ (e : Instance). e.id) (sym q.2)) ∙ q.2;
-    committed = record {
-      rising = merged.committed.rising;
-      given = λ e h. let p = merged.committed.given e h in let r = there p.0 p.1 in
-          (r.0, r.1, r.2 ∙ p.2);
-      whole = λ r h. let p = back r h in
-          subst (Contains m) p.2 (merged.committed.whole p.0 p.1);
-    };
+    agree = IsCommittedBy-Agree others m (committed_alike m merged.committed);
+    committed = committed_alike m merged.committed;
   }

@@ -1,10 +1,11 @@
 -- What the end of a batch does, and the text that it writes.
-use Rattle.std.specs.Prelude.{◌≡◌, ◌⊎◌, ◌↔◌, ℕ, ◌+◌, ◌-◌, false, List, [], ◌∷◌, ◌++◌, length, zip}
-use Rattle.std.specs.Prelude.{flat_map, codes, Contains}
+use Rattle.std.specs.Prelude.{◌≡◌, ◌⊎◌, ◌↔◌, ℕ, false, not, List, [], ◌∷◌, ◌++◌, length, zip}
+use Rattle.std.specs.Prelude.{filter, flat_map, codes, Contains}
 use Rattle.serde_json.specs.Data.{Data, string}
 use Rattle.epx_types.specs.declared.id.Id.{Id}
 use Rattle.epx_types.specs.declared.reply.Reply.{Reply}
-use Rattle.epx_types.specs.Done.{remaining}
+use Rattle.epx_types.specs.CommittedMap.{ids_of}
+use Rattle.epx_types.specs.Done.{is_among, remaining}
 use Rattle.epx_types.specs.ExecutionOrder.{Ranked, ranked_ids, IsExecutionOrder}
 use Rattle.epx_types.specs.Instances.{Instance}
 use Rattle.epx_types.specs.PlacedLines.{Placed, Earlier}
@@ -14,7 +15,7 @@ use Rattle.epx_report.specs.ReportLines.{data_of_number, line_of, reply_line}
 use Rattle.epx_executor.specs.Commits.{not_done}
 use Rattle.epx_follow.specs.Following.{FollowerView, instances_of, held_lines}
 
--- so many instances came that no earlier batch had, so many are executed, and so many wait
+-- so many instances are new, so many are executed, and so many wait
 abbrev pub came_data : ℕ → ℕ → ℕ → List Data
 came_data came executed waiting = string (codes "came") ∷ data_of_number came
     ∷ string (codes "executed") ∷ data_of_number executed
@@ -23,12 +24,14 @@ came_data came executed waiting = string (codes "came") ∷ data_of_number came
 abbrev pub came_line : ℕ → ℕ → ℕ → List ℕ
 came_line came executed waiting = line_of (came_data came executed waiting)
 
--- The text of a batch: its counts, and a line for each reply. What came is what is executed or
--- waits now, without what waited before
+-- the text of a batch: its counts, and a line for each reply
 abbrev pub batch_text : ℕ → ℕ → List (Id × Reply) → List ℕ
-batch_text waited waiting replies =
-    came_line (length replies + waiting - waited) (length replies) waiting
-    ++ flat_map reply_line replies
+batch_text came waiting replies =
+    came_line came (length replies) waiting ++ flat_map reply_line replies
+
+-- how many instances of a map did not wait before
+abbrev pub count_new : FollowerView → List Instance → ℕ
+count_new v m = length (filter (λ e. not (is_among (ids_of (instances_of v.pending)) e.id)) m)
 
 -- some instances, each at the place of the first of the lines that name it
 pub record AreAtFirstLines (lines : List Placed) (m : List Instance) (placed : List Placed) : Type
@@ -51,5 +54,5 @@ pub record EndsBatch (before after : FollowerView) (text : List ℕ) : Type 0 wh
   pub pending : AreAtFirstLines (held_lines before) (not_done after.done other) after.pending
   pub closed : (after.batch ≡ []) × (after.is_open ≡ false)
   pub next : after.next ≡ before.next
-  pub written : text ≡ batch_text (length before.pending) (length after.pending)
+  pub written : text ≡ batch_text (count_new before other) (length after.pending)
       (zip (ranked_ids order) (run_on before.done before.store other order).replies)

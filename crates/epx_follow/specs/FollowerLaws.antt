@@ -1,11 +1,18 @@
--- The law of followers.
-use Rattle.std.specs.Prelude.{◌≡◌, ℕ, List, length, Contains}
+-- Laws of followers.
+use Rattle.std.specs.Prelude.{◌≡◌, ℕ, Bool, List, [], ◌∷◌, ◌++◌, length, Contains, Ok}
 use Rattle.epx_types.specs.declared.id.Id.{Id}
 use Rattle.epx_types.specs.declared.reply.Reply.{Reply}
+use Rattle.epx_types.specs.Instances.{Instance}
 use Rattle.epx_types.specs.PlacedLines.{Placed}
+use Rattle.epx_lines.specs.Lines.{lines_of}
+use Rattle.epx_lines.specs.Meaning.{meaning_of}
+use Rattle.epx_lines.specs.declared.Line.TheVariants.{Entry}
 use Rattle.epx_executor.specs.Commits.{ExecutorView, IsCommit}
+use Rattle.epx_executor.specs.ExecutorLaws.{new_executor}
+use Rattle.epx_executor.specs.HistoryLaws.{AreCommits, Call}
 use Rattle.epx_follow.specs.Following.{FollowerView, instances_of}
-use Rattle.epx_follow.specs.BatchEnds.{EndsBatch, batch_text}
+use Rattle.epx_follow.specs.BatchEnds.{EndsBatch, batch_text, count_new}
+use Rattle.epx_follow.specs.InputEnds.{IsFollowed}
 
 -- what the executor of a follower holds
 abbrev pub executor_of : FollowerView → ExecutorView
@@ -17,5 +24,26 @@ BatchIsACommit = (before after : FollowerView) (text : List ℕ)
     → ((p : Placed) → Contains before.batch p → ¬ Contains before.done p.instance.id)
     → EndsBatch before after text
     → (replies : List (Id × Reply))
-    × IsCommit (executor_of before) (instances_of before.batch) (executor_of after) replies
-    × (text ≡ batch_text (length before.pending) (length after.pending) replies)
+    × (commit : IsCommit (executor_of before) (instances_of before.batch) (executor_of after)
+    replies) × (text ≡ batch_text (count_new before commit.other) (length after.pending) replies)
+
+-- the texts of batches, one after another, with the replies of these calls
+abbrev pub AreBatchTexts : List Call → List ℕ → Type 0
+AreBatchTexts [] text = text ≡ []
+AreBatchTexts (call ∷ calls) text = (came : ℕ) × (waiting : ℕ) × (rest : List ℕ)
+    × AreBatchTexts calls rest × (text ≡ batch_text came waiting call.1 ++ rest)
+
+-- each instance that comes with one of the calls is on a line of the logs
+abbrev pub AreOnLines : List (List ℕ) → List Call → Type 0
+AreOnLines logs calls = (call : Call) → Contains calls call
+    → (e : Instance) → Contains call.0 e → (log : List ℕ) × Contains logs log
+    × ((line : List ℕ) × Contains (lines_of log) line × (meaning_of line ≡ Ok (Entry e)))
+
+-- Following logs to their ends is calls of an executor, one for each batch: what comes with them is
+-- on the lines, and their replies are those that are written. So the laws of the order and the
+-- replies of calls hold of it
+abbrev pub FollowedLogsAreCommits : Type 0
+FollowedLogsAreCommits = (each : Bool) (logs : List (List ℕ)) (text : List ℕ)
+    → (followed : IsFollowed each logs text)
+    → (calls : List Call) × AreCommits new_executor calls (executor_of followed.ended.last)
+    × AreOnLines logs calls × AreBatchTexts calls (followed.batches ++ followed.ended.batch)

@@ -1,5 +1,6 @@
 -- What a follower holds between two lines.
-use Rattle.std.specs.Prelude.{◌+◌, Bool, true, List, [], ◌∷◌, ◌++◌, map, if◌then◌else◌}
+use Rattle.std.specs.Prelude.{◌+◌, Bool, true, false, List, [], ◌∷◌, ◌++◌, map, if◌then◌else◌}
+use Rattle.std.specs.FinMap as contents
 use Rattle.epx_types.specs.declared.id.Id.{Id}
 use Rattle.epx_types.specs.declared.place.Place.{Place}
 use Rattle.epx_types.specs.Contents.{Contents}
@@ -21,6 +22,17 @@ pub record FollowerView : Type 0 where
   -- whether a line came since the last batch ended
   pub is_open : Bool
 
+-- nothing is executed, and line 1 of log 0 is the next
+abbrev pub new_follower : FollowerView
+new_follower = record {
+  done = [];
+  store = contents.empty;
+  pending = [];
+  batch = [];
+  next = record { log = 0; line = 1 };
+  is_open = false;
+}
+
 abbrev pub instances_of : List Placed → List Instance
 instances_of lines = map (λ p. p.instance) lines
 
@@ -31,6 +43,10 @@ held_lines v = v.pending ++ v.batch
 -- the place of the line after this one
 abbrev pub next_line : Place → Place
 next_line p = record { log = p.log; line = p.line + 1 }
+
+-- the log ended, and the next one begins
+abbrev pub at_next_log : FollowerView → FollowerView
+at_next_log v = record v { next = record { log = v.next.log + 1; line = 1 } }
 
 -- a line without an instance came
 abbrev pub passed : FollowerView → FollowerView

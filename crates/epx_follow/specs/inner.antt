@@ -2,3 +2,4 @@
 pub mod CallPlaces
 pub mod FirstPlaces
 pub mod HeldLines
+pub mod PartsTaken

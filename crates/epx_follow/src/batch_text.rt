@@ -1,5 +1,5 @@
 //! The text that the end of a batch writes.
-ghost use Rattle.std.specs.Prelude.{◌≡◌, ◌<◌, ◌^◌, ◌+◌, false, length, map, zip, IfOk};
+ghost use Rattle.std.specs.Prelude.{◌≡◌, ◌<◌, ◌≤◌, ◌^◌, ◌+◌, false, length, map, zip, IfOk};
 ghost use Rattle.serde_json.specs.View.{view};
 ghost use Rattle.serde_json.specs.Written.{has_float};
 ghost use Rattle.epx_report.specs.ReportLines.{array_of};
@@ -41,26 +41,33 @@ pub(crate) fn parts_of(
     Ok((ids, replies))
 }
 
-/// The text of a batch before which `waited` instances waited, and after which `waiting` do.
+/// How many instances of a batch are new. Before it `waited` instances waited, and after it
+/// `waiting` do.
+pub(crate) fn count_came(waited: usize, executed: usize, waiting: usize) -> usize
+    requires few { executed + waiting < 2 ^ 64 }
+    requires some { waited ≤ executed + waiting }
+    ensures { result + waited ≡ executed + waiting }
+{
+    executed + waiting - waited
+}
+
+/// The text of a batch of which `came` instances are new, and after which `waiting` wait.
 pub(crate) fn batch_text(
     alloc: Global,
-    waited: usize,
+    came: usize,
     waiting: usize,
     ids: &[Id],
     replies: &[Reply],
 ) -> Result<Vec<u8>, Memory>
     requires same { length ids.now ≡ length replies.now }
-    requires few { length ids.now + waiting < 2 ^ 64 }
     ensures { IfOk result (λ text.
-        text.items ≡ batch_text waited waiting (zip ids.now replies.now)) }
+        text.items ≡ batch_text came waiting (zip ids.now replies.now)) }
 {
-    let executed = ids.len();
-    let came = (executed + waiting).saturating_sub(waited);
     let mut text = Vec::new(alloc);
     append_line(
         alloc,
         &mut text,
-        &came_value(alloc, came, executed, waiting)?,
+        &came_value(alloc, came, ids.len(), waiting)?,
     )?;
     append_replies(alloc, &mut text, ids, replies)?;
     Ok(text)

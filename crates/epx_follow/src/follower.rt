@@ -1,14 +1,14 @@
 //! Follows a log: takes its lines one after another, and executes it batch by batch.
-ghost use Rattle.std.specs.Prelude.{◌≡◌, ◌<◌, ◌^◌, [], false, Contains, IfOk, IfErr};
+ghost use Rattle.std.specs.Prelude.{◌≡◌, ◌<◌, ◌^◌, Contains, IfOk, IfErr};
 ghost use Rattle.std.specs.Prelude.{MatchResult};
-ghost use Rattle.std.specs.FinMap as contents;
 ghost use Rattle.epx_committed.specs.MergedLines.{IsMergeFault};
 ghost use Rattle.epx_follow.specs.BatchEnds.{EndsBatch};
-ghost use Rattle.epx_follow.specs.Following.{held_lines, next_line, passed, joined};
+ghost use Rattle.epx_follow.specs.Following.{at_next_log, held_lines, new_follower, next_line};
+ghost use Rattle.epx_follow.specs.Following.{passed, joined};
 ghost use Rattle.epx_follow.specs.FollowerLaws.{executor_of};
 ghost use Rattle.epx_follow.specs.LinesTaken.{TakesLine, RefusesLine};
 
-use crate::batch_text::{batch_text, parts_of};
+use crate::batch_text::{batch_text, count_came, parts_of};
 use crate::first_places::{forget_places, note_place};
 use crate::line_places::fault_at_lines;
 use epx_executor::Executor;
@@ -37,7 +37,6 @@ pub struct Follower {
     batch_places: Vec<Place>,
     next: Place,
     is_open: bool,
-    reader: LineReader,
 }
 
 impl Model for Follower {
@@ -74,14 +73,7 @@ impl Model for Follower {
 impl Follower {
     /// Nothing is executed, and line 1 of log 0 is the next.
     pub fn new(alloc: Global) -> Follower
-        ensures { result ≡ record {
-          done = [];
-          store = contents.empty;
-          pending = [];
-          batch = [];
-          next = record { log = 0; line = 1 };
-          is_open = false;
-        } }
+        ensures { result ≡ new_follower }
     {
         Follower {
             executor: Executor::new(alloc),
@@ -90,7 +82,6 @@ impl Follower {
             batch_places: Vec::new(alloc),
             next: Place { log: 0, line: 1 },
             is_open: false,
-            reader: LineReader::new(alloc),
         }
     }
 
@@ -151,7 +142,6 @@ impl Follower {
             batch_places,
             next,
             is_open: _,
-            reader,
         } = self;
         let waited = executor.pending_len();
         let executed = match executor.commit(rt, alloc, batch, plan) {
@@ -162,7 +152,9 @@ impl Follower {
         };
         let (ids, replies) = parts_of(alloc, executed)?;
         forget_places(&mut places, &ids);
-        let text = batch_text(alloc, waited, executor.pending_len(), &ids, &replies)?;
+        let waiting = executor.pending_len();
+        let came = count_came(waited, ids.len(), waiting);
+        let text = batch_text(alloc, came, waiting, &ids, &replies)?;
         commit_leaves_none_ready();
         let follower = Follower {
             executor,
@@ -171,17 +163,18 @@ impl Follower {
             batch_places: Vec::new(alloc),
             next,
             is_open: false,
-            reader,
         };
         Ok((follower, text))
     }
 
     /// Takes a line, without its line feed. A blank one ends the batch, and with `each` every line
-    /// does. Returns the text of a batch that ended, too.
+    /// does. Returns the text of a batch that ended, too. The reader's room is used from line to
+    /// line. It is large, so a follower, which is moved into each call, has none.
     pub fn take_line<R: Threads + RandomSource + Sync>(
         self,
         rt: &R,
         alloc: Global,
+        reader: &mut LineReader,
         line: &[u8],
         each: bool,
         plan: Plan,
@@ -191,14 +184,13 @@ impl Follower {
         ensures counted { IfOk result (λ v. v.0.next ≡ next_line self.next) }
         ensures refused { IfErr result (RefusesLine each line.now self) }
     {
-        let mut follower = self;
         if is_blank_line(line) {
-            return follower.pass_line().end_batch(rt, alloc, plan);
+            return self.pass_line().end_batch(rt, alloc, plan);
         }
-        let place = follower.next;
-        let follower = match follower.reader.read(alloc, line) {
-            Ok(Line::Entry(entry)) => follower.join_entry(entry)?,
-            Ok(Line::Blank) => follower.pass_line(),
+        let place = self.next;
+        let follower = match reader.read(alloc, line) {
+            Ok(Line::Entry(entry)) => self.join_entry(entry)?,
+            Ok(Line::Blank) => self.pass_line(),
             Err(LineFault::Memory) => return Err(Fault::Memory),
             Err(LineFault::Bad(why)) => return Err(Fault::BadLine { place, why }),
         };
@@ -206,6 +198,33 @@ impl Follower {
             return follower.end_batch(rt, alloc, plan);
         }
         Ok((follower, Vec::new(alloc)))
+    }
+
+    /// The log ended: the next line is the first one of the next log.
+    pub fn next_log(self) -> Follower
+        requires { self.next.log < 2 ^ 63 }
+        ensures { result ≡ at_next_log self }
+    {
+        let mut follower = self;
+        follower.next = Place {
+            log: follower.next.log + 1,
+            line: 1,
+        };
+        follower
+    }
+
+    /// The place of the next line.
+    pub fn next(&self) -> Place
+        ensures { result ≡ self.now.next }
+    {
+        self.next
+    }
+
+    /// Whether a line came since the last batch ended.
+    pub fn is_open(&self) -> bool
+        ensures { result ≡ self.now.is_open }
+    {
+        self.is_open
     }
 
     /// What is executed, stored and pending. The open batch is no part of it.

@@ -4,8 +4,11 @@
 
 mod batch_text;
 mod first_places;
+mod follow_logs;
 mod follower;
 pub mod laws;
 mod line_places;
+mod take_lines;
 
+pub use follow_logs::follow;
 pub use follower::Follower;

@@ -15,7 +15,7 @@ use Rattle.epx_names.specs.declared.task.Task.TheVariants.{Run}
 use Rattle.epx_words.specs.declared.words.Words.{Words}
 use Rattle.epx_words.specs.declared.words.Words.TheVariants as asked
 
-bare_or_not : (words : List Text) → IsBare words ⊎ (¬ IsBare words)
+pub bare_or_not : (words : List Text) → IsBare words ⊎ (¬ IsBare words)
 bare_or_not [] = inl (inl (omega arith))
 bare_or_not (p ∷ []) = inl (inl (omega arith))
 bare_or_not (p ∷ w ∷ []) = go (bytes_eq w (codes "-")) refl
@@ -51,6 +51,7 @@ text_ends : (kinds : Kinds) (given : Given) (wanted : Words)
     → IfText (IsTextStatus kinds given) wanted → IfText IsTextEnd wanted
 text_ends kinds given (asked.Work task plan paths) is = tt
 text_ends kinds given (asked.WorkWith task plan paths flags) is = tt
+text_ends kinds given (asked.Follow plan paths each explain) is = tt
 text_ends kinds given (asked.Text text status) is = status_ends kinds given status is
 
 -- words that name no subcommand ask for no text

@@ -2,7 +2,9 @@ mod OutputLemmas
 mod BareWordLemmas
 mod WordLemmas
 mod SourceListLemmas
+mod FirstReadLemmas
 mod TextsReadLemmas
 mod StatusLemmas
+mod FollowEndingLemmas
 mod FailedInputLemmas
 mod OutcomeLemmas

@@ -7,13 +7,14 @@ use Rattle.epx_types.specs.declared.fault.Fault.{Fault}
 use Rattle.epx_types.specs.declared.fault.Fault.TheVariants.{TooManyLogs, LogTooLong, BadLine}
 use Rattle.epx_types.specs.declared.fault.Fault.TheVariants.{TooManyInstances, Disagree, Read}
 use Rattle.epx_types.specs.declared.fault.Fault.TheVariants.{BadBase, Memory, Write}
-use Rattle.epx_words.specs.Requests.{IfText, IfWork, flags_of}
+use Rattle.epx_words.specs.Requests.{IfFollow, IfText, IfWork, flags_of}
 use Rattle.epx_names.specs.declared.task.Task.{Task}
 use Rattle.epx_words.specs.declared.words.Words.{Words}
-use Rattle.epx_words.specs.declared.words.Words.TheVariants.{Work, WorkWith, Text}
+use Rattle.epx_words.specs.declared.words.Words.TheVariants.{Work, WorkWith, Follow, Text}
 use Rattle.epx_program.specs.Calls.{EndsTask}
 use Rattle.epx_program.specs.Endings.{IsAnswerStatus, IsTaskResult, EndsWith, IsStatus}
 use Rattle.epx_program.specs.Endings.{answer_status, status_of}
+use Rattle.epx_program.specs.FollowEndings.{EndsFollow}
 use Rattle.epx_program.specs.Inputs.{TextRelation}
 use Rattle.epx_program.proofs.OutputLemmas.{contents_unchanged}
 
@@ -30,7 +31,7 @@ answered_well true true = inr refl
 answered_well true false = inl refl
 answered_well false found = inl refl
 
-no_fault_ends_well : (fault : Fault) → ¬ IsAnswerStatus (fault_status fault)
+pub no_fault_ends_well : (fault : Fault) → ¬ IsAnswerStatus (fault_status fault)
 no_fault_ends_well Memory (inl e) = cc e
 no_fault_ends_well Memory (inr e) = cc e
 no_fault_ends_well TooManyLogs (inl e) = cc e
@@ -137,35 +138,70 @@ pub work_status : (input : Option (List ℕ)) (Unread : Type 0) (Is : TextRelati
     → IfWork (λ task plan paths. IsStatus status) words
 work_status input Unread Is status failed old new (Work task plan paths) h = h.ends
 work_status input Unread Is status failed old new (WorkWith task plan paths flags) h = h.ends
+work_status input Unread Is status failed old new (Follow plan paths each explain) h = tt
 work_status input Unread Is status failed old new (Text text said) h = tt
+
+-- the status of following logs: 0, or that of a fault
+abbrev IsFollowStatus : ℕ → Type 0
+IsFollowStatus status = (status ≡ 0) ⊎ ((fault : Fault) × (status ≡ fault_status fault))
+
+status_of_following : (Is : TextRelation) (each : Bool) (paths : Option (List (List ℕ)))
+    (status : ℕ) (old new : Option (List ℕ)) → EndsFollow Is each paths status old new
+    → IsFollowStatus status
+status_of_following Is each paths zero old new h = inl refl
+status_of_following Is each paths (suc n) old new h =
+    let stopped = h.stopped (λ none. omega (arith, none)) in inr (stopped.0, stopped.3)
+
+pub follow_status : (Is : TextRelation) (status : ℕ) (old new : Option (List ℕ)) (words : Words)
+    → IfFollow (λ plan paths each explain. EndsFollow Is each paths status old new) words
+    → IfFollow (λ plan paths each explain. IsFollowStatus status) words
+follow_status Is status old new (Work task plan paths) h = tt
+follow_status Is status old new (WorkWith task plan paths flags) h = tt
+follow_status Is status old new (Follow plan paths each explain) h =
+    status_of_following Is each _ status old new h
+follow_status Is status old new (Text text said) h = tt
+
+followed : (result : ℕ) → IsFollowStatus result → IsStatus result
+followed result (inl well) = inl (inl well)
+followed result (inr failed) = inr failed
+
+no_five : (result : ℕ) → IsFollowStatus result → result ≢ 5
+no_five result (inl well) five = omega (arith, well, five)
+no_five result (inr failed) five = no_fault_ends_well failed.0 (inr (sym failed.1 ∙ five))
 
 -- the program ends as the words ask, for every kind of words
 pub of-words : (P Q : Type 0) (words : Words) (result : ℕ)
     → IfText (λ status. (status ≡ 0) ⊎ (status ≡ 2)) words
     → IfWork (λ task plan paths. IsStatus result) words
+    → IfFollow (λ plan paths each explain. IsFollowStatus result) words
     → IfText (λ status. status ≡ 0 → (result ≡ 0) ⊎ ((result ≡ 4) × Q)) words
     → IfText (λ status. status ≢ 0 → (result ≡ status) × P) words → IsStatus result ⊎ (result ≡ 2)
-of-words P Q (Work task plan paths) result said work text refused = inl work
-of-words P Q (WorkWith task plan paths flags) result said work text refused = inl work
-of-words P Q (Text text status) result (inl good) work asked refused =
+of-words P Q (Work task plan paths) result said work follow text refused = inl work
+of-words P Q (WorkWith task plan paths flags) result said work follow text refused = inl work
+of-words P Q (Follow plan paths each explain) result said work follow text refused =
+    inl (followed result follow)
+of-words P Q (Text text status) result (inl good) work follow asked refused =
     inl (shown result (asked good))
-of-words P Q (Text text status) result (inr two) work asked refused =
+of-words P Q (Text text status) result (inr two) work follow asked refused =
     inr ((refused (λ none. omega (arith, none, two))).0 ∙ two)
 
 -- only work ends with status 5
 pub found_by_work : (P Q R : Type 0) (words : Words) (result : ℕ)
     → IfText (λ status. (status ≡ 0) ⊎ (status ≡ 2)) words
     → IfWork (λ task plan paths. result ≡ 5 → P) words
+    → IfFollow (λ plan paths each explain. IsFollowStatus result) words
     → IfText (λ status. status ≡ 0 → (result ≡ 0) ⊎ ((result ≡ 4) × Q)) words
     → IfText (λ status. status ≢ 0 → (result ≡ status) × R) words → result ≡ 5 → P
-found_by_work P Q R (Work task plan paths) result said work text refused five = work five
-found_by_work P Q R (WorkWith task plan paths flags) result said work text refused five =
+found_by_work P Q R (Work task plan paths) result said work follow text refused five = work five
+found_by_work P Q R (WorkWith task plan paths flags) result said work follow text refused five =
     work five
-found_by_work P Q R (Text text status) result (inl good) work asked refused five =
+found_by_work P Q R (Follow plan paths each explain) result said work follow text refused five =
+    absurd (no_five result follow five)
+found_by_work P Q R (Text text status) result (inl good) work follow asked refused five =
     elim (asked good) [
       | inl well ↦ absurd (omega (arith, well, five))
       | inr failed ↦ absurd (omega (arith, failed.0, five))
     ]
-found_by_work P Q R (Text text status) result (inr two) work asked refused five =
+found_by_work P Q R (Text text status) result (inr two) work follow asked refused five =
     let is = (refused (λ none. omega (arith, none, two))).0 in
     absurd (omega (arith, is, two, five))

@@ -1,7 +1,7 @@
 -- What the words ask for, from the words of the operating system.
 use Rattle.std.proofs.Common.{◌≡◌, ◌≢◌, ◌↔◌, ◌⊎◌, ◌++◌, ◌∙◌, ℕ, Bool, true, false, inl, inr, zero}
 use Rattle.std.proofs.Common.{suc, List, [], ◌∷◌, length, map, Option, Some, None, Result, Ok, Err}
-use Rattle.std.proofs.Common.{IfOk, sym, ap, refl, append-nil, arith}
+use Rattle.std.proofs.Common.{IfOk, codes, sym, ap, refl, subst, append-nil, arith}
 use Rattle.epx_types.proofs.Common.{string_bytes, Appends, Global}
 use Rattle.std.specs.declared.io.Error.{Error}
 use Rattle.std.specs.declared.string.String.{String}
@@ -10,16 +10,20 @@ use Rattle.clap.specs.Words.{Kinds, Text, fault_of, subcommand_of, takes}
 use Rattle.epx_types.specs.declared.memory.Memory.{Memory}
 use Rattle.epx_devices.specs.Transfers.{AppendsPrefix}
 use Rattle.epx_words.specs.App.{epx_app}
-use Rattle.epx_words.specs.Requests.{ArePathsOf, AsksFor, FitFlags, FitsRows, IfText, IfWork}
-use Rattle.epx_words.specs.Requests.{IsBare, IsWork, flags_of, task_name}
+use Rattle.epx_words.specs.Requests.{ArePathsOf, AsksFor, AsksToFollow, FitFlags, FitsRows}
+use Rattle.epx_words.specs.Requests.{IfFollow, IfText, IfWork, IsBare, IsWork, flags_of}
+use Rattle.epx_words.specs.Requests.{task_name}
 use Rattle.epx_words.specs.ExitStatus.{IsTaken, IsTextStatus}
 use Rattle.epx_words.specs.Subjects.{NamesAll}
 use Rattle.epx_words.specs.SubcommandRows.{Given, IsCutOf, IsWorkersOf, name_in, rows_in}
 use Rattle.epx_names.specs.declared.task.Task.TheVariants.{Run}
 use Rattle.epx_words.specs.declared.words.Words.{Words}
-use Rattle.epx_words.specs.declared.words.Words.TheVariants.{Work, WorkWith, Text as text}
+use Rattle.epx_words.specs.declared.words.Words.TheVariants.{Work, WorkWith, Follow, Text as text}
 use Rattle.epx_program.specs.Calls.{AreTakenFor, Asks, EndsAsAsked, EndsTask, EndsWithText}
+use Rattle.epx_program.specs.Calls.{IsFollow, NamesFollow}
+use Rattle.epx_program.specs.FollowEndings.{EndsFollow}
 use Rattle.epx_program.specs.Inputs.{TextRelation}
+use Rattle.epx_program.proofs.BareWordLemmas.{bare_or_not}
 use Rattle.epx_program.proofs.OutputLemmas.{contents_unchanged}
 
 -- words are taken for only one list of texts
@@ -33,10 +37,17 @@ no_items : {A : Type 0} (xs : List A) → length xs ≡ 0 → xs ≡ []
 no_items [] none = refl
 no_items (x ∷ xs) none = absurd (omega arith)
 
--- if no word is left to read, the words read so far are all words
-pub all_taken : {A B : Type 0} (f : A → B) (came : List B) (rest : List A) → length rest ≡ 0
+all_taken : {A B : Type 0} (f : A → B) (came : List B) (rest : List A) → length rest ≡ 0
     → came ++ map f rest ≡ came
 all_taken f came rest none = ap (λ xs. came ++ map f xs) (no_items rest none) ∙ append-nil came
+
+-- if no word is left to read, the words read so far are all words
+pub words_taken : (words : Result (IntoIter (String Global) Global) Error) (texts : List Text)
+    (came rest : List (String Global))
+    → AreTakenFor words (map string_bytes came ++ map string_bytes rest) → length rest ≡ 0
+    → texts ≡ map string_bytes came → AreTakenFor words texts
+words_taken words texts came rest taken none same = subst (AreTakenFor words)
+    (all_taken string_bytes (map string_bytes came) rest none ∙ sym same) taken
 
 module _ (words : List Text) where
   abbrev given : Given
@@ -67,6 +78,7 @@ module _ (words : List Text) where
         paths = are_paths;
         parts = are_parts;
       }
+  work_fits (Follow plan paths each explain) is_task is_workers is_cut are_paths are_parts = tt
   work_fits (text said status) is_task is_workers is_cut are_paths are_parts = tt
 
   text_ends : (asked : Words)
@@ -76,6 +88,7 @@ module _ (words : List Text) where
       × IsTextStatus kinds given status) asked
   text_ends (Work task plan paths) refused ends = tt
   text_ends (WorkWith task plan paths flags) refused ends = tt
+  text_ends (Follow plan paths each explain) refused ends = tt
   text_ends (text said status) refused ends = (refused, ends)
 
   -- what is read of the words is what they ask for
@@ -92,6 +105,7 @@ module _ (words : List Text) where
       (IfWork (λ task plan paths. ArePathsOf task (rows_in given) paths)))
       → (¬ IsBare words → IfOk read
       (IfWork (λ task plan paths. FitsRows task (rows_in given))))
+      → (¬ IsBare words → IfOk read (IfFollow (AsksToFollow given)))
       → (¬ IsBare words → IfOk read
       (λ asked. IsWork asked → FitFlags (flags_of asked) (rows_in given)))
       → (¬ IsBare words → IfOk read (λ asked. IsWork asked ↔ IsTaken kinds given))
@@ -99,16 +113,39 @@ module _ (words : List Text) where
       (IfText (λ status. (takes epx_app words ≡ false) ⊎ (¬ NamesAll given))))
       → (¬ IsBare words → IfOk read (IfText (IsTextStatus kinds given)))
       → IfOk read (Asks words)
-  asks (Ok asked) bare is_task is_workers is_cut are_paths are_parts flags taken refused ends =
+  asks (Ok asked) bare is_task is_workers is_cut are_paths are_parts followed flags taken refused
+      ends =
       record {
         bare = bare;
         work = λ named. work_fits asked (is_task named) (is_workers named) (is_cut named)
             (are_paths named) (are_parts named);
+        follow = followed;
         flags = flags;
         taken = taken;
         text = λ named. text_ends asked (refused named) (ends named);
       }
-  asks (Err memory) bare is_task is_workers is_cut are_paths are_parts flags taken refused ends = tt
+  asks (Err memory) bare is_task is_workers is_cut are_paths are_parts followed flags taken refused
+      ends = tt
+
+  name_of_follow : (asked : Words) → IfFollow (AsksToFollow given) asked → IsFollow asked
+      → name_in given ≡ Some (codes "follow")
+  name_of_follow (Work task plan paths) asks follow = absurd follow
+  name_of_follow (WorkWith task plan paths flags) asks follow = absurd follow
+  name_of_follow (Follow plan paths each explain) asks follow = asks.name
+  name_of_follow (text said status) asks follow = absurd follow
+
+  -- words that ask to follow logs name the subcommand
+  pub names_follow : (args : Result (IntoIter (String Global) Global) Error)
+      → AreTakenFor args words → (read : Result Words Memory)
+      → (IsBare words → IfOk read
+      (λ asked. asked ≡ Work Run (record { workers = 4; cut = 256 }) None))
+      → (¬ IsBare words → IfOk read (IfFollow (AsksToFollow given)))
+      → IfOk read (λ asked. IsFollow asked → NamesFollow args)
+  names_follow args taken (Err memory) bare named = tt
+  names_follow args taken (Ok asked) bare named = elim (bare_or_not words) [
+    | inl is ↦ λ follow. absurd (subst IsFollow (bare is) follow)
+    | inr not ↦ λ follow. (words, taken, name_of_follow asked (named not) follow)
+  ]
 
 module _ {S : Type 0} (contents : S → Option (List ℕ)) (before after : S)
     (input : Option (List ℕ)) (Unread : Type 0) (Is : TextRelation) (status : ℕ)
@@ -133,6 +170,8 @@ module _ {S : Type 0} (contents : S → Option (List ℕ)) (before after : S)
   pub ends_as_asked : (wanted : Words)
       → IfWork (λ task plan paths. EndsTask input Unread Is (flags_of wanted).exit_code task paths
       status failed (contents before) (contents after)) wanted
+      → IfFollow (λ plan paths each explain. EndsFollow Is each paths status (contents before)
+      (contents after)) wanted
       → ((said : String Global) → wanted ≡ text said 0 → status ≡ 0
       → Appends (contents before) (contents after) (string_bytes said))
       → ((said : String Global) → wanted ≡ text said 0
@@ -140,8 +179,9 @@ module _ {S : Type 0} (contents : S → Option (List ℕ)) (before after : S)
       → IfText (λ n. n ≡ 0 → (status ≡ 0) ⊎ ((status ≡ 4) × (failed ≡ true))) wanted
       → IfText (λ n. n ≢ 0 → (status ≡ n) × (after ≡ before)) wanted
       → EndsAsAsked input Unread Is wanted status failed (contents before) (contents after)
-  ends_as_asked (Work task plan paths) work shown prefix well refused = work
-  ends_as_asked (WorkWith task plan paths flags) work shown prefix well refused = work
-  ends_as_asked (text said n) work shown prefix well refused =
+  ends_as_asked (Work task plan paths) work follow shown prefix well refused = work
+  ends_as_asked (WorkWith task plan paths flags) work follow shown prefix well refused = work
+  ends_as_asked (Follow plan paths each explain) work follow shown prefix well refused = follow
+  ends_as_asked (text said n) work follow shown prefix well refused =
       ends_with_text (string_bytes said) n (λ none. shown said (ap (text said) none))
       (λ none. prefix said (ap (text said) none)) well refused

@@ -1,7 +1,7 @@
 -- What the program's words ask for, and how the program ends.
-use Rattle.std.specs.Prelude.{◌≡◌, ◌↔◌, ◌⊎◌, ℕ, zero, suc, Bool, true, false, List, [], ◌∷◌}
+use Rattle.std.specs.Prelude.{◌≡◌, ◌↔◌, ◌⊎◌, ⊤, ℕ, zero, suc, Bool, true, false, List, [], ◌∷◌}
 use Rattle.std.specs.Prelude.{map, Option, Some, None, Result, Vec, MatchResult}
-use Rattle.std.specs.Prelude.{option_map, string_bytes}
+use Rattle.std.specs.Prelude.{codes, option_map, string_bytes}
 use Rattle.std.specs.Io.KnownBytes.{Appends, Keeps}
 use Rattle.std.specs.Vec.Iter.{into_iter_items}
 use Rattle.std.specs.declared.alloc.Global.{Global}
@@ -13,8 +13,9 @@ use Rattle.epx_types.specs.Faults.{fault_status}
 use Rattle.epx_types.specs.declared.fault.Fault.TheVariants.{Memory, Write}
 use Rattle.epx_devices.specs.Transfers.{AppendsPrefix}
 use Rattle.epx_words.specs.App.{epx_app}
-use Rattle.epx_words.specs.Requests.{AsksFor, FitFlags, IfText, IfWork, IsBare, IsWork, flags_of}
-use Rattle.epx_words.specs.SubcommandRows.{rows_in}
+use Rattle.epx_words.specs.Requests.{AsksFor, AsksToFollow, FitFlags, IfFollow, IfText, IfWork}
+use Rattle.epx_words.specs.Requests.{IsBare, IsWork, flags_of}
+use Rattle.epx_words.specs.SubcommandRows.{name_in, rows_in}
 use Rattle.epx_words.specs.Subjects.{NamesAll}
 use Rattle.epx_words.specs.ExitStatus.{IsTaken, IsTextStatus}
 use Rattle.epx_names.specs.declared.task.Task.{Task}
@@ -23,6 +24,7 @@ use Rattle.epx_words.specs.declared.words.Words.{Words}
 use Rattle.epx_words.specs.declared.words.Words.TheVariants as asked
 use Rattle.epx_program.specs.Endings.{AddsAnswer, AddsPart, EndsWith, IsAnswerStatus, IsStatus}
 use Rattle.epx_program.specs.Endings.{answer_status}
+use Rattle.epx_program.specs.FollowEndings.{EndsFollow}
 use Rattle.epx_program.specs.Inputs.{AreTextsRead, IsInputAlone, TextRelation}
 
 -- the operating system's words are these texts; words that could not be read are no texts
@@ -30,11 +32,24 @@ abbrev pub AreTakenFor : Result (IntoIter (String Global) Global) Error → List
 AreTakenFor words texts = MatchResult words
     (λ given. map string_bytes (into_iter_items given) ≡ texts) (λ _. ⊥)
 
+-- the operating system's words name the subcommand `follow`
+abbrev pub NamesFollow : Result (IntoIter (String Global) Global) Error → Type 0
+NamesFollow words = (texts : List Text) × AreTakenFor words texts
+    × (name_in (subcommand_of epx_app texts) ≡ Some (codes "follow"))
+
+-- the words ask to follow logs
+abbrev pub IsFollow : Words → Type 0
+IsFollow (asked.Work task plan paths) = ⊥
+IsFollow (asked.WorkWith task plan paths flags) = ⊥
+IsFollow (asked.Follow plan paths each explain) = ⊤
+IsFollow (asked.Text text status) = ⊥
+
 -- what the words ask for: the report of one log if they name no subcommand, otherwise what clap
 -- finds in the words
 pub record Asks (words : List Text) (wanted : Words) : Type 0 where
   pub bare : IsBare words → wanted ≡ asked.Work Run (record { workers = 4; cut = 256 }) None
   pub work : ¬ IsBare words → IfWork (AsksFor (subcommand_of epx_app words)) wanted
+  pub follow : ¬ IsBare words → IfFollow (AsksToFollow (subcommand_of epx_app words)) wanted
   pub flags : ¬ IsBare words → IsWork wanted
       → FitFlags (flags_of wanted) (rows_in (subcommand_of epx_app words))
   pub taken : ¬ IsBare words
@@ -82,6 +97,8 @@ EndsAsAsked input Unread Is (asked.Work task plan paths) status failed old new =
     EndsTask input Unread Is false task (paths_of paths) status failed old new
 EndsAsAsked input Unread Is (asked.WorkWith task plan paths flags) status failed old new =
     EndsTask input Unread Is flags.exit_code task (paths_of paths) status failed old new
+EndsAsAsked input Unread Is (asked.Follow plan paths each explain) status failed old new =
+    EndsFollow Is each (paths_of paths) status old new
 EndsAsAsked input Unread Is (asked.Text text n) status failed old new =
     EndsWithText (string_bytes text) n status failed old new
 

@@ -1,4 +1,5 @@
 pub mod Inputs
 pub mod Endings
+pub mod FollowEndings
 pub mod Calls
 pub mod inner

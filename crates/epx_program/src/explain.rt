@@ -1,4 +1,4 @@
-//! The lines that explain how a task ended.
+//! The lines that explain how a task ended, or why following stopped.
 
 use epx_advice::explain_answer;
 use epx_explain::{Inputs, explain_fault};
@@ -8,6 +8,13 @@ use std::alloc::AllocGlobal;
 use std::io::Eprint;
 use std::rt::Files;
 use std::thread::Threads;
+
+/// Writes the line that explains a fault, if there is one.
+fn print_reason<R: AllocGlobal + Eprint + Files>(rt: &R, fault: Fault, inputs: &Inputs<'_>) {
+    if let Ok(Some(line)) = explain_fault(rt, rt.alloc(), fault, inputs) {
+        let _printed = eprintln!(rt; "epx: {line}");
+    }
+}
 
 /// Writes lines to standard error that explain the fault of a task, or what its answer finds. If
 /// memory runs out or standard error cannot be written, there are no such lines.
@@ -29,10 +36,16 @@ pub(crate) fn explain<'a, R: AllocGlobal + Eprint + Files + Threads + Sync>(
                 }
             }
         }
-        Err(fault) => {
-            if let Ok(Some(line)) = explain_fault(rt, alloc, *fault, &inputs) {
-                let _printed = eprintln!(rt; "epx: {line}");
-            }
-        }
+        Err(fault) => print_reason(rt, *fault, &inputs),
     }
+}
+
+/// Writes a line to standard error that explains why following the logs at the paths stopped. If
+/// memory runs out or standard error cannot be written, there is no such line.
+pub(crate) fn explain_stop<R: AllocGlobal + Eprint + Files>(
+    rt: &R,
+    fault: Fault,
+    paths: &Option<Vec<String>>,
+) {
+    print_reason(rt, fault, &Inputs::of_task(Task::Run, paths, &[]));
 }

@@ -14,6 +14,9 @@ pub enum InputKind {
 const FROM_TERMINAL: &str =
     "epx: reading one log from this terminal, up to Ctrl-D; epx --help has the subcommands";
 
+const FOLLOWED: &str =
+    "epx: following one log from this terminal, up to Ctrl-D; a blank line ends a batch";
+
 const NOTHING: &str = "epx: no LOG is named, so no log is read; the LOG - is standard input";
 
 /// The line about what a task reads, if there is one.
@@ -25,12 +28,21 @@ fn reading_line(kind: InputKind, task: Task, paths: &Option<Vec<String>>) -> Opt
     }
 }
 
+/// The line about what is followed, if there is one.
+fn following_line(kind: InputKind, paths: &Option<Vec<String>>) -> Option<&'static str> {
+    match (kind, paths) {
+        (InputKind::Terminal, None) => Some(FOLLOWED),
+        _ => None,
+    }
+}
+
 /// Writes a line to standard error where the words ask for one log from a terminal, or for no log.
 pub(crate) fn say_what_is_read(rt: &impl Eprint, kind: InputKind, words: &Words) {
     let line = match words {
         Words::Work { task, paths, .. } | Words::WorkWith { task, paths, .. } => {
             reading_line(kind, *task, paths)
         }
+        Words::Follow { paths, .. } => following_line(kind, paths),
         Words::Text { .. } => None,
     };
     if let Some(line) = line {

@@ -1,6 +1,7 @@
 //! What the program `epx` does, as a library, so that other programs can call it too.
 #![tactic(auto)]
 
+mod do_follow;
 mod do_task;
 mod exit_report;
 mod explain;

@@ -5,11 +5,14 @@ ghost use Rattle.std.specs.IoError.{error_kind};
 ghost use Rattle.std.specs.Process.{exit_status};
 ghost use Rattle.epx_types.specs.Faults.{fault_status};
 ghost use Rattle.epx_devices.specs.Transfers.{AppendsPrefix};
-ghost use Rattle.epx_words.specs.Requests.{IfText, IfWork, flags_of};
-ghost use Rattle.epx_program.specs.Calls.{AreTakenFor, DoesAsAsked, EndsTask, paths_of};
+ghost use Rattle.epx_words.specs.Requests.{IfFollow, IfText, IfWork, flags_of};
+ghost use Rattle.epx_program.specs.Calls.{AreTakenFor, DoesAsAsked, EndsTask, IsFollow};
+ghost use Rattle.epx_program.specs.Calls.{NamesFollow, paths_of};
 ghost use Rattle.epx_program.specs.Endings.{IsAnswerStatus, IsStatus};
+ghost use Rattle.epx_program.specs.FollowEndings.{EndsFollow};
 ghost use Rattle.epx_program.specs.Inputs.{HasFailedRead, text_relation};
 
+use crate::do_follow::do_follow;
 use crate::do_task::do_task;
 use crate::exit_report::{print_text, report_fault, report_task};
 use crate::explain::explain;
@@ -96,6 +99,9 @@ where
         (text_relation O.model O.Opened.model opener.now I.model input)
         (flags_of words).exit_code task paths result (W.model.has_failed output.new)
         (W.model.contents output.old) (W.model.contents output.new)) words }
+    ensures follow { IfFollow (λ _ paths each _. EndsFollow
+        (text_relation O.model O.Opened.model opener.now I.model input) each paths result
+        (W.model.contents output.old) (W.model.contents output.new)) words }
 
     ensures shown { (text : _) → words ≡ Words.Text text 0 → result ≡ 0
         → Appends (W.model.contents output.old) (W.model.contents output.new) (string_bytes text) }
@@ -110,7 +116,9 @@ where
     ensures flushed { result ≡ 0 → W.model.is_flushed output.new ≡ true }
     ensures found { IfWork (λ _ _ _. result ≡ 5 → W.model.is_flushed output.new ≡ true) words }
     ensures failed { W.model.has_failed output.new ≡ true → result ≡ 4 }
-    ensures nothing { W.model.has_failed output.new ≡ false → ¬ IsAnswerStatus result
+    // What `follow` wrote before a fault stays.
+    ensures nothing { ¬ IsFollow words
+        → W.model.has_failed output.new ≡ false → ¬ IsAnswerStatus result
         → Keeps (W.model.contents output.old) (W.model.contents output.new) }
 {
     match words {
@@ -127,6 +135,12 @@ where
             paths,
             flags,
         } => do_work(rt, opener, flags, task, plan, paths, input, output),
+        Words::Follow {
+            plan,
+            paths,
+            each,
+            explain,
+        } => do_follow(rt, opener, plan, paths, each, explain, input, output),
         Words::Text { text, status } => print_text(rt, text.as_str(), status, output),
     }
 }
@@ -166,7 +180,9 @@ where
 
     ensures flushed { IsAnswerStatus (exit_status result) → W.model.is_flushed output.new ≡ true }
     ensures failed { W.model.has_failed output.new ≡ true → exit_status result ≡ 4 }
-    ensures nothing { W.model.has_failed output.new ≡ false → ¬ IsAnswerStatus (exit_status result)
+    // What `follow` wrote before a fault stays.
+    ensures nothing { ¬ NamesFollow words
+        → W.model.has_failed output.new ≡ false → ¬ IsAnswerStatus (exit_status result)
         → Keeps (W.model.contents output.old) (W.model.contents output.new) }
 {
     let status = match read_args(rt.alloc(), words) {

@@ -2,7 +2,7 @@
 ghost use Rattle.std.specs.Prelude.{◌≡◌, ◌≢◌, ◌⊎◌, IfErr, IfOk, IsErrOf};
 ghost use Rattle.std.specs.IoError.{error_kind};
 ghost use Rattle.epx_words.specs.Requests.{IfText, IsText};
-ghost use Rattle.epx_program.specs.Calls.{AreTakenFor, Asks};
+ghost use Rattle.epx_program.specs.Calls.{AreTakenFor, Asks, IsFollow, NamesFollow};
 
 use epx_tool::{Words, read_words};
 use epx_types::Memory;
@@ -13,7 +13,7 @@ use std::io::{self, ErrorKind};
 /// The text with status 2 for words of which one is not UTF-8. Words that cannot be read for any
 /// other reason are out of memory.
 fn refuse_words(alloc: Global, why: ErrorKind) -> Result<Words, Memory>
-    ensures no_text { why ≡ ErrorKind.InvalidData → IfOk result (IsText 2) }
+    ensures text { IfOk result (IsText 2) }
     ensures no_words { why ≢ ErrorKind.InvalidData → IsErrOf result (record {}) }
 {
     if why != ErrorKind::InvalidData {
@@ -26,6 +26,7 @@ fn refuse_words(alloc: Global, why: ErrorKind) -> Result<Words, Memory>
 /// What the words ask for. If a word is not UTF-8, it is a text with status 2.
 pub(crate) fn read_args(alloc: Global, words: io::Result<Args>) -> Result<Words, Memory>
     ensures read_args { (texts : _) → AreTakenFor words texts → IfOk result (Asks texts) }
+    ensures follow { IfOk result (λ wanted. IsFollow wanted → NamesFollow words) }
     ensures status { IfOk result (IfText (λ status. (status ≡ 0) ⊎ (status ≡ 2))) }
     ensures no_text { IfErr words (λ error. error_kind error ≡ ErrorKind.InvalidData
         → IfOk result (IsText 2)) }

@@ -1,5 +1,5 @@
--- Words in which clap finds no fault name a task, with both numbers in their ranges and with its
--- required first argument.
+-- Words in which clap finds no fault name a subcommand that asks for work, with both numbers in
+-- their ranges and with its required first argument.
 use Rattle.std.proofs.Common.{◌≡◌, ◌∙◌, Bool, true, false, codes, List, [], ◌∷◌, Option, Some, None}
 use Rattle.std.proofs.Common.{refl, sym, subst, inl, inr, is_some, true≢false}
 use Rattle.epx_types.proofs.Common.{bytes_eq-Decides, AllByRecursion, bytes_eq}
@@ -10,14 +10,17 @@ use Rattle.clap.specs.Simple.{is_simple, marked_built, names_of, subcommand_of, 
 use Rattle.clap.specs.Walk.{Row, Text, finished, nothing_held, rows_after, settled, stop_after}
 use Rattle.clap.specs.Walk.{walk, walk_from}
 use Rattle.clap.proofs.OnLiterals.{clap_on_literals}
-use Rattle.epx_words.specs.App.{base_app, epx_app, finding_app, list_app, trace_app, why_app}
-use Rattle.epx_words.specs.App.{work_app}
-use Rattle.epx_words.specs.SubcommandRows.{AsksForWork, IsOneOf, IsTaskName, NeedsFirst}
+use Rattle.epx_words.specs.App.{base_app, epx_app, finding_app, follow_app, list_app, trace_app}
+use Rattle.epx_words.specs.App.{why_app, work_app}
+use Rattle.epx_words.specs.SubcommandRows.{AsksForWork, IsOneOf, IsTaskName, IsWorkName, NeedsFirst}
+use Rattle.epx_words.specs.SubcommandRows.{task_names}
+use Rattle.epx_words.proofs.AbsentRowLemmas.{no_flag}
 use Rattle.epx_words.proofs.KindLemmas.{none_after, none_first}
-use Rattle.epx_words.proofs.TaskLemmas.{IsKnownName, StopsAtTask, walk_task}
+use Rattle.epx_words.proofs.StopLemmas.{IsKnownName, StopsAtWork, walk_work}
 use Rattle.epx_words.proofs.SoundArgumentLemmas.{HasNumbers, IsFirstThere, code_to_first}
 use Rattle.epx_words.proofs.SoundArgumentLemmas.{code_to_first_keep, code_to_logs}
-use Rattle.epx_words.proofs.SoundArgumentLemmas.{code_to_logs_keep, first_has_row, level_numbers}
+use Rattle.epx_words.proofs.SoundArgumentLemmas.{code_to_logs_keep, each_to_logs, each_to_logs_keep}
+use Rattle.epx_words.proofs.SoundArgumentLemmas.{first_has_row, level_numbers}
 use Rattle.epx_words.proofs.SoundArgumentLemmas.{prefix_to_first, prefix_to_first_keep}
 use Rattle.epx_words.proofs.SoundArgumentLemmas.{reaches_to_first, reaches_to_first_keep}
 use Rattle.epx_words.proofs.SoundArgumentLemmas.{reads_to_first, reads_to_first_keep}
@@ -77,6 +80,11 @@ module _ (name : Text) (rest : List Text) where
       level_numbers (leaf_of (trace_app name)) reads_to_first refl refl reads_to_first_keep rest
       none
 
+  follow_numbers : IsFaultless (leaf_of (follow_app name)) rest
+      → HasNumbers (rows_after (leaf_of (follow_app name)).rules [] rest)
+  follow_numbers none =
+      level_numbers (leaf_of (follow_app name)) each_to_logs refl refl each_to_logs_keep rest none
+
 -- no required argument is missing where a level has no fault
 nothing_missing : (shape : Shape) (rest : List Text)
     → level_fault shape [] nothing_held rest false [] ≡ []
@@ -88,29 +96,43 @@ nothing_missing shape rest none =
     let defaults = defaults_fault (settled shape.rules end).rows shape.rules in
     none_after defaults _ (none_after settles _ (none_after walked _ none))
 
--- a subcommand asks for work if it has both numbers and, where it needs one, a first argument
-module _ (shape : Shape) (name : Text) (rest : List Text) (is : IsTaskName name)
-    (numbers : HasNumbers (rows_after shape.rules [] rest)) where
-  logs_work : ¬ NeedsFirst name → AsksForWork (Some (name, rows_after shape.rules [] rest))
-  logs_work no_first = (is, numbers.workers, numbers.cut, λ has. absurd (no_first has))
-
-  first_work : (check_fault shape (rows_after shape.rules [] rest) false ≡ []
-      → IsFirstThere (rows_after shape.rules [] rest)) → IsFaultless shape rest
-      → AsksForWork (Some (name, rows_after shape.rules [] rest))
-  first_work there none = (
-    is,
-    numbers.workers,
-    numbers.cut,
-    λ has. first_has_row (rows_after shape.rules [] rest) (there (nothing_missing shape rest none))
-        numbers.sound,
-  )
-
 not_one_of : (name : Text) (texts : List Text)
     → AllByRecursion (λ t. bytes_eq name t ≡ false) texts → ¬ IsOneOf name texts
 not_one_of name [] differ is = is
 not_one_of name (t ∷ ts) differ (inl is) =
     true≢false (sym ((bytes_eq-Decides name t).1 is) ∙ differ.0)
 not_one_of name (t ∷ ts) differ (inr later) = not_one_of name ts differ.1 later
+
+-- the subcommand `follow` is no task
+no_follow : (name : Text) → IsTaskName name → ¬ (name ≡ codes "follow")
+no_follow name is e = not_one_of (codes "follow") task_names
+    (refl, (refl, (refl, (refl, (refl, (refl, (refl, (refl, (refl, (refl, tt))))))))))
+    (subst IsTaskName e is)
+
+-- the subcommand of a task asks for work if it has both numbers and, where it needs one, a first
+-- argument
+module _ (shape : Shape) (name : Text) (rest : List Text) (is : IsTaskName name)
+    (numbers : HasNumbers (rows_after shape.rules [] rest)) where
+  logs_work : ¬ NeedsFirst name → AsksForWork (Some (name, rows_after shape.rules [] rest))
+  logs_work no_first = (
+    inl is,
+    numbers.workers,
+    numbers.cut,
+    λ has. absurd (no_first has),
+    λ e. absurd (no_follow name is e),
+  )
+
+  first_work : (check_fault shape (rows_after shape.rules [] rest) false ≡ []
+      → IsFirstThere (rows_after shape.rules [] rest)) → IsFaultless shape rest
+      → AsksForWork (Some (name, rows_after shape.rules [] rest))
+  first_work there none = (
+    inl is,
+    numbers.workers,
+    numbers.cut,
+    λ has. first_has_row (rows_after shape.rules [] rest) (there (nothing_missing shape rest none))
+        numbers.sound,
+    λ e. absurd (no_follow name is e),
+  )
 
 -- a name that equals a known one asks for work if the known one does
 named : (name known : Text) (rest : List Text) → name ≡ known
@@ -173,6 +195,21 @@ module _ (rest : List Text) where
   over_findings name is differ none = logs_work (leaf_of (finding_app name)) name rest is
       (finding_numbers name rest none) (no_first name differ)
 
+  abbrev follow_leaf : Shape
+  follow_leaf = leaf_of (follow_app (codes "follow"))
+
+  over_stream : IsFaultless follow_leaf rest
+      → AsksForWork (Some (codes "follow", rows_after follow_leaf.rules [] rest))
+  over_stream none =
+      let numbers = follow_numbers (codes "follow") rest none in (
+        inr refl,
+        numbers.workers,
+        numbers.cut,
+        λ has. absurd (no_first (codes "follow") (refl, (refl, (refl, (refl, tt)))) has),
+        λ e. no_flag (codes "exit-code") follow_leaf
+            (refl, (refl, (refl, (refl, (refl, (refl, tt)))))) rest none,
+      )
+
 task_works : (name : Text) (rest : List Text) → IsTaskName name
     → entered_fault app (Some (name, rest)) ≡ [] → AsksForWork (entered app (Some (name, rest)))
 task_works name rest (inl is) = named name (codes "run") rest is
@@ -205,26 +242,37 @@ task_works name rest (inr (inr (inr (inr (inr (inr (inr (inr (inr (inl is)))))))
     (trace_numbers (codes "trace") rest none) (λ e. e) none)
 task_works name rest (inr (inr (inr (inr (inr (inr (inr (inr (inr (inr none)))))))))) = absurd none
 
-stop_works : (stop : Option (Text × List Text)) → StopsAtTask stop
+name_works : (name : Text) (rest : List Text) → IsWorkName name
+    → entered_fault app (Some (name, rest)) ≡ [] → AsksForWork (entered app (Some (name, rest)))
+name_works name rest (inl is) = task_works name rest is
+name_works name rest (inr is) = named name (codes "follow") rest is (over_stream rest)
+
+stop_works : (stop : Option (Text × List Text)) → StopsAtWork stop
     → is_some (entered app stop) ≡ true → entered_fault app stop ≡ []
     → AsksForWork (entered app stop)
-stop_works None task there none = cc
-stop_works (Some p) task there none = task_works p.0 p.1 task none
+stop_works None work there none = cc
+stop_works (Some p) work there none = name_works p.0 p.1 work none
 
 known : AllByRecursion (λ (l : Text × List Text). IsKnownName l.0) (names_of app)
 known = (
-  inl is_run,
+  inl (inl is_run),
   (
-    inl is_order,
+    inl (inl is_order),
     (
-      inl is_levels,
+      inl (inl is_levels),
       (
-        inl is_graph,
+        inl (inl is_graph),
         (
-          inl is_resume,
+          inl (inl is_resume),
           (
-            inl is_audit,
-            (inl is_check, (inl is_compare, (inl is_why, (inl is_trace, (inr refl, tt))))),
+            inl (inl is_audit),
+            (
+              inl (inl is_check),
+              (
+                inl (inl is_compare),
+                (inl (inl is_why), (inl (inl is_trace), (inl (inr refl), (inr refl, tt)))),
+              ),
+            ),
           ),
         ),
       ),
@@ -249,7 +297,7 @@ asks_for_work words none =
     let defaults = defaults_fault (settled app.top.rules end).rows app.top.rules in
     let past_walk = none_after walked _ none in
     let last = none_after defaults _ (none_after settles _ (none_after below _ past_walk)) in
-    stop_works stop (walk_task app.top (names_of app) refl known (walk_from nothing_held) given
+    stop_works stop (walk_work app.top (names_of app) refl known (walk_from nothing_held) given
     (none_first walked _ none) tt)
     (subcommand_there (finished app.top.rules end) (is_some (entered app stop)) last)
     (none_first below _ past_walk)

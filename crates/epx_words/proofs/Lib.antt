@@ -1,10 +1,11 @@
 mod CommandLemmas
 mod KindLemmas
+mod KeptRowLemmas
 mod SoundRowLemmas
 mod SubjectLemmas
-mod SoundWalkLemmas
+mod AbsentRowLemmas
 mod SoundArgumentLemmas
-mod TaskLemmas
+mod StopLemmas
 mod FaultLemmas
 mod WorkLemmas
 mod NumberLemmas

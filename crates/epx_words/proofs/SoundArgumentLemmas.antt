@@ -4,13 +4,13 @@ use Rattle.std.proofs.Common.{◌≡◌, ◌==◌, ◌||◌, ℕ, Bool, cond, tr
 use Rattle.std.proofs.Common.{◌∷◌, ◌∙◌, length, refl, sym, subst, true≢false, eqb-true, arith}
 use Rattle.epx_types.proofs.Common.{AllByRecursion, fold, IsSome, bytes_eq}
 use Rattle.clap.specs.Kinds.{range_kinds, value_kinds}
-use Rattle.clap.specs.Faults.{action_fault, level_fault, repeat_fault, settle_fault, walk_fault}
+use Rattle.clap.specs.Faults.{action_fault, level_fault, repeat_fault}
 use Rattle.clap.specs.Simple.{Shape, filled, help_rule, with_index}
 use Rattle.clap.specs.Takes.{is_given}
 use Rattle.clap.specs.ValueTests.{is_unsigned_in}
 use Rattle.clap.specs.Values.{IsUnsignedIn}
 use Rattle.clap.specs.Walk.{Row, Rule, Text, has_row, nothing_held, one_of, rows_after, settled}
-use Rattle.clap.specs.Walk.{values_or_missing, used, walk, walk_from, with_default, without}
+use Rattle.clap.specs.Walk.{values_or_missing, used, walk, with_default, without}
 use Rattle.clap.specs.declared.builder.action.ArgAction.TheVariants.{Set}
 use Rattle.clap.specs.declared.builder.value_parser.Reading.TheVariants.{AsWritten}
 use Rattle.clap.specs.declared.builder.value_parser.ValueParser.TheVariants.{Unsigned}
@@ -26,8 +26,8 @@ use Rattle.epx_words.specs.SubcommandRows.{IsNumberUpTo, first_in}
 use Rattle.epx_words.proofs.KindLemmas.{none_after, none_first}
 use Rattle.epx_words.proofs.SoundRowLemmas.{AreSound, IsSoundRow, first_read, default_has_row}
 use Rattle.epx_words.proofs.SoundRowLemmas.{default_keeps_row, default_sound, new_row, no_default}
-use Rattle.epx_words.proofs.SoundRowLemmas.{number_read, values_sound, without_sound}
-use Rattle.epx_words.proofs.SoundWalkLemmas.{KeepsSound, settled_sound, walk_sound}
+use Rattle.epx_words.proofs.SoundRowLemmas.{number_read, values_sound}
+use Rattle.epx_words.proofs.KeptRowLemmas.{KeepsRows, level_kept, without_kept}
 
 -- the arguments of a subcommand, as clap fills them in
 abbrev workers_leaf : Rule
@@ -75,6 +75,13 @@ reaches_to_first = reaches_leaf ∷ to_first
 abbrev pub reads_to_first : List Rule
 reads_to_first = flag_leaf (codes "reads") ∷ to_first
 
+abbrev pub each_to_logs : List Rule
+each_to_logs = flag_leaf (codes "each") ∷ to_logs
+
+-- each use of the argument keeps the rows sound
+abbrev KeepsSound : Bool → Rule → Type 0
+KeepsSound = KeepsRows IsSoundRow
+
 -- ---- a number
 
 one_value : (n : ℕ) → range_kinds 1 1 n ≡ [] → n ≡ 1
@@ -118,7 +125,7 @@ module _ (name default : Text) (most : ℕ) (fits : FitsRow name most) (again : 
       let value = none_first (value_kinds false (Unsigned 1 most) v) []
       (none_after (repeat_fault again name rows) _ none) in
       values_sound name AsWritten CommandLine (v ∷ []) (without name rows)
-      (fits CommandLine v (passed most v value)) (without_sound name rows ok)
+      (fits CommandLine v (passed most v value)) (without_kept IsSoundRow name rows ok)
 
   number_keeps : KeepsSound again leaf
   number_keeps values rows none ok =
@@ -144,7 +151,7 @@ first_kept (v ∷ w ∷ vs) rows one ok = absurd (omega arith)
 first_kept (v ∷ []) rows one ok =
     values_sound (codes "first") AsWritten CommandLine (v ∷ []) (without (codes "first") rows)
     (λ e. absurd (true≢false (sym e)), λ e. absurd (true≢false (sym e)), λ e. tt)
-    (without_sound (codes "first") rows ok)
+    (without_kept IsSoundRow (codes "first") rows ok)
 
 first_keeps : (again : Bool) → KeepsSound again first_leaf
 first_keeps again values rows none ok =
@@ -171,7 +178,7 @@ module _ (name : Text) (no_workers : bytes_eq name (codes "workers") ≡ false)
   flag_keeps again values rows none ok =
       values_sound name AsWritten CommandLine (values_or_missing (flag_leaf name) values)
       (without name rows) (other_sound CommandLine (values_or_missing (flag_leaf name) values))
-      (without_sound name rows ok)
+      (without_kept IsSoundRow name rows ok)
 
   flag_default_keeps : DefaultKeeps (flag_leaf name)
   flag_default_keeps rows ok = default_sound (flag_leaf name) (codes "false") [] rows refl
@@ -183,7 +190,7 @@ reaches_keeps again values rows none ok =
     (without (codes "reaches") rows)
     (other_sound (codes "reaches") refl refl refl CommandLine
     (values_or_missing reaches_leaf values))
-    (without_sound (codes "reaches") rows ok)
+    (without_kept IsSoundRow (codes "reaches") rows ok)
 
 help_keeps : (again : Bool) → KeepsSound again (filled help_rule)
 help_keeps again values rows none ok = ok
@@ -234,6 +241,9 @@ reaches_to_first_keep =
 
 pub reads_to_first_keep : AllByRecursion Keeps reads_to_first
 reads_to_first_keep = (flag_is_kept (codes "reads") refl refl refl, to_first_keep)
+
+pub each_to_logs_keep : AllByRecursion Keeps each_to_logs
+each_to_logs_keep = (flag_is_kept (codes "each") refl refl refl, to_logs_keep)
 
 uses_keep : (rules : List Rule) → AllByRecursion Keeps rules
     → AllByRecursion (KeepsSound true) rules
@@ -304,14 +314,11 @@ pub level_numbers : (s : Shape) (rest : List Rule) → s.rules ≡ numbers_and r
     → level_fault s [] nothing_held words false [] ≡ [] → HasNumbers (rows_after s.rules [] words)
 level_numbers s rest are again keep words none =
     let end = (walk s.rules [] nothing_held words).held in
-    let walked = walk_fault s [] (walk_from nothing_held) words in
     let keeps = subst (λ b. AllByRecursion (KeepsSound b) s.rules) (sym again)
     (subst (AllByRecursion (KeepsSound true)) (sym are) (numbers_and_keep rest keep)) in
-    let sound = settled_sound s keeps end
-    (none_first (settle_fault s.rules s.args_override_self end) _ (none_after walked _ none))
-    (walk_sound s keeps [] (walk_from nothing_held) words (none_first walked _ none) tt) in
     subst (λ rules. HasNumbers (fold with_default (settled s.rules end).rows rules)) (sym are)
-    (numbers_have_rows rest keep (settled s.rules end).rows sound)
+    (numbers_have_rows rest keep (settled s.rules end).rows
+    (level_kept IsSoundRow s keeps words none))
 
 required_given : (given : Bool) → cond (not given || false) (MissingRequiredArgument ∷ []) [] ≡ []
     → given ≡ true

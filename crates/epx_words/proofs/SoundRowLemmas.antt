@@ -9,12 +9,13 @@ use Rattle.clap.specs.Facts.{explicit_source}
 use Rattle.clap.specs.Takes.{is_given}
 use Rattle.clap.specs.Values.{IsUnsignedIn, read_as}
 use Rattle.clap.specs.Walk.{Row, Rule, Text, at_row, default_rows, has_row, more_values}
-use Rattle.clap.specs.Walk.{reading_by, row_text, one_of, with_default, with_values, without}
+use Rattle.clap.specs.Walk.{reading_by, row_text, one_of, with_default, with_values}
 use Rattle.clap.specs.declared.builder.value_parser.Reading.{Reading}
 use Rattle.clap.specs.declared.builder.value_parser.Reading.TheVariants.{AsWritten}
 use Rattle.clap.specs.declared.parser.matches.ValueSource.{ValueSource}
 use Rattle.clap.specs.declared.parser.matches.ValueSource.TheVariants.{DefaultValue}
 use Rattle.epx_words.specs.SubcommandRows.{IsNumberUpTo, first_in}
+use Rattle.epx_words.proofs.KeptRowLemmas.{at_row_kept}
 
 abbrev pub IsFirstNumber : ℕ → List Text → Type 0
 IsFirstNumber most [] = ⊥
@@ -36,25 +37,6 @@ IsSoundRow r =
 
 abbrev pub AreSound : List Row → Type 0
 AreSound rows = AllByRecursion IsSoundRow rows
-
-append_sound : (xs ys : List Row) → AreSound xs → AreSound ys → AreSound (xs ++ ys)
-append_sound [] ys a b = b
-append_sound (x ∷ xs) ys a b = (a.0, append_sound xs ys a.1 b)
-
-at_row_sound : (id : Text) (change : Row → List Row) (missing rows : List Row)
-    → ((r : Row) → IsSoundRow r → AreSound (change r)) → AreSound missing → AreSound rows
-    → AreSound (at_row id change missing rows)
-at_row_sound id change missing [] f m h = m
-at_row_sound id change missing (r ∷ rs) f m h =
-    go (bytes_eq r.id id) (at_row_sound id change missing rs f m h.1)
-  where
-    go : (b : Bool) → AreSound (at_row id change missing rs)
-        → AreSound (cond b (change r ++ rs) (r ∷ at_row id change missing rs))
-    go true rest = append_sound (change r) rs (f r h.0) h.1
-    go false rest = (h.0, rest)
-
-pub without_sound : (id : Text) (rows : List Row) → AreSound rows → AreSound (without id rows)
-without_sound id rows h = at_row_sound id (λ _. []) [] rows (λ r s. tt) tt h
 
 first_more : (most : ℕ) (vs ws : List Text) → IsFirstNumber most vs → IsFirstNumber most (vs ++ ws)
 first_more most [] ws h = absurd h
@@ -84,7 +66,7 @@ pub values_sound : (id : Text) (how : Reading) (s : ValueSource) (values : List 
     (rows : List Row) → IsSoundRow (new_row id how s values) → AreSound rows
     → AreSound (with_values id how s values rows)
 values_sound id how s values rows new h =
-    at_row_sound id (more_values s values) (new_row id how s values ∷ []) rows
+    at_row_kept IsSoundRow id (more_values s values) (new_row id how s values ∷ []) rows
     (more_sound s values) (new, tt) h
 
 -- an argument whose default is in range keeps the rows sound, whether or not it was used

@@ -7,10 +7,10 @@ use Rattle.std.specs.Option.{IfSome}
 use Rattle.clap.specs.Words.{App, Kinds, Row, Text, is_simple, subcommand_of}
 use Rattle.epx_words.specs.App.{epx_app}
 use Rattle.epx_words.specs.ExitStatus.{IsTaken}
-use Rattle.epx_words.specs.Requests.{AsksFor, FitFlags, FitsRows, IfText, IfWork}
-use Rattle.epx_words.specs.Requests.{IsMeaningOf, IsText, IsWork, flags_of, task_name}
+use Rattle.epx_words.specs.Requests.{AsksFor, AsksToFollow, FitFlags, FitsRows, IfFollow, IfText}
+use Rattle.epx_words.specs.Requests.{IfWork, IsMeaningOf, IsText, IsWork, flags_of, task_name}
 use Rattle.epx_words.specs.Subjects.{IsIdName, IsNameOf, NameIds, NamesAll, NamesLogs, NamesSubject}
-use Rattle.epx_words.specs.SubcommandRows.{Given, first_in, rows_in}
+use Rattle.epx_words.specs.SubcommandRows.{Given, HasFlag, first_in, name_in, rows_in}
 use Rattle.epx_names.specs.declared.task.Task.{Task}
 use Rattle.epx_names.specs.declared.task.Task.TheVariants as task
 use Rattle.epx_words.specs.declared.words.Words.{Words}
@@ -74,6 +74,13 @@ names_subject : (given : Given) (t : Task) (plan : PlanNumbers) (paths : Option 
 names_subject None t plan paths asks = tt
 names_subject (Some p) t plan paths asks = subject_of t p asks.task asks.parts
 
+-- the subcommand `follow` is about neither, and has no status of its own
+follow_names_all : (given : Given) → name_in given ≡ Some (codes "follow")
+    → ¬ HasFlag (codes "exit-code") (rows_in given) → NamesAll given
+follow_names_all None is no_code = (tt, λ has. absurd (no_code has))
+follow_names_all (Some p) is no_code =
+    (no_subject p (codes "follow") is refl refl, λ has. absurd (no_code has))
+
 -- ---- the words as they are read
 
 pub is_taken : (kinds : Kinds) (given : Given) (asked : Words) → kinds ≡ []
@@ -84,6 +91,10 @@ is_taken kinds given (words.Work t plan paths) none means = (
 )
 is_taken kinds given (words.WorkWith t plan paths flags) none means = (
   λ work. (none, (names_subject given t plan _ means.0, means.2)),
+  λ taken. tt,
+)
+is_taken kinds given (words.Follow plan paths each explain) none means = (
+  λ work. (none, follow_names_all given means.0.name means.1),
   λ taken. tt,
 )
 is_taken kinds given (words.Text text status) none means = (
@@ -107,18 +118,30 @@ module _ (given : Given) where
       → P t plan paths) → (asked : Words) → IsMeaningOf given asked → IfWork P asked
   has_part P part (words.Work t plan paths) means = part t plan _ means.0
   has_part P part (words.WorkWith t plan paths flags) means = part t plan _ means.0
+  has_part P part (words.Follow plan paths each explain) means = tt
   has_part P part (words.Text text status) means = tt
 
   pub has_flags : (asked : Words) → IsMeaningOf given asked → IsWork asked
       → FitFlags (flags_of asked) (rows_in given)
   has_flags (words.Work t plan paths) means work = means.1
   has_flags (words.WorkWith t plan paths flags) means work = means.1
+  has_flags (words.Follow plan paths each explain) means work = record {
+    exit_code = (λ e. absurd (true≢false (sym e)), λ has. absurd (means.1 has));
+    explain = means.0.explain;
+  }
   has_flags (words.Text text status) means work = absurd work
+
+  pub is_followed : (asked : Words) → IsMeaningOf given asked → IfFollow (AsksToFollow given) asked
+  is_followed (words.Work t plan paths) means = tt
+  is_followed (words.WorkWith t plan paths flags) means = tt
+  is_followed (words.Follow plan paths each explain) means = means.0
+  is_followed (words.Text text status) means = tt
 
   pub not_all_named : (asked : Words) → IsMeaningOf given asked
       → IfText (λ status. (¬ NamesAll given) × (status ≡ 2)) asked
   not_all_named (words.Work t plan paths) means = tt
   not_all_named (words.WorkWith t plan paths flags) means = tt
+  not_all_named (words.Follow plan paths each explain) means = tt
   not_all_named (words.Text text status) means = means
 
 -- a refusal of words that ask for a status and name no log
@@ -127,6 +150,7 @@ pub no_log_named : (given : Given) (rows : List Row) (named : Bool) (asked : Wor
     → IsMeaningOf given asked
 no_log_named given rows named (words.Work t plan paths) are means none is = absurd is
 no_log_named given rows named (words.WorkWith t plan paths flags) are means none is = absurd is
+no_log_named given rows named (words.Follow plan paths each explain) are means none is = absurd is
 no_log_named given rows named (words.Text text status) are means none is =
     (λ all. true≢false (sym (means.1 (subst NamesLogs are all.1)) ∙ none), is)
 
@@ -135,4 +159,5 @@ pub text_weaker : (P Q : ℕ → Type 0) (asked : Words) → ((status : ℕ) →
     → IfText P asked → IfText Q asked
 text_weaker P Q (words.Work t plan paths) weaker h = tt
 text_weaker P Q (words.WorkWith t plan paths flags) weaker h = tt
+text_weaker P Q (words.Follow plan paths each explain) weaker h = tt
 text_weaker P Q (words.Text text status) weaker h = weaker status h

@@ -86,6 +86,10 @@ trace_app name =
     with_rule (with_rule (with_rule (numbers_app name) (flag_rule (codes "reads"))) first_rule)
     logs_rule
 
+-- the subcommand that executes logs as they come
+abbrev pub follow_app : Text → App
+follow_app name = with_rule (with_rule (numbers_app name) (flag_rule (codes "each"))) logs_rule
+
 -- the program without its subcommands; of an option that is given twice the last counts
 abbrev pub epx_top : App
 epx_top = on_top
@@ -116,5 +120,6 @@ checks_app =
 -- the program with all subcommands
 abbrev pub epx_app : App
 epx_app =
-    with_subcommand (with_subcommand checks_app (why_app (codes "why")).top)
-    (trace_app (codes "trace")).top
+    with_subcommand
+    (with_subcommand (with_subcommand checks_app (why_app (codes "why")).top)
+    (trace_app (codes "trace")).top) (follow_app (codes "follow")).top

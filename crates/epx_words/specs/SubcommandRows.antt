@@ -35,6 +35,15 @@ IsCutOf rows n = IsNumberOf (one_of (codes "cut") rows) n
 abbrev pub logs_in : List Row → List Text
 logs_in rows = unwrap_or (all_of (codes "logs") rows) []
 
+-- the texts, or None if there are none
+abbrev pub some_texts : List Text → Option (List Text)
+some_texts [] = None
+some_texts (t ∷ ts) = Some (t ∷ ts)
+
+-- the paths of the logs, or None if no log is named
+abbrev pub some_logs_in : List Row → Option (List Text)
+some_logs_in rows = some_texts (logs_in rows)
+
 -- the path of the argument before the logs, if there is one
 abbrev pub first_in : List Row → Option Text
 first_in rows = first_of (codes "first") rows
@@ -57,11 +66,17 @@ abbrev pub IsOneOf : Text → List Text → Type 0
 IsOneOf text [] = ⊥
 IsOneOf text (t ∷ ts) = (text ≡ t) ⊎ IsOneOf text ts
 
--- the name of a subcommand that asks for work
+-- the names of the subcommands of tasks
+abbrev pub task_names : List Text
+task_names = codes "run" ∷ codes "order" ∷ codes "levels" ∷ codes "graph" ∷ codes "resume"
+    ∷ codes "audit" ∷ codes "check" ∷ codes "compare" ∷ codes "why" ∷ codes "trace" ∷ []
+
 abbrev pub IsTaskName : Text → Type 0
-IsTaskName name = IsOneOf name (codes "run" ∷ codes "order" ∷ codes "levels" ∷ codes "graph"
-    ∷ codes "resume" ∷ codes "audit" ∷ codes "check" ∷ codes "compare" ∷ codes "why"
-    ∷ codes "trace" ∷ [])
+IsTaskName name = IsOneOf name task_names
+
+-- the name of a subcommand that asks for work: that of a task, or `follow`
+abbrev pub IsWorkName : Text → Type 0
+IsWorkName name = IsTaskName name ⊎ (name ≡ codes "follow")
 
 -- the name of a subcommand with an argument before the logs: a base, a list, the name of an
 -- instance, or a key
@@ -69,10 +84,11 @@ abbrev pub NeedsFirst : Text → Type 0
 NeedsFirst name =
     IsOneOf name (codes "resume" ∷ codes "check" ∷ codes "why" ∷ codes "trace" ∷ [])
 
--- a subcommand that asks for work, with both numbers in their ranges and with its required first
--- argument
+-- a subcommand that asks for work, a task or `follow`, with both numbers in their ranges and with
+-- its required first argument; `follow` has no `--exit-code`
 abbrev pub AsksForWork : Given → Type 0
 AsksForWork None = ⊥
 AsksForWork (Some p) =
-    IsTaskName p.0 × IsNumberUpTo 64 (one_of (codes "workers") p.1)
+    IsWorkName p.0 × IsNumberUpTo 64 (one_of (codes "workers") p.1)
     × IsNumberUpTo 65536 (one_of (codes "cut") p.1) × (NeedsFirst p.0 → IsSome (first_in p.1))
+    × (p.0 ≡ codes "follow" → ¬ HasFlag (codes "exit-code") p.1)

@@ -2,9 +2,9 @@
 ghost use Rattle.std.specs.Prelude.{◌≡◌, IfOk, codes};
 ghost use Rattle.clap.specs.Words.{app_of, new_app, rule_of};
 ghost use Rattle.epx_words.specs.App.{base_app, checks_app, epx_app, epx_top, finding_app};
-ghost use Rattle.epx_words.specs.App.{first_rule, flag_rule, list_app, logs_rule, number_rule};
-ghost use Rattle.epx_words.specs.App.{numbers_app, reaches_rule, runs_app, trace_app, why_app};
-ghost use Rattle.epx_words.specs.App.{work_app};
+ghost use Rattle.epx_words.specs.App.{first_rule, flag_rule, follow_app, list_app, logs_rule};
+ghost use Rattle.epx_words.specs.App.{number_rule, numbers_app, reaches_rule, runs_app, trace_app};
+ghost use Rattle.epx_words.specs.App.{why_app, work_app};
 
 use clap::builder::ValueParser;
 use clap::{Arg, ArgAction, Command};
@@ -45,8 +45,8 @@ const EPX: &str = "Executes the committed instances of EPaxos from their logs";
 const EPX_AFTER: &str =
     "A LOG has one instance a line; it is committed unless its status says otherwise:
   {\"r\":0,\"i\":0,\"seq\":1,\"deps\":[],\"ops\":[[\"put\",\"a\",5],[\"get\",\"a\"]]}
-The LOG - is standard input, which epx alone reads too; without a LOG there are
-none. Faults count the logs from 0, and their lines from 1. Example:
+The LOG - is standard input. Without a LOG epx alone and epx follow read it, and
+others read nothing. Faults count logs from 0, and their lines from 1. Example:
   epx run examples/replicas/*.jsonl";
 
 const RUN: Help = Help {
@@ -229,6 +229,31 @@ Example:
   epx trace alice examples/replicas/*.jsonl",
 };
 
+const FOLLOW: Help = Help {
+    about: "Executes logs as they come, and prints the replies batch by batch",
+    long_about: "Reads the lines of the logs as they come, executes what they commit, and prints
+the replies batch by batch. A blank line ends a batch, and so does the end of
+the last log; with --each every line is a batch. At the end it prints which
+instances wait, and the final store.",
+    after: "Example:
+  tail -f examples/replicas/0.jsonl | epx follow --each",
+    long_after: "The logs are read one after another. Without a LOG standard input is read, as
+with the LOG -. What comes out after each batch is a line of counts, and a line
+for each instance that is executed now, in execution order:
+
+  [\"came\",N,\"executed\",E,\"waiting\",W]   N of its instances are new; of all that
+                                        came, E are executed now and W wait
+  [\"reply\",r,i,\"ok\",[..]]               E such lines, as in a report
+
+At the end come the last lines of a report:
+
+  [\"waiting\",r,i,mr,mi]   it waits for the least missing one that it reaches
+  [\"store\",k,v]           the value of a key in the final store
+
+Example:
+  tail -f examples/replicas/0.jsonl | epx follow --each",
+};
+
 /// What `--exit-code` asks of a subcommand that executes or orders instances.
 const IF_WAITING: &str = "Exits with status 5 if an instance waits";
 
@@ -396,6 +421,16 @@ fn trace<'a>(alloc: Global) -> Result<Command<'a>, AllocError>
     trace.arg(key)?.arg(logs(alloc))
 }
 
+/// The subcommand `follow`, whose arguments are logs.
+fn follow<'a>(alloc: Global) -> Result<Command<'a>, AllocError>
+    ensures { IfOk result (λ c. app_of c ≡ follow_app (codes "follow")) }
+{
+    let each = flag(alloc, "each", "Makes every line a batch");
+    subcommand(alloc, "follow", FOLLOW)?
+        .arg(each)?
+        .arg(logs(alloc))
+}
+
 /// The program without its subcommands. Its usage line has the subcommand as optional: `epx` with
 /// no arguments reads one log from standard input. Of an option that is given twice the last
 /// counts, so that words override those of an alias.
@@ -426,7 +461,7 @@ fn with_runs<'a>(alloc: Global) -> Result<Command<'a>, AllocError>
         .subcommand(graph)
 }
 
-/// The program with all subcommands but `why` and `trace`.
+/// The program with all subcommands but `why`, `trace` and `follow`.
 fn with_checks<'a>(alloc: Global) -> Result<Command<'a>, AllocError>
     ensures { IfOk result (λ c. app_of c ≡ checks_app) }
 {
@@ -447,5 +482,9 @@ pub(crate) fn command<'a>(alloc: Global) -> Result<Command<'a>, AllocError>
 {
     let why = why(alloc)?;
     let trace = trace(alloc)?;
-    with_checks(alloc)?.subcommand(why)?.subcommand(trace)
+    let follow = follow(alloc)?;
+    with_checks(alloc)?
+        .subcommand(why)?
+        .subcommand(trace)?
+        .subcommand(follow)
 }

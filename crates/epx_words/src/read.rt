@@ -1,18 +1,18 @@
 //! The meaning of a command line.
 ghost use Rattle.std.specs.Prelude.{◌≡◌, ◌≤◌, ◌≢◌, ◌⊎◌, ◌↔◌, [], None, Some, IfOk, MatchResult};
-ghost use Rattle.std.specs.Prelude.{codes, length, map, false, string_bytes, true};
+ghost use Rattle.std.specs.Prelude.{codes, length, map, false, option_map, string_bytes, true};
 ghost use Rattle.std.specs.Option.{IsSome};
 ghost use Rattle.clap.specs.Words.{fault_of, found_of, kind_of, one_of, rows_of, subcommand_of};
 ghost use Rattle.clap.specs.Words.{subcommand_rows_of, takes};
 ghost use Rattle.epx_names.specs.Tasks.{HasInput};
 ghost use Rattle.epx_words.specs.App.{epx_app};
-ghost use Rattle.epx_words.specs.Requests.{AreFirstAndLogs, ArePathsOf, FitFlags, FitsRows, IfText};
-ghost use Rattle.epx_words.specs.Requests.{IfWork, IsBare, IsMeaningOf, IsText, IsWork, flags_of};
-ghost use Rattle.epx_words.specs.Requests.{task_name};
+ghost use Rattle.epx_words.specs.Requests.{AreFirstAndLogs, ArePathsOf, AsksToFollow, FitFlags};
+ghost use Rattle.epx_words.specs.Requests.{FitsRows, IfFollow, IfText, IfWork, IsBare, IsMeaningOf};
+ghost use Rattle.epx_words.specs.Requests.{IsText, IsWork, flags_of, task_name};
 ghost use Rattle.epx_words.specs.ExitStatus.{IsTaken, IsTextStatus, status_of_kind};
 ghost use Rattle.epx_words.specs.Subjects.{NamesAll, NamesLogs};
 ghost use Rattle.epx_words.specs.SubcommandRows.{AsksForWork, IsCutOf, IsNumberUpTo, IsWorkersOf};
-ghost use Rattle.epx_words.specs.SubcommandRows.{first_in, logs_in, name_in, rows_in};
+ghost use Rattle.epx_words.specs.SubcommandRows.{first_in, logs_in, name_in, rows_in, some_logs_in};
 
 use crate::commands::command;
 use crate::task_of::{has_flag, task_of};
@@ -43,6 +43,17 @@ fn logs_of(alloc: Global, matches: &ArgMatches<'_>) -> Result<Vec<String>, Alloc
         Some(logs) => copies(alloc, logs),
         None => Ok(Vec::new(alloc)),
     }
+}
+
+/// The paths of the logs. None if no log is named.
+fn some_logs(alloc: Global, matches: &ArgMatches<'_>) -> Result<Option<Vec<String>>, AllocError>
+    ensures { IfOk result (λ logs. option_map (λ list. map string_bytes list.items) logs
+        ≡ some_logs_in (rows_of (found_of matches.now))) }
+{
+    if has_no_log(matches) {
+        return Ok(None);
+    }
+    Ok(Some(logs_of(alloc, matches)?))
 }
 
 /// The path of the base or the list, and then the paths of the logs.
@@ -132,6 +143,21 @@ fn flags_of(matches: &ArgMatches<'_>) -> Flags
     }
 }
 
+/// What the subcommand `follow` asks for.
+fn follow_of(alloc: Global, matches: &ArgMatches<'_>) -> Result<Words, AllocError>
+    requires { AsksForWork (Some (codes "follow", rows_of (found_of matches.now))) }
+    ensures { IfOk result (IsMeaningOf (Some (codes "follow", rows_of (found_of matches.now)))) }
+{
+    let plan = plan_of(matches);
+    let paths = some_logs(alloc, matches)?;
+    Ok(Words::Follow {
+        plan,
+        paths,
+        each: has_flag(matches, "each"),
+        explain: has_flag(matches, "explain"),
+    })
+}
+
 /// What the matched subcommand asks for.
 fn work_of(alloc: Global, matches: &ArgMatches<'_>) -> Result<Words, AllocError>
     requires { AsksForWork (subcommand_rows_of matches.now) }
@@ -140,6 +166,9 @@ fn work_of(alloc: Global, matches: &ArgMatches<'_>) -> Result<Words, AllocError>
     let Some((name, given)) = matches.subcommand() else {
         unreachable!();
     };
+    if name == "follow" {
+        return follow_of(alloc, given);
+    }
     let Some(task) = task_of(name, given) else {
         return refuse_subject(alloc, name);
     };
@@ -210,7 +239,8 @@ fn is_bare(words: &[&str]) -> bool
 /// paths. Otherwise it is `Text`. The words have to name an instance or a key where the subcommand
 /// is about one, and a log where `--exit-code` is there. The one error is running out of memory.
 /// With `--exit-code` or `--explain` the work is `WorkWith`, `check --prefix` is the task
-/// `CheckPrefix`, and `why --reaches` is the task `Path`.
+/// `CheckPrefix`, and `why --reaches` is the task `Path`. The subcommand `follow` is no task: in
+/// place of `Work` it is `Follow`.
 pub fn read_words(alloc: Global, words: &[&str]) -> Result<Words, Memory>
     ensures bare { IsBare (map (λ w. w.now) words.now)
         → IfOk result (λ asked. asked ≡ Words.Work Task.Run (record { workers = 4; cut = 256 })
@@ -236,6 +266,8 @@ pub fn read_words(alloc: Global, words: &[&str]) -> Result<Words, Memory>
     ensures flags { let texts = map (λ w. w.now) words.now in
         ¬ IsBare texts → IfOk result (λ asked. IsWork asked
         → FitFlags (flags_of asked) (rows_in (subcommand_of epx_app texts))) }
+    ensures followed { let texts = map (λ w. w.now) words.now in
+        ¬ IsBare texts → IfOk result (IfFollow (AsksToFollow (subcommand_of epx_app texts))) }
     ensures taken { let texts = map (λ w. w.now) words.now in
         ¬ IsBare texts → IfOk result (λ asked.
         IsWork asked ↔ IsTaken (fault_of epx_app texts) (subcommand_of epx_app texts)) }

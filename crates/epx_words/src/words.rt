@@ -29,6 +29,14 @@ pub enum Words {
         paths: Option<Vec<String>>,
         flags: Flags,
     },
+    /// Executes the logs at these paths as they come. `None` means one log, standard input. With
+    /// `each` every line is a batch, and `explain` is the flag `--explain`.
+    Follow {
+        plan: Plan,
+        paths: Option<Vec<String>>,
+        each: bool,
+        explain: bool,
+    },
     /// A text to print: the help or the version, or why the command line is refused. The program
     /// then exits with `status`.
     Text {

@@ -7,10 +7,9 @@ use Rattle.epx_follow.proofs.batch_text.batch_text.Goals as goal
 
 pub returns : goal.returns
 returns c =
-    text_written c.args.waited c.args.waiting c.saturating_sub-came.result c.args.ids.now
-    c.args.replies.now (view c.in_ok-came_value.field-0) c.append_line.new.text.items
-    c.append_replies.new.text.items c.requires.same c.saturating_sub-came.ensures
-    c.in_ok-came_value.ensures.data
+    text_written c.args.came c.args.waiting c.args.ids.now c.args.replies.now
+    (view c.in_ok-came_value.field-0) c.append_line.new.text.items
+    c.append_replies.new.text.items c.requires.same c.in_ok-came_value.ensures.data
     (c.in_ok-append_line.ensures ∙ ap (λ (t : List ℕ). t ++ (compact_text
     (view c.in_ok-came_value.field-0) ++ line_feed ∷ [])) c.new-text.ensures.items)
     c.in_ok-append_replies.ensures

@@ -17,6 +17,12 @@ pub returns-in-WorkWith-clause-found : goal.returns-in-WorkWith-clause-found
 returns-in-WorkWith-clause-found g c =
     rw c.in-WorkWith.is (λ five. c.do_work-in-WorkWith.ensures.flushed (inr five))
 
+pub returns-in-Follow-clause-follow : goal.returns-in-Follow-clause-follow
+returns-in-Follow-clause-follow g c = rw c.in-Follow.is c.do_follow.ensures.ends
+
+pub returns-in-Follow-clause-nothing : goal.returns-in-Follow-clause-nothing
+returns-in-Follow-clause-nothing g c = rw c.in-Follow.is (λ other. absurd (other tt))
+
 pub returns-in-Text-clause-text : goal.returns-in-Text-clause-text
 returns-in-Text-clause-text g c =
     rw c.in-Text.is (λ zero. of-text _ (c.print_text.ensures.status zero))
@@ -24,5 +30,6 @@ returns-in-Text-clause-text g c =
 pub returns-in-Text-clause-nothing : goal.returns-in-Text-clause-nothing
 returns-in-Text-clause-nothing g c =
     let W = g.W.Sink.model in
-    unchanged_by_text W.contents c.args.output.now c.print_text.new.output c.in-Text.status _
-    (W.has_failed c.print_text.new.output) c.print_text.ensures.refused c.print_text.ensures.status
+    λ other. unchanged_by_text W.contents c.args.output.now c.print_text.new.output c.in-Text.status
+    _ (W.has_failed c.print_text.new.output) c.print_text.ensures.refused
+    c.print_text.ensures.status

@@ -8,8 +8,8 @@ use Rattle.epx_words.specs.ExitStatus.{IsExitStatus}
 use Rattle.epx_words.specs.Requests.{ArePathsOf, FitsRows, task_name}
 use Rattle.epx_words.specs.Subjects.{NamesAll}
 use Rattle.epx_words.specs.SubcommandRows.{AsksForWork, IsCutOf, IsWorkersOf, name_in, rows_in}
-use Rattle.epx_words.proofs.WorkLemmas.{given_by_epx, has_flags, has_part, is_taken, means_by_epx}
-use Rattle.epx_words.proofs.WorkLemmas.{not_all_named, text_weaker}
+use Rattle.epx_words.proofs.WorkLemmas.{given_by_epx, has_flags, has_part, is_followed, is_taken}
+use Rattle.epx_words.proofs.WorkLemmas.{means_by_epx, not_all_named, text_weaker}
 use Rattle.epx_words.proofs.FaultLemmas.{epx_is_free, asks_for_work}
 use Rattle.epx_words.proofs.StatusLemmas.{is_not_taken, has_exit_status, is_refused}
 use Rattle.epx_words.proofs.read.read_words.Goals as goal
@@ -76,6 +76,14 @@ returns-in_ok-work_of-in-Ok-clause-flags c bare =
     let means = means_by_epx _ c.in_ok-command.ensures texts (subcommand_rows_of c.in-Ok.matches)
     c.in-Ok.ensures.matches c.in_ok-work_of-in-Ok.field-0 c.in_ok-work_of-in-Ok.ensures in
     has_flags given c.in_ok-work_of-in-Ok.field-0 means
+
+pub returns-in_ok-work_of-in-Ok-clause-followed : goal.returns-in_ok-work_of-in-Ok-clause-followed
+returns-in_ok-work_of-in-Ok-clause-followed c bare =
+    let texts = map (λ w. w.now) c.args.words.now in
+    let given = subcommand_of epx_app texts in
+    let means = means_by_epx _ c.in_ok-command.ensures texts (subcommand_rows_of c.in-Ok.matches)
+    c.in-Ok.ensures.matches c.in_ok-work_of-in-Ok.field-0 c.in_ok-work_of-in-Ok.ensures in
+    is_followed given c.in_ok-work_of-in-Ok.field-0 means
 
 pub returns-in_ok-work_of-in-Ok-clause-taken : goal.returns-in_ok-work_of-in-Ok-clause-taken
 returns-in_ok-work_of-in-Ok-clause-taken c bare =

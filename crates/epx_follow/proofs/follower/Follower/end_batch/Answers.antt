@@ -1,4 +1,4 @@
-use Rattle.std.proofs.Common.{◌≡◌, ◌⊎◌, ◌∙◌, List, ap, ap₂, arith}
+use Rattle.std.proofs.Common.{◌≡◌, ◌⊎◌, ◌∙◌, ◌+◌, List, ap, ap₂, arith}
 use Rattle.std.proofs.Common.{length, subst, subst₂, sym, zip, false}
 use Rattle.epx_types.specs.declared.reply.Reply.{Reply}
 use Rattle.epx_types.specs.declared.fault.Fault.TheVariants.{Memory}
@@ -13,7 +13,7 @@ use Rattle.epx_follow.specs.inner.CallPlaces.{at_lines, held_places}
 use Rattle.epx_follow.specs.inner.FirstPlaces.{place_in}
 use Rattle.epx_follow.specs.inner.HeldLines.{AreHeld, pending_lines}
 use Rattle.epx_follow.proofs.BatchTextLemmas.{zip_parts}
-use Rattle.epx_follow.proofs.EndLemmas.{ends, few_wait, held_now, refused}
+use Rattle.epx_follow.proofs.EndLemmas.{ends, few_wait, few_waited, held_now, refused}
 use Rattle.epx_follow.proofs.FirstPlaceLemmas.{AreForgotten}
 use Rattle.epx_follow.proofs.HoldLemmas.{shown}
 use Rattle.epx_follow.proofs.follower.Follower.end_batch.Goals as goal
@@ -31,11 +31,26 @@ returns-in-Err g c =
     e.pending)) ps c.in-Err.fault)) c.in-Err.ensures.unchanged c.deref.ensures.value
     c.fault_at_lines.ensures))
 
-pub batch_text-requires-clause-few : goal.batch_text-requires-clause-few
-batch_text-requires-clause-few g c =
+pub count_came-came-requires-clause-few : goal.count_came-came-requires-clause-few
+count_came-came-requires-clause-few g c =
     let few = few_wait c.self.inside.executor c.commit.new.self c.self.inside.batch.items
     c.in-Ok.executed.items c.in-Ok.ensures.ok in
-    omega (arith, few, c.pending_len.ensures, c.deref-3.ensures.len, c.in_ok-ids.ids.small)
+    omega (arith, few, c.pending_len-waiting.ensures, c.len.ensures, c.in_ok-ids.ids.small)
+
+pub count_came-came-requires-clause-some : goal.count_came-came-requires-clause-some
+count_came-came-requires-clause-some g c =
+    let f = c.self.inside in
+    let some = few_waited f.executor.done f.executor.store (place_in f.places) f.executor.pending
+    f.batch_places.items f.batch.items f.next f.is_open c.self.invariant.0 c.self.invariant.1
+    c.commit.new.self c.in-Ok.executed.items c.in_ok-ids.ids.items c.in_ok-ids.ensures.ids
+    c.in-Ok.ensures.ok in
+    omega (
+      arith,
+      some,
+      c.pending_len-waited.ensures,
+      c.pending_len-waiting.ensures,
+      c.len.ensures,
+    )
 
 pub invariant_of-follower : goal.invariant_of-follower
 invariant_of-follower g c =
@@ -52,8 +67,8 @@ invariant_of-follower g c =
           (sym c.new-2.ensures.items) (sym c.new.ensures.items)
           (held_now f.executor.done f.executor.store (place_in f.places) f.executor.pending
           f.batch_places.items f.batch.items f.next f.is_open c.self.invariant.0
-          c.self.invariant.1 left now c.in-Ok.executed.items c.in_ok-ids.ids.items
-          c.in_ok-ids.ensures.ids c.in-Ok.ensures.ok settled forgotten),
+          c.self.invariant.1 now c.in-Ok.executed.items c.in_ok-ids.ids.items
+          c.in_ok-ids.ensures.ids c.in-Ok.ensures.ok left settled forgotten),
       ap length c.new-2.ensures.items ∙ sym (ap length c.new.ensures.items),
     )
 
@@ -72,17 +87,23 @@ returns g c =
     ap₂ (λ (xs : List Id) (rs : List Reply). zip xs rs)
     (c.deref-3.ensures.value ∙ c.in_ok-ids.ensures.ids)
     (c.deref-4.ensures.value ∙ c.in_ok-ids.ensures.replies) ∙ zip_parts executed in
-    let text : c.in_ok-text.text.items
-    ≡ batch_text (length f.executor.pending) (length now.pending) executed =
-    c.in_ok-text.ensures
-    ∙ ap₂ (λ n m. batch_text n m (zip c.deref-3.result.now c.deref-4.result.now))
-    c.pending_len-waited.ensures c.pending_len.ensures
-    ∙ ap (batch_text (length f.executor.pending) (length now.pending)) pairs in
+    let came = c.count_came-came.result in
+    let count : came + length f.executor.pending
+    ≡ length c.in_ok-ids.ids.items + length now.pending =
+    omega (
+      arith,
+      c.count_came-came.ensures,
+      c.pending_len-waited.ensures,
+      c.pending_len-waiting.ensures,
+      c.len.ensures,
+    ) in
+    let text : c.in_ok-text.text.items ≡ batch_text came (length now.pending) executed =
+    c.in_ok-text.ensures ∙ ap₂ (batch_text came) c.pending_len-waiting.ensures pairs in
     subst₂ (λ (v w : FollowerView). EndsBatch v w c.in_ok-text.text.items) c.self.view_is
     (ap₂ (λ (ps : List Place) (es : List Instance).
     shown now.done now.store left now.pending ps es f.next false)
     (sym c.new-2.ensures.items) (sym c.new.ensures.items))
     (ends f.executor.done f.executor.store (place_in f.places) f.executor.pending
     f.batch_places.items f.batch.items f.next f.is_open c.self.invariant.0 c.self.invariant.1
-    left now executed c.in_ok-ids.ids.items c.in_ok-ids.ensures.ids c.in-Ok.ensures.ok settled
-    forgotten c.in_ok-text.text.items text)
+    now executed c.in_ok-ids.ids.items c.in_ok-ids.ensures.ids c.in-Ok.ensures.ok left settled
+    forgotten came c.in_ok-text.text.items count text)

@@ -1,0 +1,111 @@
+-- Why following logs stops before their ends, and what is written then: the text of the batches
+-- that ended, and some of the next text where the output failed.
+use Rattle.std.specs.Prelude.{◌≡◌, ◌⊎◌, ◌^◌, ◌<◌, ℕ, Bool, List, ◌∷◌, ◌++◌, length, take, Option}
+use Rattle.std.specs.Prelude.{slice_get, Some}
+use Rattle.std.specs.Io.KnownBytes.{Appends}
+use Rattle.epx_types.specs.declared.fault.Fault.{Fault}
+use Rattle.epx_types.specs.declared.fault.Fault.TheVariants.{Memory, LogTooLong, Read, Write}
+use Rattle.epx_devices.specs.Deliveries.{Delivers, DeliversAll}
+use Rattle.epx_devices.specs.Models.{SourceModel}
+use Rattle.epx_lines.specs.Lines.{lines_of}
+use Rattle.epx_merge.specs.DeliveredLogs.{FirstDeliver, IsOfNoSource}
+use Rattle.epx_merge.specs.LogParts.{EndsLine}
+use Rattle.epx_follow.specs.Following.{FollowerView, new_follower}
+use Rattle.epx_follow.specs.InputEnds.{EndsInput}
+use Rattle.epx_follow.specs.LinesTaken.{RefusesIf, RefusesLine, TakesLine}
+use Rattle.epx_follow.specs.LogsTaken.{TakesLines, TakesLogs}
+
+-- a log that is followed has at most so many bytes
+abbrev pub most_followed_bytes : ℕ
+most_followed_bytes = 2 ^ 62
+
+-- the output failed: it has this text and some of the next one
+abbrev pub AppendsSome : List ℕ → List ℕ → Option (List ℕ) → Option (List ℕ) → Type 0
+AppendsSome text next was now = (n : ℕ) × Appends was now (text ++ take n next)
+
+-- Once this text is written, the line stops it: it is refused, or the output failed while the text
+-- of the batch that it ends was written
+abbrev pub StopsAtLine : Bool → FollowerView → List ℕ → Fault → List ℕ
+    → Option (List ℕ) → Option (List ℕ) → Type 0
+StopsAtLine each v line fault text was now =
+    (RefusesLine each line v fault × Appends was now text)
+    ⊎ ((fault ≡ Write) × ((next : FollowerView) × (batch : List ℕ)
+    × TakesLine each line v next batch × AppendsSome text batch was now))
+
+-- one of the lines stops it
+pub record StopsAmong (each : Bool) (v : FollowerView) (lines : List (List ℕ)) (fault : Fault)
+    (text : List ℕ) (was now : Option (List ℕ)) : Type 0 where
+  pub before : List (List ℕ)
+  pub line : List ℕ
+  pub after : List (List ℕ)
+  pub cut : lines ≡ before ++ line ∷ after
+  pub then : FollowerView
+  pub batches : List ℕ
+  pub taken : TakesLines each v before then batches
+  pub stopped : StopsAtLine each then line fault (text ++ batches) was now
+
+-- reads of the source returned these lines, and maybe the beginning of one more
+abbrev pub ReadsLines : {S : Type 0} → SourceModel S → S → S → List ℕ → Type 0
+ReadsLines D first now lines = EndsLine lines
+    × ((begun : List ℕ) × Delivers D first now (lines ++ begun))
+
+-- reads of the source returned these lines, which are its first ones or all
+abbrev pub HasFirstLines : {S : Type 0} → SourceModel S → S → List ℕ → Type 0
+HasFirstLines D first lines =
+    (now : _) × (ReadsLines D first now lines ⊎ DeliversAll D first now lines)
+
+-- no more is read of the log of this number: out of memory, it has too many bytes, or a read failed
+abbrev pub StopsReadingOn : {S : Type 0} → SourceModel S → ℕ → S → S → List ℕ → Fault → Type 0
+StopsReadingOn D log first now lines fault =
+    ((fault ≡ Memory) × ReadsLines D first now lines)
+    ⊎ ((fault ≡ LogTooLong log) × ReadsLines D first now lines
+    × ((bytes : List ℕ) × Delivers D first now bytes × (most_followed_bytes < length bytes)))
+    ⊎ ((fault ≡ Read log) × ((last : _) × ReadsLines D first last lines × D.fails last now))
+
+-- following stops within the log of this number
+abbrev pub StopsWithin : {S : Type 0} → SourceModel S → Bool → ℕ → S → S → FollowerView → Fault
+    → List ℕ → Option (List ℕ) → Option (List ℕ) → Type 0
+StopsWithin D each log first last v fault text was now = (lines : List ℕ)
+    × (((ReadsLines D first last lines ⊎ DeliversAll D first last lines)
+    × StopsAmong each v (lines_of lines) fault text was now)
+    ⊎ (StopsReadingOn D log first last lines fault
+    × ((then : FollowerView) × (batches : List ℕ)
+    × TakesLines each v (lines_of lines) then batches × Appends was now (text ++ batches))))
+
+-- the end of the input stops it: the last batch is refused, or the output failed
+abbrev pub StopsAtEnd : FollowerView → Fault → List ℕ → Option (List ℕ) → Option (List ℕ) → Type 0
+StopsAtEnd v fault text was now = (RefusesIf v.is_open v fault × Appends was now text)
+    ⊎ ((fault ≡ Write) × ((rest : List ℕ) × EndsInput v rest × AppendsSome text rest was now))
+
+-- following the sources stops with this fault
+pub record StopsFollowing {S : Type 0} (D : SourceModel S) (each : Bool) (old new : List S)
+    (fault : Fault) (was now : Option (List ℕ)) : Type 0 where
+  -- these logs are followed to their ends, and their text is written
+  pub logs : List (List ℕ)
+  pub whole : FirstDeliver D old new logs
+  pub taken : FollowerView
+  pub text : List ℕ
+  pub lines : TakesLogs each new_follower logs taken text
+  -- there are too many sources, it stops within the next log, or no log is left
+  pub stopped : (IsOfNoSource (length old) fault × Appends was now text)
+      ⊎ ((first : S) × (last : S) × (slice_get old (length logs) ≡ Some first)
+      × (slice_get new (length logs) ≡ Some last)
+      × StopsWithin D each (length logs) first last taken fault text was now)
+      ⊎ ((length logs ≡ length old) × StopsAtEnd taken fault text was now)
+
+-- a fault of reading so many logs, at the log of this number
+abbrev pub IsReadingFault : ℕ → ℕ → Fault → Type 0
+IsReadingFault count log fault = IsOfNoSource count fault
+    ⊎ (fault ≡ LogTooLong log) ⊎ (fault ≡ Read log)
+
+-- What is written when following so many logs stops, once these whole logs and these first lines of
+-- the next one are read: the text of the batches that ended, and some of the next text where the
+-- output failed. A line stops it, reading does, or the end of the last log
+abbrev pub WritesSome : Bool → ℕ → List (List ℕ) → List ℕ → Fault
+    → Option (List ℕ) → Option (List ℕ) → Type 0
+WritesSome each count logs lines fault was now = (taken : FollowerView) × (text : List ℕ)
+    × TakesLogs each new_follower logs taken text
+    × (StopsAmong each taken (lines_of lines) fault text was now
+    ⊎ (IsReadingFault count (length logs) fault × ((then : FollowerView) × (batches : List ℕ)
+    × TakesLines each taken (lines_of lines) then batches × Appends was now (text ++ batches)))
+    ⊎ ((length logs ≡ count) × StopsAtEnd taken fault text was now))
