@@ -6,6 +6,7 @@ use crate::flow::Flow;
 use crate::line::add_line;
 use crate::meaning::meanings;
 use crate::outcome::{answer_input, deliver_input};
+use crate::state::restored_state;
 use crate::words::words_text;
 use epx_tool::Task;
 use epx_types::{Memory, Plan};
@@ -38,6 +39,8 @@ enum Subject<'a> {
     Words(&'a str),
     /// What each line of logs means.
     Lines,
+    /// The state of an executor.
+    State,
     /// The answer to texts.
     Answer(Task),
 }
@@ -47,6 +50,7 @@ fn subject_of(head: &str) -> Option<Subject<'_>> {
     match command {
         "words" => Some(Subject::Words(name)),
         "lines" => Some(Subject::Lines),
+        "state" => Some(Subject::State),
         _ => Some(Subject::Answer(asked_task(command, name)?)),
     }
 }
@@ -98,7 +102,7 @@ impl<'a> Case<'a> {
             (Directive::Logs(count), Some(Subject::Answer(_))) => {
                 self.case_input.begin_logs(alloc, count)?;
             }
-            (Directive::Logs(count), Some(Subject::Lines)) => {
+            (Directive::Logs(count), Some(Subject::Lines | Subject::State)) => {
                 self.case_input.begin_logs(alloc, count)?;
             }
             (Directive::Plan { workers, cut }, Some(Subject::Answer(_))) => {
@@ -290,6 +294,19 @@ impl<'a> Case<'a> {
         self.is_right_on_devices(rt, alloc, task)
     }
 
+    /// Whether the first text, read as a state and written again, is the expected text.
+    fn is_right_as_state<R: Print + Threads + RandomSource + Sync>(
+        &self,
+        rt: &R,
+        alloc: Global,
+    ) -> io::Result<bool> {
+        let (Some(state), Some(plan)) = (self.case_input.logs.first(), self.plans.last()) else {
+            return Ok(false);
+        };
+        let found = restored_state(rt, alloc, state, *plan)?;
+        self.is_expected(rt, alloc, "as a state", &found)
+    }
+
     /// Whether all runs of the case have the expected text. It takes the subject, so it runs once.
     fn is_right<R: Print + Threads + RandomSource + Sync>(
         &mut self,
@@ -306,6 +323,7 @@ impl<'a> Case<'a> {
                 Ok(found) => self.is_expected(rt, alloc, "line by line", &found),
                 Err(Memory) => Err(io::Error::from(ErrorKind::OutOfMemory)),
             },
+            Some(Subject::State) => self.is_right_as_state(rt, alloc),
             Some(Subject::Answer(task)) => self.is_right_for(rt, alloc, &task),
         }
     }

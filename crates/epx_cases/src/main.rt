@@ -11,6 +11,7 @@ mod line;
 mod meaning;
 mod outcome;
 mod script;
+mod state;
 mod test_runtime;
 mod word_lists;
 mod words;

@@ -1,11 +1,11 @@
 -- The lines that a follower holds after a batch, and what the end of the batch did.
 use Rattle.std.proofs.Common.{◌≡◌, inl, inr, ◌∙◌, ℕ, List, [], ◌∷◌, ◌++◌, map, zip}
-use Rattle.std.proofs.Common.{length, Contains, Option, Some, false, not, refl}
+use Rattle.std.proofs.Common.{length, Contains, Option, None, Some, false, not, option_map, refl}
 use Rattle.std.proofs.Common.{sym, ap, ap₂, subst, arith, append-nil, Bor, ◌+◌, ◌<◌, take, get_or}
 use Rattle.epx_types.proofs.Common.{map-append, take_more}
 use Rattle.epx_types.proofs.Common.{Contains-filter, Contains-append_cases}
 use Rattle.epx_types.proofs.Common.{Contains-from_filter, Contains-from_map, Contains-map}
-use Rattle.epx_types.proofs.Common.{Contains-nil, Earlier, Instance, Placed, is_among, not_among}
+use Rattle.epx_types.proofs.Common.{Contains-nil, Instance, Placed, is_among, not_among}
 use Rattle.epx_types.proofs.Common.{ranked_ids, Contains-head, Contains-cons}
 use Rattle.std.specs.Option.{unwrap_or}
 use Rattle.epx_committed.specs.MergedLines.{IsMerged}
@@ -15,17 +15,20 @@ use Rattle.epx_types.specs.declared.id.Id.{Id}
 use Rattle.epx_types.specs.declared.place.Place.{Place}
 use Rattle.epx_types.specs.declared.reply.Reply.{Reply}
 use Rattle.epx_follow.specs.BatchEnds.{AreAtFirstLines, EndsBatch, batch_text, count_new}
+use Rattle.epx_follow.specs.BatchEnds.{first_line}
 use Rattle.epx_executor.specs.Commits.{AllWait, ExecutorView, IsCommit, not_done}
 use Rattle.epx_follow.specs.Following.{FollowerView, held_lines, instances_of}
 use Rattle.epx_follow.specs.FollowerLaws.{BatchIsACommit, executor_of}
-use Rattle.epx_follow.specs.inner.CallPlaces.{held_places}
-use Rattle.epx_follow.specs.inner.FirstPlaces.{HasFirstPlaces, IsFirstPlace}
+use Rattle.epx_follow.specs.CallPlaces.{held_places}
+use Rattle.epx_follow.specs.inner.FirstPlaces.{HasFirstPlaces}
 use Rattle.epx_follow.specs.inner.HeldLines.{AreHeld, batch_lines, no_place, pending_lines}
 use Rattle.epx_follow.proofs.CallPlaceLemmas.{call_has_real, real_has_call}
 use Rattle.epx_follow.proofs.SameInstanceLemmas.{merged_alike}
 use Rattle.epx_executor.specs.CallLines.{call_lines}
 use Rattle.epx_follow.proofs.FirstPlaceLemmas.{AreForgotten}
-use Rattle.epx_follow.proofs.HeldLineLemmas.{NotedCases, first_place_by, noted_cases}
+use Rattle.epx_follow.proofs.FirstLineLemmas.{first_line-cases, first_line-finds}
+use Rattle.epx_follow.proofs.FirstLineLemmas.{first_line-found}
+use Rattle.epx_follow.proofs.HeldLineLemmas.{noted_of_line}
 
 -- ---- instances and places of lines
 
@@ -129,43 +132,31 @@ module _ (noted left : Id → Option Place) (before : FollowerView) (held : AreH
     )
 
     -- it is at the first line that names it
-    first_line : (e : Instance) → Contains after.pending e
-        → IsFirstPlace lines e.id (at_place e).place × Contains lines (at_place e)
-    first_line e h =
+    at_first : (e : Instance) → Contains after.pending e
+        → (first_line lines e.id ≡ Some (at_place e)) × (left e.id ≡ Some (at_place e).place)
+    at_first e h =
         let there = of_map e h in
         let l = merged.committed.given e there.0 in
-        elim (noted_cases noted lines held.first_places e.id) [
-          | inl none ↦ absurd (none.1 l.0 l.1 (ap (λ (d : Instance). d.id) l.2))
-          | inr some ↦
-              let f = some.2 in
-              let is : (at_place e).place ≡ some.0 =
-              ap (λ (o : Option Place). unwrap_or o no_place)
-              (forgotten.1 e.id there.1 ∙ some.1) in
-              let same : f.line.instance ≡ e =
-              merged.agree f.line l.0 f.within l.1
-              (f.named ∙ sym (ap (λ (d : Instance). d.id) l.2)) ∙ l.2 in
-              let line : f.line ≡ at_place e =
-              ap₂ (λ p d. record { place = p; instance = d }) (f.there ∙ sym is) same in (
-                subst (IsFirstPlace lines e.id) (sym is) f,
-                subst (Contains lines) line f.within,
-              )
-        ]
-
-    -- each line that is held now was held
-    was_held : (p : Placed) → Contains waiting p → Contains lines p
-        × ((q : Placed) → Contains lines q → q.instance.id ≡ p.instance.id
-        → ¬ Earlier q.place p.place)
-    was_held p h =
-        let e = Contains-from_map at_place after.pending p h in
-        let f = first_line e.0 e.1 in
-        subst (λ (q : Placed). Contains lines q × ((r : Placed) → Contains lines r
-        → r.instance.id ≡ q.instance.id → ¬ Earlier r.place q.place)) e.2 (f.1, f.0.first)
+        let named : l.0.instance.id ≡ e.id = ap (λ (d : Instance). d.id) l.2 in
+        let some = noted_of_line noted lines held.first_places l.0 l.1 in
+        let first : first_line lines e.id ≡ Some some.0 =
+        ap (first_line lines) (sym named) ∙ some.1 in
+        let known = first_line-found lines e.id some.0 first in
+        let is : left e.id ≡ Some some.0.place =
+        forgotten.1 e.id there.1 ∙ ap noted (sym named) ∙ some.2 in
+        let same : some.0.instance ≡ e =
+        merged.agree some.0 l.0 known.0 l.1 (known.1 ∙ sym named) ∙ l.2 in
+        let line : some.0 ≡ at_place e =
+        ap₂ (λ p d. record { place = p; instance = d })
+        (sym (ap (λ (o : Option Place). unwrap_or o no_place) is)) same in
+        (first ∙ ap Some line, is ∙ ap (λ (q : Placed). Some q.place) line)
 
     pub at_first_lines : AreAtFirstLines lines (not_done after.done commit.other) waiting
     at_first_lines = record {
       instances = instances-pending left after.pending ∙ commit.pending;
-      given = λ p h. (was_held p h).0;
-      first = λ p q h. (was_held p h).1 q;
+      first = λ p h. let e = Contains-from_map at_place after.pending p h in
+          subst (λ (q : Placed). first_line lines q.instance.id ≡ Some q) e.2
+          (at_first e.0 e.1).0;
     }
 
     -- an instance on a line is executed or waits
@@ -185,38 +176,34 @@ module _ (noted left : Id → Option Place) (before : FollowerView) (held : AreH
         (Contains-filter (λ d. not (is_among after.done d.id)) commit.other p.instance
         (merged.committed.whole p h) (ap not (not_among after.done p.instance.id left_out)))
 
-    -- what is noted for an Id
-    noted_now : (x : Id) → NotedCases left waiting x
-    noted_now x = elim (is_among_cases executed x) [
-      | inl done ↦ inl (
-        forgotten.0 x done.1,
-        λ p h named.
-            let e = Contains-from_map at_place after.pending p h in
-            (of_map e.0 e.1).1 (subst (Contains executed)
-            (sym (ap (λ (q : Placed). q.instance.id) e.2 ∙ named)) done.1),
-      )
-      | inr new ↦ elim (noted_cases noted lines held.first_places x) [
-        | inl none ↦ inl (
-          forgotten.1 x new.1 ∙ none.0,
-          λ p h. none.1 p (was_held p h).0,
-        )
+    -- nothing is noted for an Id that no line names now
+    none_noted : (x : Id) → first_line waiting x ≡ None → left x ≡ None
+    none_noted x none = elim (is_among_cases executed x) [
+      | inl done ↦ forgotten.0 x done.1
+      | inr new ↦ elim (first_line-cases lines x) [
+        | inl free ↦ forgotten.1 x new.1 ∙ held.first_places x
+            ∙ ap (option_map (λ (p : Placed). p.place)) free
         | inr some ↦
-            let f = some.2 in
-            let is : left x ≡ Some some.0 = forgotten.1 x new.1 ∙ some.1 in
-            let waits = waits_now f.line f.within
-            (λ there. new.1 (subst (Contains executed) f.named there)) in
-            inr (
-              some.0,
-              is,
-              record {
-                line = at_place f.line.instance;
-                within = Contains-map at_place after.pending f.line.instance waits;
-                named = f.named;
-                there = ap (λ (o : Option Place). unwrap_or o no_place) (ap left f.named ∙ is);
-                first = λ p h. f.first p (was_held p h).0;
-              },
-            )
+            let known = first_line-found lines x some.0 some.1 in
+            let waits = waits_now some.0 known.0
+            (λ there. new.1 (subst (Contains executed) known.1 there)) in
+            let found = first_line-finds waiting (at_place some.0.instance)
+            (Contains-map at_place after.pending some.0.instance waits) in
+            let differ : None ≡ Some found.0 =
+            sym none ∙ ap (first_line waiting) (sym known.1) ∙ found.1 in
+            absurd (cc differ)
       ]
+    ]
+
+    noted_now : HasFirstPlaces left waiting
+    noted_now x = elim (first_line-cases waiting x) [
+      | inl none ↦ none_noted x none ∙ sym (ap (option_map (λ (p : Placed). p.place)) none)
+      | inr some ↦
+          let known = first_line-found waiting x some.0 some.1 in
+          let e = Contains-from_map at_place after.pending some.0 known.0 in
+          let is : e.0.id ≡ x = ap (λ (q : Placed). q.instance.id) e.2 ∙ known.1 in
+          ap left (sym is) ∙ (at_first e.0 e.1).1 ∙ ap (λ (q : Placed). Some q.place) e.2
+          ∙ sym (ap (option_map (λ (p : Placed). p.place)) some.1)
     ]
 
     -- the follower after the batch
@@ -236,12 +223,7 @@ module _ (noted left : Id → Option Place) (before : FollowerView) (held : AreH
           AllWait (record { done = after.done; store = after.store; pending = m }))
           (sym (instances-pending left after.pending)) settled;
       left = λ p h. absurd (Contains-nil p h);
-      in_order = λ i j d l k. absurd (omega (arith, l, k));
-      apart = λ p q h none. absurd (Contains-nil q none);
-      past = λ p h. held.past p (was_held p (subst (λ (ls : List Placed). Contains ls p)
-          (append-nil waiting) h)).0;
-      first_places = subst (HasFirstPlaces left) (sym (append-nil waiting))
-          (λ x. first_place_by left waiting x (noted_now x));
+      first_places = subst (HasFirstPlaces left) (sym (append-nil waiting)) noted_now;
     }
 
     pub ends_batch : (came : ℕ) (text : List ℕ) → came ≡ count_new before commit.other

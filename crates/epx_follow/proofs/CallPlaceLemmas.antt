@@ -3,15 +3,14 @@ use Rattle.std.proofs.Common.{◌≡◌, ◌≢◌, ◌⊎◌, ◌<◌, ◌+◌,
 use Rattle.std.proofs.Common.{Some, List, [], ◌∷◌, ◌++◌, slice_get, Contains, AllPairs}
 use Rattle.std.proofs.Common.{refl, sym, ap, ◌∙◌, subst, subst₂, inl, inr, arith}
 use Rattle.std.proofs.lemmas.List.{get_or-map}
-use Rattle.epx_types.proofs.Common.{cases_lt, map-map, slice_get_within}
+use Rattle.epx_types.proofs.Common.{cases_lt, slice_get_within}
 use Rattle.epx_types.proofs.Common.{get_or_from_slice_get, Contains-slice_get, AllPairs-slice_get}
-use Rattle.epx_types.proofs.Common.{AllPairs-from_rising_ids, Contains-nil, Contains-head}
+use Rattle.epx_types.proofs.Common.{Contains-nil, Contains-head}
 use Rattle.epx_types.proofs.Common.{Contains-cons, Contains-cons_cases, Contains-append_cases}
 use Rattle.epx_types.proofs.Common.{Contains-append_left, Contains-append_right, Contains-filter}
 use Rattle.epx_types.proofs.Common.{Contains-from_filter, is_among, not_among, ids_of, IsRising}
-use Rattle.epx_types.proofs.Common.{Below, UpTo, Instance, Placed, Earlier, Differ, id_cmp_total}
+use Rattle.epx_types.proofs.Common.{UpTo, Instance, Placed, Earlier, Differ}
 use Rattle.epx_types.proofs.Common.{place_cmp_total, below_irrefl, below_asymm}
-use Rattle.epx_types.proofs.lists.ListPositionLemmas.{AllPairs-same}
 use Rattle.epx_types.specs.declared.id.Id.{Id}
 use Rattle.epx_types.specs.declared.fault.Fault.{Fault}
 use Rattle.epx_types.specs.declared.fault.Fault.TheVariants.{Memory, TooManyLogs, LogTooLong}
@@ -23,9 +22,14 @@ use Rattle.epx_committed.proofs.LineOrderLemmas.{earlier_line}
 use Rattle.epx_laws.specs.AgreementLaws.{HaveInstancesOf}
 use Rattle.epx_executor.specs.CallLines.{call_lines, lines_from, lines_not_done}
 use Rattle.epx_executor.proofs.CallLineLemmas.{earlier_log, line_at}
+use Rattle.epx_follow.specs.CallPlaces.{at_lines, held_places, place_among}
 use Rattle.epx_follow.specs.Following.{instances_of}
+use Rattle.epx_follow.proofs.FirstLineLemmas.{same_line}
 use Rattle.epx_follow.proofs.SameInstanceLemmas.{few_alike, many_alike}
-use Rattle.epx_follow.specs.inner.CallPlaces.{at_lines, held_places, real_place}
+
+-- the place that a line of a call names
+abbrev real_place : List Placed → List Placed → Place → Place
+real_place pending batch at = place_among (held_places pending) (held_places batch) at
 
 abbrev id_of : Instance → Id
 id_of e = e.id
@@ -210,14 +214,9 @@ module _ (done : List Id) (pending batch : List Placed) where
       same_pending : (p q r s : Placed) → IsLineFor 0 1 pending p r → IsLineFor 0 1 pending q s
           → p.instance.id ≡ q.instance.id → r ≡ s
       same_pending p q r s a b same =
-          let ids : r.instance.id ≡ s.instance.id =
-          ap id_of a.same ∙ same ∙ ap id_of (sym b.same) in
-          AllPairs-same (λ x y. Below x.instance.id y.instance.id) pending
-          (AllPairs-from_rising_ids (λ (x : Placed). x.instance.id) pending
-          (subst IsRising (map-map id_of (λ (x : Placed). x.instance) pending) once)) r s
-          (Contains-slice_get pending a.k r a.at) (Contains-slice_get pending b.k s b.at)
-          (λ l. below_irrefl id_cmp_total r.instance.id (subst (Below r.instance.id) (sym ids) l))
-          (λ l. below_irrefl id_cmp_total s.instance.id (subst (Below s.instance.id) ids l))
+          same_line pending once r s (Contains-slice_get pending a.k r a.at)
+          (Contains-slice_get pending b.k s b.at)
+          (ap id_of a.same ∙ same ∙ ap id_of (sym b.same))
 
       -- the earlier of two lines of the batch has the lower position
       lower_position : (j k : ℕ) (r s : Placed) → slice_get batch j ≡ Some r

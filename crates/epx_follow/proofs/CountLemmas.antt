@@ -41,7 +41,7 @@ module _ (p : Instance → Bool) where
     | inr fails ↦ rw fails (below_passing x m h.1)
   ]
 
-  rising_passing : (m : List Instance) → IsRising (ids_of m) → IsRising (ids_of (filter p m))
+  pub rising_passing : (m : List Instance) → IsRising (ids_of m) → IsRising (ids_of (filter p m))
   rising_passing [] h = tt
   rising_passing (e ∷ m) h = elim (cases_Bool (p e)) [
     | inl passes ↦ rw passes (below_passing e.id m h.0, rising_passing m h.1)

@@ -13,14 +13,13 @@ use Rattle.epx_committed.specs.MergedLines.{IsMergeFault}
 use Rattle.epx_laws.specs.ResumedRunLaws.{run_on}
 use Rattle.epx_executor.specs.CallLines.{call_lines}
 use Rattle.epx_executor.specs.Commits.{AllWait, ExecutorView, IsCommit}
-use Rattle.epx_follow.specs.BatchEnds.{EndsBatch, batch_text, count_new}
-use Rattle.epx_follow.specs.Following.{FollowerView, held_lines, instances_of}
+use Rattle.epx_follow.specs.BatchEnds.{EndsBatch, RefusesBatch, batch_text, count_new}
+use Rattle.epx_follow.specs.CallPlaces.{at_lines, held_places}
+use Rattle.epx_follow.specs.Following.{FollowerView, instances_of}
 use Rattle.epx_follow.specs.FollowerLaws.{executor_of}
-use Rattle.epx_follow.specs.inner.CallPlaces.{at_lines, held_places}
 use Rattle.epx_follow.specs.inner.HeldLines.{AreHeld, pending_lines}
 use Rattle.epx_follow.proofs.BatchEndLemmas.{ends_batch, held_ended, instances-batch}
 use Rattle.epx_follow.proofs.BatchEndLemmas.{instances-pending, places-batch}
-use Rattle.epx_follow.proofs.CallPlaceLemmas.{fault_real}
 use Rattle.epx_follow.proofs.CountLemmas.{counted}
 use Rattle.epx_follow.proofs.FirstPlaceLemmas.{AreForgotten}
 use Rattle.epx_follow.proofs.HoldLemmas.{shown}
@@ -66,19 +65,19 @@ module _ (done : List Id) (store : Contents) (noted : Id → Option Place)
   batch_are : instances_of was.batch ≡ batch
   batch_are = instances-batch places batch same
 
-  -- a refused call is a refusal of the lines, at their places
+  -- a refused call refuses the batch
   pub refused : (fault result : Fault) → IsMergeFault (call_lines done pending batch) fault
       → (result ≡ Memory) ⊎ (result ≡ at_lines (held_places was.pending) places fault)
-      → IsMergeFault (held_lines was) result
-  refused fault result h (inl memory) = subst (IsMergeFault (held_lines was)) (sym memory) tt
+      → RefusesBatch was result
+  refused fault result h (inl memory) = inl memory
   refused fault result h (inr is) =
-      subst (IsMergeFault (held_lines was)) (sym (is
-      ∙ ap (λ (ps : List Place). at_lines (held_places was.pending) ps fault)
-      (sym (places-batch places batch same))))
-      (fault_real done was.pending was.batch held.left held.settled.rising held.apart
-      held.in_order fault
-      (subst₂ (λ (p b : List Instance). IsMergeFault (call_lines done p b) fault)
-      (sym pending_are) (sym batch_are) h))
+      inr (record {
+        call = fault;
+        refused = subst₂ (λ (p b : List Instance). IsMergeFault (call_lines done p b) fault)
+            (sym pending_are) (sym batch_are) h;
+        named = is ∙ ap (λ (ps : List Place). at_lines (held_places was.pending) ps fault)
+            (sym (places-batch places batch same));
+      })
 
   module _ (after : ExecutorView) (replies : List (Id × Reply)) (ids : List Id)
       (ids_are : ids ≡ map (λ r. r.0) replies)

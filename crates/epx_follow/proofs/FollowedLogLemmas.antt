@@ -1,10 +1,10 @@
 -- Logs that are followed to their ends, as calls of an executor.
 use Rattle.std.proofs.Common.{◌≡◌, inl, inr, ◌∙◌, ℕ, Bool, true, false, List, [], ◌∷◌, ◌++◌}
-use Rattle.std.proofs.Common.{if◌then◌else◌, length, Contains, Result, Ok, Err, ap, append-nil}
+use Rattle.std.proofs.Common.{length, Contains, Result, Ok, Err, ap, append-nil}
 use Rattle.std.proofs.Common.{append_assoc, refl, subst, subst₂, sym}
 use Rattle.epx_types.proofs.Common.{Contains-append_cases, Contains-cons, Contains-cons_cases}
 use Rattle.epx_types.proofs.Common.{Contains-from_map, Contains-head, Contains-nil, Instance}
-use Rattle.epx_types.proofs.Common.{Placed, is_among_cases}
+use Rattle.epx_types.proofs.Common.{Placed}
 use Rattle.epx_types.specs.declared.fault.Why.{Why}
 use Rattle.epx_lines.specs.Lines.{lines_of}
 use Rattle.epx_lines.specs.Meaning.{is_blank, meaning_of}
@@ -15,10 +15,11 @@ use Rattle.epx_executor.specs.HistoryLaws.{AreCommits, Call}
 use Rattle.epx_follow.specs.BatchEnds.{EndsBatch, batch_text, count_new}
 use Rattle.epx_follow.specs.FollowerLaws.{AreBatchTexts, FollowedLogsAreCommits, executor_of}
 use Rattle.epx_follow.specs.Following.{FollowerView, at_next_log, instances_of, joined}
-use Rattle.epx_follow.specs.Following.{new_follower, passed}
+use Rattle.epx_follow.specs.Following.{passed}
 use Rattle.epx_follow.specs.LinesTaken.{EndsIf, TakesAs}
 use Rattle.epx_follow.specs.LogsTaken.{TakesLines, TakesLogs}
 use Rattle.epx_follow.proofs.BatchEndLemmas.{batch_is_a_commit}
+use Rattle.epx_follow.proofs.HoldLemmas.{in_joined}
 
 -- ---- calls after others
 
@@ -124,21 +125,9 @@ module _ (M : Instance → Type 0) where
   -- ---- lines
 
   joined_batch : (v : FollowerView) (e : Instance) → HasBatch v → M e → HasBatch (joined v e)
-  joined_batch v e has holds p h =
-      let line : Placed = record { place = v.next; instance = e } in
-      let within : Bool → Type 0 = λ b.
-      Contains (if b then v.batch else v.batch ++ line ∷ []) p in
-      elim (is_among_cases v.done e.id) [
-        | inl executed ↦ has p (subst within executed.0 h)
-        | inr new ↦ elim (Contains-append_cases v.batch (line ∷ []) p (subst within new.0 h)) [
-          | inl old ↦ has p old
-          | inr last ↦ elim (Contains-cons_cases line [] p last) [
-            | inl same ↦ subst (λ (q : Placed). (¬ Contains v.done q.instance.id) × M q.instance)
-                same (new.1, holds)
-            | inr none ↦ absurd (Contains-nil p none)
-          ]
-        ]
-      ]
+  joined_batch v e has holds =
+      in_joined (λ p. (¬ Contains v.done p.instance.id) × M p.instance) v e has
+      (λ left. (left, holds))
 
   calls_of_meaning : (each blank : Bool) (m : Result Line Why) (v w : FollowerView)
       (text : List ℕ) → HasBatch v → ((e : Instance) → m ≡ Ok (Entry e) → M e)
@@ -191,15 +180,14 @@ IsOnALine logs e = (log : List ℕ) × Contains logs log
     × ((line : List ℕ) × Contains (lines_of log) line × (meaning_of line ≡ Ok (Entry e)))
 
 pub followed_logs_are_commits : FollowedLogsAreCommits
-followed_logs_are_commits each logs text followed =
+followed_logs_are_commits start none each logs last text followed =
     let M = IsOnALine logs in
     let v = followed.taken in
-    let last = followed.ended.last in
-    let taken = calls_of_logs M each logs new_follower v followed.batches
-    (λ p h. absurd (Contains-nil p h)) (λ log h line k e is. (log, h, (line, k, is)))
-    followed.lines in
+    let taken = calls_of_logs M each logs start v followed.batches
+    (λ p h. absurd (Contains-nil p (subst (λ (ls : List Placed). Contains ls p) none h)))
+    (λ log h line k e is. (log, h, (line, k, is))) followed.lines in
     let ended = call_if M v.is_open v last followed.ended.batch taken.batch
     followed.ended.ended in
-    let all = calls_after M (executor_of new_follower) v last followed.batches
+    let all = calls_after M (executor_of start) v last followed.batches
     followed.ended.batch taken ended in
     (all.calls, all.commits, all.from, all.texts)

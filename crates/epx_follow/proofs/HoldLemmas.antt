@@ -1,6 +1,6 @@
 -- The lines that a follower holds, as it keeps them, after one more line of an instance.
 use Rattle.std.proofs.Common.{◌≡◌, inl, inr, ◌∙◌, Bool, true, List, [], ◌∷◌, ◌++◌, length}
-use Rattle.std.proofs.Common.{Contains, Option, refl, sym, ap₂, subst}
+use Rattle.std.proofs.Common.{Contains, Option, if◌then◌else◌, refl, sym, ap₂, subst}
 use Rattle.std.specs.Option.{unwrap_or}
 use Rattle.epx_types.proofs.Common.{Contains-append_left, Contains-map, Contents, Instance, Placed}
 use Rattle.epx_types.proofs.Common.{not_among}
@@ -10,8 +10,8 @@ use Rattle.epx_types.specs.declared.place.Place.{Place}
 use Rattle.epx_follow.specs.Following.{FollowerView, held_lines, joined, next_line, passed}
 use Rattle.epx_follow.specs.inner.HeldLines.{AreHeld, batch_lines, no_place, pending_lines}
 use Rattle.epx_follow.proofs.BatchEndLemmas.{batch_lines-push, pending_lines-same}
-use Rattle.epx_follow.proofs.HeldLineLemmas.{IsNoted, held_joined, noted_cases, stays_noted}
-use Rattle.epx_follow.proofs.HeldLineLemmas.{with_line}
+use Rattle.epx_follow.proofs.HeldLineLemmas.{IsNoted, held_joined, noted_of_line, stays_noted}
+use Rattle.epx_follow.proofs.HeldLineLemmas.{each_line, with_line}
 
 -- a line of an executed instance is passed over
 pub joined_done : (v : FollowerView) (e : Instance) → Contains v.done e.id → joined v e ≡ passed v
@@ -19,6 +19,24 @@ joined_done v e h = elim (is_among_cases v.done e.id) [
   | inl found ↦ let among = found.0 in rw among refl
   | inr missed ↦ absurd (missed.1 h)
 ]
+
+-- one of another instance joins the batch
+pub joined_new : (v : FollowerView) (e : Instance) → ¬ Contains v.done e.id
+    → joined v e ≡ with_line v e
+joined_new v e new = let other = not_among v.done e.id new in rw other refl
+
+-- what holds of the batch, and of a line that joins it, holds of the batch with this line
+pub in_joined : (P : Placed → Type 0) (v : FollowerView) (e : Instance)
+    → ((p : Placed) → Contains v.batch p → P p)
+    → (¬ Contains v.done e.id → P (record { place = v.next; instance = e }))
+    → (p : Placed) → Contains (joined v e).batch p → P p
+in_joined P v e old new p h =
+    let line : Placed = record { place = v.next; instance = e } in
+    let within : Bool → Type 0 = λ b. Contains (if b then v.batch else v.batch ++ line ∷ []) p in
+    elim (is_among_cases v.done e.id) [
+      | inl executed ↦ old p (subst within executed.0 h)
+      | inr left ↦ each_line P v.batch line old (new left.1) p (subst within left.0 h)
+    ]
 
 -- what a follower shows of what it keeps
 abbrev pub shown : List Id → Contents → (Id → Option Place) → List Instance → List Place
@@ -55,14 +73,11 @@ module _ (done : List Id) (store : Contents) (before after : Id → Option Place
         place = unwrap_or (before i.id) no_place;
         instance = i;
       }) pending d h) in
-      elim (noted_cases before (held_lines was) held.first_places d.id) [
-        | inl none ↦ absurd (none.1 line held_line refl)
-        | inr some ↦
-            stays_noted before after (held_lines was) (record { place = next; instance = e }) noted
-            held.past d.id some.0 some.1 ∙ sym some.1
-      ]
+      let some = noted_of_line before (held_lines was) held.first_places line held_line in
+      stays_noted before after (record { place = next; instance = e }) noted d.id some.0.place
+      some.2 ∙ sym some.2
 
-  now_is : with_line before after was e noted held new ≡ now
+  now_is : with_line was e ≡ now
   now_is = ap₂ (λ waits came. record {
     done = done;
     store = store;
@@ -77,4 +92,4 @@ module _ (done : List Id) (store : Contents) (before after : Id → Option Place
   held_now = subst (AreHeld after) now_is (held_joined before after was e noted held new)
 
   pub now_joined : now ≡ joined was e
-  now_joined = sym now_is ∙ (let other = not_among done e.id new in rw other refl)
+  now_joined = sym now_is ∙ sym (joined_new was e new)

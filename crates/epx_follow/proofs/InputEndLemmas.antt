@@ -1,7 +1,5 @@
 -- The end of the input.
-use Rattle.std.proofs.Common.{◌≡◌, ◌++◌, ℕ, List, [], Option, Result, Ok, Err}
-use Rattle.std.proofs.Common.{OnOk, inr}
-use Rattle.epx_types.proofs.Common.{Appends, IfErr}
+use Rattle.std.proofs.Common.{◌≡◌, ◌++◌, ℕ, List, [], Option, inr}
 use Rattle.epx_types.specs.declared.fault.Fault.{Fault}
 use Rattle.epx_types.specs.declared.fault.Fault.TheVariants.{Write}
 use Rattle.epx_devices.specs.Transfers.{AppendsPrefix}
@@ -11,9 +9,9 @@ use Rattle.epx_follow.specs.InputEnds.{EndsInput, IsRest}
 use Rattle.epx_follow.specs.LinesTaken.{EndsIf}
 
 pub ends_input : (v last : FollowerView) (batch rest text : List ℕ)
-    → EndsIf v.is_open v last batch → IsRest last rest → text ≡ batch ++ rest → EndsInput v text
+    → EndsIf v.is_open v last batch → IsRest last rest → text ≡ batch ++ rest
+    → EndsInput v last text
 ends_input v last batch rest text ended left is = record {
-  last = last;
   batch = batch;
   rest = rest;
   ended = ended;
@@ -21,15 +19,8 @@ ends_input v last batch rest text ended left is = record {
   printed = is;
 }
 
--- the text is written
-module _ (was now : Option (List ℕ)) (v : FollowerView) (text : List ℕ) (ends : EndsInput v text)
-  where
-    pub end_is_written : (r : Result (Unit {0}) Fault) → OnOk r (Appends was now text)
-        → OnOk r ((x : List ℕ) × EndsInput v x × Appends was now x)
-    end_is_written (Ok u) h = (text, ends, h)
-    end_is_written (Err fault) h = tt
-
-    pub end_stops : (r : Result (Unit {0}) Fault) → IfErr r (λ fault. fault ≡ Write)
-        → AppendsPrefix was now text → IfErr r (λ fault. StopsAtEnd v fault [] was now)
-    end_stops (Ok u) is h = tt
-    end_stops (Err fault) is h = inr (is, (text, ends, (h.0, h.2)))
+-- the text is not all written
+pub end_stops : (was now : Option (List ℕ)) (v last : FollowerView) (text : List ℕ)
+    (fault : Fault) → EndsInput v last text → fault ≡ Write → AppendsPrefix was now text
+    → StopsAtEnd v fault [] was now
+end_stops was now v last text fault ends is h = inr (is, (last, text, ends, (h.0, h.2)))

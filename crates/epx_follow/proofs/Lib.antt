@@ -1,3 +1,4 @@
+mod FirstLineLemmas
 mod SameInstanceLemmas
 mod FirstPlaceLemmas
 mod CallPlaceLemmas
@@ -7,10 +8,12 @@ mod BatchEndLemmas
 mod HoldLemmas
 mod BatchTextLemmas
 mod EndLemmas
-pub mod LogsTakenLemmas
+mod LogsTakenLemmas
 mod LogPartLemmas
 mod FollowLemmas
 mod InputEndLemmas
 mod FollowLogLemmas
-pub mod FollowingLemmas
 mod FollowedLogLemmas
+mod AfterLemmas
+mod PlaceOrderLemmas
+mod SameFollowerLemmas

@@ -1,19 +1,25 @@
--- What the end of a batch does, and the text that it writes.
-use Rattle.std.specs.Prelude.{◌≡◌, ◌⊎◌, ◌↔◌, ℕ, false, not, List, [], ◌∷◌, ◌++◌, length, zip}
-use Rattle.std.specs.Prelude.{filter, flat_map, codes, Contains}
+-- What the end of a batch does, the text that it writes, and why it is refused.
+use Rattle.std.specs.Prelude.{◌≡◌, ◌⊎◌, ◌↔◌, ℕ, not, List, [], ◌∷◌, ◌++◌, length, zip}
+use Rattle.std.specs.Prelude.{filter, flat_map, codes, Contains, Option, Some, find}
+use Rattle.std.specs.Ordering.{is_eq}
 use Rattle.serde_json.specs.Data.{Data, string}
+use Rattle.epx_types.specs.declared.fault.Fault.{Fault}
+use Rattle.epx_types.specs.declared.fault.Fault.TheVariants.{Memory}
 use Rattle.epx_types.specs.declared.id.Id.{Id}
 use Rattle.epx_types.specs.declared.reply.Reply.{Reply}
 use Rattle.epx_types.specs.CommittedMap.{ids_of}
 use Rattle.epx_types.specs.Done.{is_among, remaining}
 use Rattle.epx_types.specs.ExecutionOrder.{Ranked, ranked_ids, IsExecutionOrder}
+use Rattle.epx_types.specs.Ids.{id_cmp}
 use Rattle.epx_types.specs.Instances.{Instance}
-use Rattle.epx_types.specs.PlacedLines.{Placed, Earlier}
-use Rattle.epx_committed.specs.MergedLines.{IsMerged}
+use Rattle.epx_types.specs.PlacedLines.{Placed}
+use Rattle.epx_committed.specs.MergedLines.{IsMerged, IsMergeFault}
 use Rattle.epx_laws.specs.ResumedRunLaws.{run_on}
 use Rattle.epx_report.specs.ReportLines.{data_of_number, line_of, reply_line}
+use Rattle.epx_executor.specs.CallLines.{call_lines}
 use Rattle.epx_executor.specs.Commits.{not_done}
-use Rattle.epx_follow.specs.Following.{FollowerView, instances_of, held_lines}
+use Rattle.epx_follow.specs.CallPlaces.{at_lines, held_places}
+use Rattle.epx_follow.specs.Following.{FollowerView, IsClosed, instances_of, held_lines}
 
 -- so many instances are new, so many are executed, and so many wait
 abbrev pub came_data : ℕ → ℕ → ℕ → List Data
@@ -33,13 +39,15 @@ batch_text came waiting replies =
 abbrev pub count_new : FollowerView → List Instance → ℕ
 count_new v m = length (filter (λ e. not (is_among (ids_of (instances_of v.pending)) e.id)) m)
 
+-- the first of the lines that name an instance
+abbrev pub first_line : List Placed → Id → Option Placed
+first_line lines x = find (λ p. is_eq (id_cmp p.instance.id x)) lines
+
 -- some instances, each at the place of the first of the lines that name it
 pub record AreAtFirstLines (lines : List Placed) (m : List Instance) (placed : List Placed) : Type
     0 where
   pub instances : instances_of placed ≡ m
-  pub given : (p : Placed) → Contains placed p → Contains lines p
-  pub first : (p q : Placed) → Contains placed p → Contains lines q
-      → q.instance.id ≡ p.instance.id → ¬ Earlier q.place p.place
+  pub first : (p : Placed) → Contains placed p → first_line lines p.instance.id ≡ Some p
 
 -- The lines that are held commit the map `other`. What is ready in its remaining map is executed
 -- in the execution order, and is done then. The others wait
@@ -52,7 +60,19 @@ pub record EndsBatch (before after : FollowerView) (text : List ℕ) : Type 0 wh
   pub done : (x : Id) → Contains after.done x
       ↔ (Contains before.done x ⊎ Contains (ranked_ids order) x)
   pub pending : AreAtFirstLines (held_lines before) (not_done after.done other) after.pending
-  pub closed : (after.batch ≡ []) × (after.is_open ≡ false)
+  pub closed : IsClosed after
   pub next : after.next ≡ before.next
   pub written : text ≡ batch_text (count_new before other) (length after.pending)
       (zip (ranked_ids order) (run_on before.done before.store other order).replies)
+
+-- The executor refuses the commit of the batch, where what waits came before the lines of the
+-- batch. The fault names the places of the lines
+pub record RefusesCommit (v : FollowerView) (fault : Fault) : Type 0 where
+  pub call : Fault
+  pub refused : IsMergeFault
+      (call_lines v.done (instances_of v.pending) (instances_of v.batch)) call
+  pub named : fault ≡ at_lines (held_places v.pending) (held_places v.batch) call
+
+-- why the end of the batch is refused. Out of memory says nothing about it
+abbrev pub RefusesBatch : FollowerView → Fault → Type 0
+RefusesBatch v fault = (fault ≡ Memory) ⊎ RefusesCommit v fault

@@ -8,9 +8,9 @@ use Rattle.epx_lines.specs.Lines.{lines_of}
 use Rattle.epx_lines.specs.Meaning.{meaning_of}
 use Rattle.epx_lines.specs.declared.Line.TheVariants.{Entry}
 use Rattle.epx_executor.specs.Commits.{ExecutorView, IsCommit}
-use Rattle.epx_executor.specs.ExecutorLaws.{new_executor}
+use Rattle.epx_executor.specs.ExecutorLaws.{HoldTheSame}
 use Rattle.epx_executor.specs.HistoryLaws.{AreCommits, Call}
-use Rattle.epx_follow.specs.Following.{FollowerView, instances_of}
+use Rattle.epx_follow.specs.Following.{FollowerView, IsClosed, follower_after, instances_of}
 use Rattle.epx_follow.specs.BatchEnds.{EndsBatch, batch_text, count_new}
 use Rattle.epx_follow.specs.InputEnds.{IsFollowed}
 
@@ -39,11 +39,26 @@ AreOnLines logs calls = (call : Call) → Contains calls call
     → (e : Instance) → Contains call.0 e → (log : List ℕ) × Contains logs log
     × ((line : List ℕ) × Contains (lines_of log) line × (meaning_of line ≡ Ok (Entry e)))
 
--- Following logs to their ends is calls of an executor, one for each batch: what comes with them is
--- on the lines, and their replies are those that are written. So the laws of the order and the
--- replies of calls hold of it
+-- Following logs to their ends, from a follower whose batch is empty, is calls of its executor, one
+-- for each batch: what comes with them is on the lines, and their replies are those that are
+-- written. So the laws of the order and the replies of calls hold of it
 abbrev pub FollowedLogsAreCommits : Type 0
-FollowedLogsAreCommits = (each : Bool) (logs : List (List ℕ)) (text : List ℕ)
-    → (followed : IsFollowed each logs text)
-    → (calls : List Call) × AreCommits new_executor calls (executor_of followed.ended.last)
+FollowedLogsAreCommits = (start : FollowerView) → start.batch ≡ [] →
+    (each : Bool) (logs : List (List ℕ)) (last : FollowerView) (text : List ℕ)
+    → (followed : IsFollowed start each logs last text)
+    → (calls : List Call) × AreCommits (executor_of start) calls (executor_of last)
     × AreOnLines logs calls × AreBatchTexts calls (followed.batches ++ followed.ended.batch)
+
+-- a follower that goes on from an executor holds what the executor holds
+abbrev pub FollowerAfterHoldsTheSame : Type 0
+FollowerAfterHoldsTheSame = (v : ExecutorView) (log line : ℕ)
+    → executor_of (follower_after v log line) ≡ v
+
+-- Followers whose executors hold the same write the same text for the same logs, and their
+-- executors hold the same again. The places of the lines that wait do not matter
+abbrev pub SameFollowersFollowAlike : Type 0
+SameFollowersFollowAlike = (v w : FollowerView) → IsClosed v → IsClosed w
+    → HoldTheSame (executor_of v) (executor_of w) →
+    (each : Bool) (logs : List (List ℕ)) (last other : FollowerView) (text same : List ℕ)
+    → IsFollowed v each logs last text → IsFollowed w each logs other same
+    → (text ≡ same) × HoldTheSame (executor_of last) (executor_of other)

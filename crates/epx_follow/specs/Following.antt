@@ -1,5 +1,6 @@
 -- What a follower holds between two lines.
-use Rattle.std.specs.Prelude.{◌+◌, Bool, true, false, List, [], ◌∷◌, ◌++◌, map, if◌then◌else◌}
+use Rattle.std.specs.Prelude.{◌≡◌, ◌+◌, ℕ, Bool, true, false, List, [], ◌∷◌, ◌++◌, map}
+use Rattle.std.specs.Prelude.{if◌then◌else◌}
 use Rattle.std.specs.FinMap as contents
 use Rattle.epx_types.specs.declared.id.Id.{Id}
 use Rattle.epx_types.specs.declared.place.Place.{Place}
@@ -7,13 +8,15 @@ use Rattle.epx_types.specs.Contents.{Contents}
 use Rattle.epx_types.specs.Done.{is_among}
 use Rattle.epx_types.specs.Instances.{Instance}
 use Rattle.epx_types.specs.PlacedLines.{Placed}
+use Rattle.epx_executor.specs.CallLines.{lines_from}
+use Rattle.epx_executor.specs.Commits.{ExecutorView}
 
 pub record FollowerView : Type 0 where
   -- the executed instances
   pub done : List Id
   -- the contents of the store
   pub store : Contents
-  -- the committed instances that wait, by rising Id, each at the place of its first line
+  -- the committed instances that wait, by rising Id, each at the place of the first line that came
   pub pending : List Placed
   -- the lines of the open batch that commit an instance, without those of executed instances
   pub batch : List Placed
@@ -33,10 +36,26 @@ new_follower = record {
   is_open = false;
 }
 
+-- what the executor holds, with the instances that wait on consecutive lines of a log. Line 1 of
+-- log 0 is the next
+abbrev pub follower_after : ExecutorView → ℕ → ℕ → FollowerView
+follower_after v log line = record {
+  done = v.done;
+  store = v.store;
+  pending = lines_from log line v.pending;
+  batch = [];
+  next = record { log = 0; line = 1 };
+  is_open = false;
+}
+
+-- no line came since the last batch ended
+abbrev pub IsClosed : FollowerView → Type 0
+IsClosed v = (v.batch ≡ []) × (v.is_open ≡ false)
+
 abbrev pub instances_of : List Placed → List Instance
 instances_of lines = map (λ p. p.instance) lines
 
--- the lines of instances that are not executed
+-- the lines of instances that are not executed. Those of one instance are as they came
 abbrev pub held_lines : FollowerView → List Placed
 held_lines v = v.pending ++ v.batch
 

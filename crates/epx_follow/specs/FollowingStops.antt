@@ -10,7 +10,7 @@ use Rattle.epx_devices.specs.Models.{SourceModel}
 use Rattle.epx_lines.specs.Lines.{lines_of}
 use Rattle.epx_merge.specs.DeliveredLogs.{FirstDeliver, IsOfNoSource}
 use Rattle.epx_merge.specs.LogParts.{EndsLine}
-use Rattle.epx_follow.specs.Following.{FollowerView, new_follower}
+use Rattle.epx_follow.specs.Following.{FollowerView}
 use Rattle.epx_follow.specs.InputEnds.{EndsInput}
 use Rattle.epx_follow.specs.LinesTaken.{RefusesIf, RefusesLine, TakesLine}
 use Rattle.epx_follow.specs.LogsTaken.{TakesLines, TakesLogs}
@@ -49,11 +49,6 @@ abbrev pub ReadsLines : {S : Type 0} → SourceModel S → S → S → List ℕ 
 ReadsLines D first now lines = EndsLine lines
     × ((begun : List ℕ) × Delivers D first now (lines ++ begun))
 
--- reads of the source returned these lines, which are its first ones or all
-abbrev pub HasFirstLines : {S : Type 0} → SourceModel S → S → List ℕ → Type 0
-HasFirstLines D first lines =
-    (now : _) × (ReadsLines D first now lines ⊎ DeliversAll D first now lines)
-
 -- no more is read of the log of this number: out of memory, it has too many bytes, or a read failed
 abbrev pub StopsReadingOn : {S : Type 0} → SourceModel S → ℕ → S → S → List ℕ → Fault → Type 0
 StopsReadingOn D log first now lines fault =
@@ -75,37 +70,21 @@ StopsWithin D each log first last v fault text was now = (lines : List ℕ)
 -- the end of the input stops it: the last batch is refused, or the output failed
 abbrev pub StopsAtEnd : FollowerView → Fault → List ℕ → Option (List ℕ) → Option (List ℕ) → Type 0
 StopsAtEnd v fault text was now = (RefusesIf v.is_open v fault × Appends was now text)
-    ⊎ ((fault ≡ Write) × ((rest : List ℕ) × EndsInput v rest × AppendsSome text rest was now))
+    ⊎ ((fault ≡ Write) × ((last : FollowerView) × (rest : List ℕ)
+    × EndsInput v last rest × AppendsSome text rest was now))
 
--- following the sources stops with this fault
-pub record StopsFollowing {S : Type 0} (D : SourceModel S) (each : Bool) (old new : List S)
-    (fault : Fault) (was now : Option (List ℕ)) : Type 0 where
+-- following the sources from `start` stops with this fault
+pub record StopsFollowing {S : Type 0} (D : SourceModel S) (start : FollowerView) (each : Bool)
+    (old new : List S) (fault : Fault) (was now : Option (List ℕ)) : Type 0 where
   -- these logs are followed to their ends, and their text is written
   pub logs : List (List ℕ)
   pub whole : FirstDeliver D old new logs
   pub taken : FollowerView
   pub text : List ℕ
-  pub lines : TakesLogs each new_follower logs taken text
+  pub lines : TakesLogs each start logs taken text
   -- there are too many sources, it stops within the next log, or no log is left
   pub stopped : (IsOfNoSource (length old) fault × Appends was now text)
       ⊎ ((first : S) × (last : S) × (slice_get old (length logs) ≡ Some first)
       × (slice_get new (length logs) ≡ Some last)
       × StopsWithin D each (length logs) first last taken fault text was now)
       ⊎ ((length logs ≡ length old) × StopsAtEnd taken fault text was now)
-
--- a fault of reading so many logs, at the log of this number
-abbrev pub IsReadingFault : ℕ → ℕ → Fault → Type 0
-IsReadingFault count log fault = IsOfNoSource count fault
-    ⊎ (fault ≡ LogTooLong log) ⊎ (fault ≡ Read log)
-
--- What is written when following so many logs stops, once these whole logs and these first lines of
--- the next one are read: the text of the batches that ended, and some of the next text where the
--- output failed. A line stops it, reading does, or the end of the last log
-abbrev pub WritesSome : Bool → ℕ → List (List ℕ) → List ℕ → Fault
-    → Option (List ℕ) → Option (List ℕ) → Type 0
-WritesSome each count logs lines fault was now = (taken : FollowerView) × (text : List ℕ)
-    × TakesLogs each new_follower logs taken text
-    × (StopsAmong each taken (lines_of lines) fault text was now
-    ⊎ (IsReadingFault count (length logs) fault × ((then : FollowerView) × (batches : List ℕ)
-    × TakesLines each taken (lines_of lines) then batches × Appends was now (text ++ batches)))
-    ⊎ ((length logs ≡ count) × StopsAtEnd taken fault text was now))

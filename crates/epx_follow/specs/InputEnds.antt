@@ -4,7 +4,7 @@ use Rattle.std.specs.FinMap as contents
 use Rattle.epx_types.specs.Done.{remaining}
 use Rattle.epx_types.specs.WaitingLists.{Waiting, IsWaitingList}
 use Rattle.epx_report.specs.ReportLines.{store_line, waiting_line}
-use Rattle.epx_follow.specs.Following.{FollowerView, instances_of, new_follower}
+use Rattle.epx_follow.specs.Following.{FollowerView, instances_of}
 use Rattle.epx_follow.specs.LinesTaken.{EndsIf}
 use Rattle.epx_follow.specs.LogsTaken.{TakesLogs}
 
@@ -15,20 +15,21 @@ pub record IsRest (v : FollowerView) (text : List ℕ) : Type 0 where
   pub printed : text
       ≡ flat_map waiting_line waiting ++ flat_map store_line (contents.entries v.store)
 
--- the end of the input ends the batch if it is open, and then comes the rest
-pub record EndsInput (v : FollowerView) (text : List ℕ) : Type 0 where
-  pub last : FollowerView
+-- The end of the input ends the batch if it is open, and then comes the rest. The follower is
+-- `last` after that
+pub record EndsInput (v last : FollowerView) (text : List ℕ) : Type 0 where
   pub batch : List ℕ
   pub rest : List ℕ
   pub ended : EndsIf v.is_open v last batch
   pub left : IsRest last rest
   pub printed : text ≡ batch ++ rest
 
--- the text of following these logs to their ends
-pub record IsFollowed (each : Bool) (logs : List (List ℕ)) (text : List ℕ) : Type 0 where
+-- the text of following these logs to their ends from `start`, after which the follower is `last`
+pub record IsFollowed (start : FollowerView) (each : Bool) (logs : List (List ℕ))
+    (last : FollowerView) (text : List ℕ) : Type 0 where
   pub taken : FollowerView
   pub batches : List ℕ
   pub rest : List ℕ
-  pub lines : TakesLogs each new_follower logs taken batches
-  pub ended : EndsInput taken rest
+  pub lines : TakesLogs each start logs taken batches
+  pub ended : EndsInput taken last rest
   pub printed : text ≡ batches ++ rest

@@ -1,8 +1,10 @@
 pub mod Following
+pub mod CallPlaces
 pub mod BatchEnds
 pub mod LinesTaken
 pub mod LogsTaken
 pub mod InputEnds
 pub mod FollowingStops
 pub mod FollowerLaws
+pub mod PlaceOrderLaws
 pub mod inner

@@ -6,9 +6,8 @@ use Rattle.epx_types.specs.declared.fault.Why.{Why}
 use Rattle.epx_lines.specs.Meaning.{is_blank, meaning_of}
 use Rattle.epx_lines.specs.declared.Line.{Line}
 use Rattle.epx_lines.specs.declared.Line.TheVariants.{Blank, Entry}
-use Rattle.epx_committed.specs.MergedLines.{IsMergeFault}
-use Rattle.epx_follow.specs.Following.{FollowerView, held_lines, passed, joined}
-use Rattle.epx_follow.specs.BatchEnds.{EndsBatch}
+use Rattle.epx_follow.specs.Following.{FollowerView, passed, joined}
+use Rattle.epx_follow.specs.BatchEnds.{EndsBatch, RefusesBatch}
 
 -- the batch ends here, or stays open and nothing is written
 abbrev pub EndsIf : Bool → FollowerView → FollowerView → List ℕ → Type 0
@@ -28,11 +27,11 @@ TakesLine each line before after text =
 
 -- why the batch does not end
 abbrev pub RefusesIf : Bool → FollowerView → Fault → Type 0
-RefusesIf true v fault = IsMergeFault (held_lines v) fault
+RefusesIf true v fault = RefusesBatch v fault
 RefusesIf false v fault = fault ≡ Memory
 
 abbrev pub RefusesAs : Bool → Bool → Result Line Why → FollowerView → Fault → Type 0
-RefusesAs each true m v fault = IsMergeFault (held_lines (passed v)) fault
+RefusesAs each true m v fault = RefusesBatch (passed v) fault
 RefusesAs each false (Ok Blank) v fault = RefusesIf each (passed v) fault
 RefusesAs each false (Ok (Entry e)) v fault = (fault ≡ Memory) ⊎ RefusesIf each (joined v e) fault
 RefusesAs each false (Err why) v fault = (fault ≡ Memory) ⊎ (fault ≡ BadLine v.next why)

@@ -1,5 +1,4 @@
 -- Words of private clauses: no public contract speaks of them.
-pub mod CallPlaces
 pub mod FirstPlaces
 pub mod HeldLines
 pub mod PartsTaken

@@ -149,16 +149,16 @@ fn append_rest<R: Threads + RandomSource + Sync>(
     append_store(alloc, text, executor.store())
 }
 
-/// Writes what comes once the input ends.
+/// Writes what comes once the input ends. Returns the follower after that.
 fn end_input<R: Threads + RandomSource + Sync, W: Sink>(
     rt: &R,
     alloc: Global,
     follower: Follower,
     plan: Plan,
     output: &mut W,
-) -> Result<(), Fault>
+) -> Result<Follower, Fault>
     requires { W.model.has_failed output.old ≡ false }
-    ensures ended { OnOk result ((rest : List ℕ) × EndsInput follower rest
+    ensures ended { IfOk result (λ last. (rest : List ℕ) × EndsInput follower last rest
         × Appends (W.model.contents output.old) (W.model.contents output.new) rest) }
     ensures flushed { OnOk result (W.model.is_flushed output.new ≡ true) }
     ensures stopped { IfErr result (λ fault. StopsAtEnd follower fault []
@@ -167,7 +167,8 @@ fn end_input<R: Threads + RandomSource + Sync, W: Sink>(
 {
     let (last, mut text) = end_open(rt, alloc, follower, plan)?;
     append_rest(rt, alloc, &last, plan, &mut text)?;
-    write_out(&text, output)
+    write_out(&text, output)?;
+    Ok(last)
 }
 
 /// Follows the logs of the sources, one after another, while they are read, and writes the text of
@@ -175,30 +176,35 @@ fn end_input<R: Threads + RandomSource + Sync, W: Sink>(
 /// the input ends the last batch, if it has lines, and then the lines of what waits and of the
 /// store are written. The output is flushed after each batch.
 ///
+/// It goes on from `start`: a new follower, or one that goes on from an executor. Returns the
+/// follower after the last line.
+///
 /// What is written stays where a fault stops it: the text of the batches that ended.
 pub fn follow<R: Threads + RandomSource + Sync, S: Source, W: Sink>(
     rt: &R,
     alloc: Global,
+    start: Follower,
     sources: &mut [S],
     each: bool,
     plan: Plan,
     output: &mut W,
-) -> Result<(), Fault>
+) -> Result<Follower, Fault>
+    requires begin { start.next ≡ record { log = 0; line = 1 } }
     requires sources { All (λ s. S.model.has_failed s ≡ false) sources.old }
     requires output { W.model.has_failed output.old ≡ false }
-    ensures followed { OnOk result ((logs : List (List ℕ)) × (text : List ℕ)
-        × EachDelivers S.model sources.old sources.new logs × IsFollowed each logs text
+    ensures followed { IfOk result (λ last. (logs : List (List ℕ)) × (text : List ℕ)
+        × EachDelivers S.model sources.old sources.new logs × IsFollowed start each logs last text
         × Appends (W.model.contents output.old) (W.model.contents output.new) text) }
     ensures flushed { OnOk result (W.model.is_flushed output.new ≡ true) }
-    ensures stopped { IfErr result (λ fault. StopsFollowing S.model each sources.old sources.new
-        fault (W.model.contents output.old) (W.model.contents output.new)) }
+    ensures stopped { IfErr result (λ fault. StopsFollowing S.model start each sources.old
+        sources.new fault (W.model.contents output.old) (W.model.contents output.new)) }
     ensures failed { IsErrOf result Fault.Write ↔ (W.model.has_failed output.new ≡ true) }
 {
     if sources.len() > MAX_LOGS {
         return Err(Fault::TooManyLogs);
     }
     let mut reader = LineReader::new(alloc);
-    let mut follower = Follower::new(alloc);
+    let mut follower = start;
     let mut log = 0;
     while log < sources.len() {
         let followed = follow_log(

@@ -1,15 +1,14 @@
 //! Follows a log: takes its lines one after another, and executes it batch by batch.
-ghost use Rattle.std.specs.Prelude.{◌≡◌, ◌<◌, ◌^◌, Contains, IfOk, IfErr};
+ghost use Rattle.std.specs.Prelude.{◌≡◌, ◌<◌, ◌+◌, ◌^◌, Contains, length, IfOk, IfErr};
 ghost use Rattle.std.specs.Prelude.{MatchResult};
-ghost use Rattle.epx_committed.specs.MergedLines.{IsMergeFault};
-ghost use Rattle.epx_follow.specs.BatchEnds.{EndsBatch};
-ghost use Rattle.epx_follow.specs.Following.{at_next_log, held_lines, new_follower, next_line};
+ghost use Rattle.epx_follow.specs.BatchEnds.{EndsBatch, RefusesBatch};
+ghost use Rattle.epx_follow.specs.Following.{at_next_log, follower_after, new_follower, next_line};
 ghost use Rattle.epx_follow.specs.Following.{passed, joined};
 ghost use Rattle.epx_follow.specs.FollowerLaws.{executor_of};
 ghost use Rattle.epx_follow.specs.LinesTaken.{TakesLine, RefusesLine};
 
 use crate::batch_text::{batch_text, count_came, parts_of};
-use crate::first_places::{forget_places, note_place};
+use crate::first_places::{forget_places, note_place, pending_places_from};
 use crate::line_places::fault_at_lines;
 use epx_executor::Executor;
 use epx_executor::laws::commit_leaves_none_ready;
@@ -29,7 +28,7 @@ use std::thread::Threads;
 #[derive(Drop)]
 pub struct Follower {
     executor: Executor,
-    /// The place of the first line of each instance that waits or is in the open batch.
+    /// The place of the first line that came of each instance that waits or is in the open batch.
     places: BTreeMap<Id, Place>,
     /// The instances of the open batch that are not executed.
     batch: Vec<Entry>,
@@ -85,6 +84,29 @@ impl Follower {
         }
     }
 
+    /// Goes on from what the executor holds. The instances that wait have consecutive lines of a
+    /// log, of which the first is `line`. Line 1 of log 0 is the next.
+    pub fn after(
+        alloc: Global,
+        executor: Executor,
+        log: usize,
+        line: usize,
+    ) -> Result<Follower, Memory>
+        requires { line + length executor.pending < 2 ^ 63 }
+        ensures { IfOk result (λ follower. follower ≡ follower_after executor log line) }
+    {
+        let places = pending_places_from(alloc, &executor, log, line)?;
+        let follower = Follower {
+            executor,
+            places,
+            batch: Vec::new(alloc),
+            batch_places: Vec::new(alloc),
+            next: Place { log: 0, line: 1 },
+            is_open: false,
+        };
+        Ok(follower)
+    }
+
     /// A line without an instance came.
     fn pass_line(self) -> Follower
         requires { self.next.line < 2 ^ 63 }
@@ -132,8 +154,7 @@ impl Follower {
         alloc: Global,
         plan: Plan,
     ) -> Result<(Follower, Vec<u8>), Fault>
-        ensures { MatchResult result (λ v. EndsBatch self v.0 v.1.items)
-            (IsMergeFault (held_lines self)) }
+        ensures { MatchResult result (λ v. EndsBatch self v.0 v.1.items) (RefusesBatch self) }
     {
         let Follower {
             mut executor,

@@ -1,6 +1,6 @@
 //! The places of the lines that a refused batch names.
 ghost use Rattle.std.specs.Prelude.{◌≡◌, ◌⊎◌, map, IfOk};
-ghost use Rattle.epx_follow.specs.inner.CallPlaces.{at_lines, place_among, held_places};
+ghost use Rattle.epx_follow.specs.CallPlaces.{at_lines, place_among, held_places};
 ghost use Rattle.epx_follow.specs.inner.FirstPlaces.{place_in};
 ghost use Rattle.epx_follow.specs.inner.HeldLines.{pending_lines};
 

@@ -2,7 +2,6 @@ mod OutputLemmas
 mod BareWordLemmas
 mod WordLemmas
 mod SourceListLemmas
-mod FirstReadLemmas
 mod TextsReadLemmas
 mod StatusLemmas
 mod FollowEndingLemmas

@@ -3,7 +3,7 @@ use Rattle.std.proofs.Common.{◌≡◌, ◌<◌, ◌+◌, ◌++◌, ◌∷◌, 
 use Rattle.std.proofs.Common.{Some, codes, get_or, sym, refl, subst, inl, inr}
 use Rattle.epx_types.proofs.Common.{map-append, take_more}
 use Rattle.epx_devices.specs.declared.either_source.EitherSource.TheVariants.{First, Second}
-use Rattle.epx_program.specs.inner.SourcesAt.{AreSourcesAt, IsSourceAt, SourceAt}
+use Rattle.epx_program.specs.SourcesAt.{AreSourcesAt, IsSourceAt, SourceAt}
 
 module _ {O F I : Type 0} (opener : O) where
   one_more : (input next left : Option I) (paths : List (List ℕ)) (path : List ℕ)

@@ -150,7 +150,7 @@ status_of_following : (Is : TextRelation) (each : Bool) (paths : Option (List (L
     → IsFollowStatus status
 status_of_following Is each paths zero old new h = inl refl
 status_of_following Is each paths (suc n) old new h =
-    let stopped = h.stopped (λ none. omega (arith, none)) in inr (stopped.0, stopped.3)
+    let stopped = h.stopped (λ none. omega (arith, none)) in inr (stopped.0, stopped.1)
 
 pub follow_status : (Is : TextRelation) (status : ℕ) (old new : Option (List ℕ)) (words : Words)
     → IfFollow (λ plan paths each explain. EndsFollow Is each paths status old new) words

@@ -1,155 +1,131 @@
--- What sources at paths deliver are the texts of their files and of the input, and their first
--- lines.
-use Rattle.std.proofs.Common.{◌≡◌, ◌∷◌, ◌∙◌, [], ℕ, suc, Bool, List, length, Option, Some, Result}
-use Rattle.std.proofs.Common.{Ok, Err, IfOk, inl, inr, codes, refl, sym, subst, ap, arith}
+-- The texts that sources at paths deliver are those of their files and of the input.
+use Rattle.std.proofs.Common.{◌≡◌, ◌∷◌, [], ℕ, List, length, Option, None, Some, codes, refl, subst}
+use Rattle.std.proofs.Common.{inl, inr, arith, Bool, Result, Ok, Err, IfOk}
 use Rattle.epx_types.specs.declared.fault.Fault.{Fault}
 use Rattle.epx_names.specs.declared.task.Task.{Task}
+use Rattle.epx_devices.proofs.DeliveryLemmas.{all_are_known, path_delivers_opened}
+use Rattle.epx_devices.proofs.EitherSourceLemmas.{first_delivers_all, second_delivers_all}
 use Rattle.epx_devices.specs.Deliveries.{DeliversAll}
+use Rattle.epx_devices.specs.DeviceStates.{PathState, path_source}
+use Rattle.epx_devices.specs.EitherSources.{either_source}
+use Rattle.epx_devices.specs.MemoryDevices.{memory_source}
 use Rattle.epx_devices.specs.Models.{OpenerModel, SourceModel}
+use Rattle.epx_devices.specs.declared.either_source.EitherSource.{EitherSource}
+use Rattle.epx_devices.specs.declared.either_source.EitherSource.TheVariants.{First, Second}
 use Rattle.epx_merge.specs.DeliveredLogs.{EachDelivers, FirstDeliver}
-use Rattle.epx_follow.specs.FollowingStops.{HasFirstLines}
-use Rattle.epx_follow.proofs.FollowingLemmas.{AreFirstOf}
 use Rattle.epx_program.specs.Endings.{AddsAnswer, AddsPart}
-use Rattle.epx_program.specs.Inputs.{AreBegunAt, AreFirstLinesOfFile, AreTextsAt, IsFileText}
-use Rattle.epx_program.specs.Inputs.{TextRelation, after_input, text_relation}
-use Rattle.epx_program.specs.inner.SourcesAt.{AreSourcesAt, IsSourceAt, SourceAt, model_at}
-use Rattle.epx_program.proofs.FirstReadLemmas.{AreFirstInputLines, IsInputText, file_lines}
-use Rattle.epx_program.proofs.FirstReadLemmas.{file_text, input_lines, input_text}
-
--- texts at paths that are begun are those at all paths, if they are as many
-all_begun : (Is : TextRelation) (paths texts : List (List ℕ)) (lines : List ℕ)
-    → length texts ≡ length paths → AreBegunAt Is paths texts lines → AreTextsAt Is paths texts
-all_begun Is [] texts lines many h = h.0
-all_begun Is (path ∷ paths) [] lines many h = absurd (cc many)
-all_begun Is (path ∷ paths) (text ∷ texts) lines many (inl file) =
-    inl (file.0, file.1, all_begun Is paths texts lines (omega (arith, many)) file.2)
-all_begun Is (path ∷ paths) (text ∷ texts) lines many (inr hyphen) = inr (
-  hyphen.0,
-  hyphen.1,
-  all_begun (after_input Is) paths texts lines (omega (arith, many)) hyphen.2,
-)
+use Rattle.epx_program.specs.Inputs.{AreTextsAt, IsFileText, IsWholeText, TextRelation}
+use Rattle.epx_program.specs.Inputs.{text_relation}
+use Rattle.epx_program.specs.SourcesAt.{AreSourcesAt, IsSourceAt, SourceAt, unopened}
+use Rattle.epx_program.specs.SourcesAt.{input_or_nothing, model_at}
 
 module _ {O F I : Type 0} (opening : OpenerModel O F) (D : SourceModel F) (opener : O)
     (E : SourceModel I) where
-  -- the model of a source at a path
+  -- the models of a source of a file, of any other source, and of one of either kind
+  abbrev file : SourceModel (PathState O F)
+  file = path_source opening D
+
+  abbrev other : SourceModel (EitherSource I (List ℕ))
+  other = either_source E memory_source
+
   abbrev any : SourceModel (SourceAt O F I)
   any = model_at opening D E
 
-  -- what the texts are, while the input is left and once it is taken
-  abbrev relation : Option I → TextRelation
-  relation input = record {
-    OfFile = IsFileText opening D opener;
-    OfInput = IsInputText E input;
-    FirstOfFile = AreFirstLinesOfFile opening D opener;
-    FirstOfInput = AreFirstInputLines E input;
-  }
+  -- the text of the input, while it is left and once it is taken
+  abbrev of_input : Option I → List ℕ → Type 0
+  of_input (Some input) = IsWholeText E input
+  of_input None = λ text. text ≡ []
 
-  one_text : (path text : List ℕ) (paths texts : List (List ℕ)) (lines : List ℕ)
-      (input next : Option I) (source last : SourceAt O F I)
-      → IsSourceAt opener path input next source → DeliversAll any source last text
-      → AreBegunAt (relation next) paths texts lines
-      → AreBegunAt (relation input) (path ∷ paths) (text ∷ texts) lines
-  one_text path text paths texts lines input next source last (inl at) all rest = inl (
-    at.0,
-    file_text opening D opener E path last text
-        (subst (λ s. DeliversAll any s last text) at.1 all),
-    subst (λ i. AreBegunAt (relation i) paths texts lines) at.2 rest,
-  )
-  one_text path text paths texts lines input next source last (inr hyphen) all rest = inr (
-    hyphen.0,
-    input_text opening D opener E input last text
-        (subst (λ s. DeliversAll any s last text) hyphen.1 all),
-    subst (λ i. AreBegunAt (relation i) paths texts lines) hyphen.2 rest,
-  )
+  file_text : (path : List ℕ) (last : SourceAt O F I) (text : List ℕ)
+      → DeliversAll any (unopened opener path) last text
+      → IsFileText opening D opener path text
+  file_text path last text all =
+      let of_path = first_delivers_all file other _ last text all in
+      let from = path_delivers_opened opening D _ of_path.0 text refl of_path.1 in
+      (from.opened, from.at_path, (from.last, from.all))
 
-  one_begun : (path : List ℕ) (paths : List (List ℕ)) (lines : List ℕ) (input next : Option I)
-      (source : SourceAt O F I) → IsSourceAt opener path input next source
-      → HasFirstLines any source lines → AreBegunAt (relation input) (path ∷ paths) [] lines
-  one_begun path paths lines input next source (inl at) has =
-      elim (file_lines opening D opener E path lines
-      (subst (λ s. HasFirstLines any s lines) at.1 has)) [
-        | inl none ↦ inl none
-        | inr first ↦ inr (inl (at.0, first))
-      ]
-  one_begun path paths lines input next source (inr hyphen) has = inr (inr (
-    hyphen.0,
-    input_lines opening D opener E input lines
-        (subst (λ s. HasFirstLines any s lines) hyphen.1 has),
-  ))
+  input_text : (input : I) (last : SourceAt O F I) (text : List ℕ)
+      → DeliversAll any (input_or_nothing (Some input)) last text → IsWholeText E input text
+  input_text input last text all =
+      let inner = second_delivers_all file other (First input) last text all in
+      first_delivers_all E memory_source input inner.0 text inner.1
 
-  -- the whole logs of sources at paths, and the first lines of the next one, are those of the texts
-  begun_from : (input left : Option I) (paths logs : List (List ℕ)) (lines : List ℕ)
-      (sources after : List (SourceAt O F I)) → AreSourcesAt opener input left paths sources
-      → FirstDeliver any sources after logs → AreFirstOf any sources (length logs) lines
-      → AreBegunAt (relation input) paths logs lines
-  begun_from input left [] [] lines [] after are whole (inl none) = (refl, none)
-  begun_from input left [] [] lines [] after are whole (inr first) = absurd (cc (first.1))
-  begun_from input left [] (log ∷ logs) lines [] after are whole first = absurd whole
-  begun_from input left [] logs lines (s ∷ sources) after are whole first = absurd (cc are.0)
-  begun_from input left (path ∷ paths) logs lines [] after are whole first = absurd are
-  begun_from input left (path ∷ paths) [] lines (s ∷ sources) after are whole (inl none) = inl none
-  begun_from input left (path ∷ paths) [] lines (s ∷ sources) after are whole (inr first) =
-      let same : s ≡ first.0 = cc (first.1) in
-      one_begun path paths lines input are.0 s are.1
-      (subst (λ s. HasFirstLines any s lines) (sym same) first.2)
-  begun_from input left (path ∷ paths) (log ∷ logs) lines (s ∷ sources) [] are whole first =
-      absurd whole
-  begun_from input left (path ∷ paths) (log ∷ logs) lines (s ∷ sources) (t ∷ after) are whole
-      first =
-      one_text path log paths logs lines input are.0 s t are.1 whole.0
-      (begun_from are.0 left paths logs lines sources after are.2 whole.1 first)
+  nothing_text : (last : SourceAt O F I) (text : List ℕ)
+      → DeliversAll any (input_or_nothing None) last text → text ≡ []
+  nothing_text last text all =
+      let inner = second_delivers_all file other (Second []) last text all in
+      let bytes = second_delivers_all E memory_source [] inner.0 text inner.1 in
+      all_are_known memory_source (λ s room bytes t read. read) [] bytes.0 text bytes.1
 
-  pub as_many_sources : (input left : Option I) (paths : List (List ℕ))
-      (sources : List (SourceAt O F I)) → AreSourcesAt opener input left paths sources
-      → length sources ≡ length paths
-  as_many_sources input left [] sources are = ap length are.0
-  as_many_sources input left (path ∷ paths) [] are = absurd are
-  as_many_sources input left (path ∷ paths) (s ∷ sources) are =
-      ap suc (as_many_sources are.0 left paths sources are.2)
+  module _ (whole : I) where
+    -- what the texts are, while the input is left and once it is taken
+    abbrev relation : Option I → TextRelation
+    relation input = record (text_relation opening D opener E whole) { OfInput = of_input input }
 
-  module _ (input : I) where
-    abbrev Is : TextRelation
-    Is = text_relation opening D opener E input
+    one_text : (path text : List ℕ) (paths texts : List (List ℕ)) (input next : Option I)
+        (source last : SourceAt O F I) → IsSourceAt opener path input next source
+        → DeliversAll any source last text → AreTextsAt (relation next) paths texts
+        → AreTextsAt (relation input) (path ∷ paths) (text ∷ texts)
+    one_text path text paths texts (Some input) next source last (inl file) all rest = inl (
+      file.0,
+      file_text path last text (subst (λ s. DeliversAll any s last text) file.1 all),
+      subst (λ i. AreTextsAt (relation i) paths texts) file.2 rest,
+    )
+    one_text path text paths texts None next source last (inl file) all rest = inl (
+      file.0,
+      file_text path last text (subst (λ s. DeliversAll any s last text) file.1 all),
+      subst (λ i. AreTextsAt (relation i) paths texts) file.2 rest,
+    )
+    one_text path text paths texts (Some input) next source last (inr hyphen) all rest = inr (
+      hyphen.0,
+      input_text input last text (subst (λ s. DeliversAll any s last text) hyphen.1 all),
+      subst (λ i. AreTextsAt (relation i) paths texts) hyphen.2 rest,
+    )
+    one_text path text paths texts None next source last (inr hyphen) all rest = inr (
+      hyphen.0,
+      nothing_text last text (subst (λ s. DeliversAll any s last text) hyphen.1 all),
+      subst (λ i. AreTextsAt (relation i) paths texts) hyphen.2 rest,
+    )
 
-    module _ (left : Option I) (paths : List (List ℕ)) (sources after : List (SourceAt O F I))
-        (are : AreSourcesAt opener (Some input) left paths sources) where
-      pub begun_at : (logs : List (List ℕ)) (lines : List ℕ) → FirstDeliver any sources after logs
-          → AreFirstOf any sources (length logs) lines → AreBegunAt Is paths logs lines
-      begun_at logs lines whole first =
-          begun_from (Some input) left paths logs lines sources after are whole first
+    -- what sources at paths delivered are the texts at these paths
+    texts_from : (input left : Option I) (paths texts : List (List ℕ))
+        (sources after : List (SourceAt O F I)) → AreSourcesAt opener input left paths sources
+        → length texts ≡ length sources → FirstDeliver any sources after texts
+        → AreTextsAt (relation input) paths texts
+    texts_from input left [] [] sources after are many whole = refl
+    texts_from input left [] (text ∷ texts) [] after are many whole = absurd (cc many)
+    texts_from input left [] (text ∷ texts) (s ∷ sources) after are many whole =
+        absurd (cc are.0)
+    texts_from input left (path ∷ paths) texts [] after are many whole = absurd are
+    texts_from input left (path ∷ paths) [] (s ∷ sources) after are many whole = absurd (cc many)
+    texts_from input left (path ∷ paths) (text ∷ texts) (s ∷ sources) [] are many whole =
+        absurd whole
+    texts_from input left (path ∷ paths) (text ∷ texts) (s ∷ sources) (t ∷ after) are many whole =
+        one_text path text paths texts input are.0 s t are.1 whole.0
+        (texts_from are.0 left paths texts sources after are.2 (omega (arith, many)) whole.1)
 
-      pub texts_at : (texts : List (List ℕ)) → EachDelivers any sources after texts
-          → AreTextsAt Is paths texts
-      texts_at texts each = all_begun Is paths texts []
-          (each.as_many ∙ as_many_sources (Some input) left paths sources are)
-          (begun_at texts [] each.whole (inl refl))
+  pub texts_at : (input : I) (left : Option I) (paths : List (List ℕ))
+      (sources after : List (SourceAt O F I)) → AreSourcesAt opener (Some input) left paths sources
+      → (texts : List (List ℕ)) → EachDelivers any sources after texts
+      → AreTextsAt (text_relation opening D opener E input) paths texts
+  texts_at input left paths sources after are texts each =
+      texts_from input (Some input) left paths texts sources after are each.as_many each.whole
 
-    begun_alone : (after : List I) (logs : List (List ℕ)) (lines : List ℕ)
-        → FirstDeliver E (input ∷ []) after logs → AreFirstOf E (input ∷ []) (length logs) lines
-        → AreBegunAt Is (codes "-" ∷ []) logs lines
-    begun_alone after [] lines whole (inl none) = inl none
-    begun_alone after [] lines whole (inr first) =
-        let same : input ≡ first.0 = cc (first.1) in
-        inr (inr (refl, subst (λ i. HasFirstLines E i lines) (sym same) first.2))
-    begun_alone [] (log ∷ logs) lines whole first = absurd whole
-    begun_alone (last ∷ after) (log ∷ []) lines whole (inl none) =
-        inr (refl, (last, whole.0), (refl, none))
-    begun_alone (last ∷ after) (log ∷ []) lines whole (inr first) = absurd (cc (first.1))
-    begun_alone (last ∷ after) (log ∷ other ∷ logs) lines whole first = absurd whole.1
-
-    -- the same for the input, if it is the only source
-    module _ (sources after : List I) (only : sources ≡ input ∷ []) where
-      pub begun_of_input : (logs : List (List ℕ)) (lines : List ℕ)
-          → FirstDeliver E sources after logs → AreFirstOf E sources (length logs) lines
-          → AreBegunAt Is (codes "-" ∷ []) logs lines
-      begun_of_input logs lines whole first = begun_alone after logs lines
-          (subst (λ ss. FirstDeliver E ss after logs) only whole)
-          (subst (λ ss. AreFirstOf E ss (length logs) lines) only first)
-
-      pub text_of_input : (texts : List (List ℕ)) → EachDelivers E sources after texts
-          → AreTextsAt Is (codes "-" ∷ []) texts
-      text_of_input texts each = all_begun Is (codes "-" ∷ []) texts []
-          (each.as_many ∙ ap length only) (begun_of_input texts [] each.whole (inl refl))
+  -- what the input delivered, if it is the only source, is the text at a hyphen
+  pub text_of_input : (input : I) (sources after : List I) → sources ≡ input ∷ []
+      → (texts : List (List ℕ)) → EachDelivers E sources after texts
+      → AreTextsAt (text_relation opening D opener E input) (codes "-" ∷ []) texts
+  text_of_input input sources after only texts each =
+      let alone = subst (λ ss. EachDelivers E ss after texts) only each in
+      go after texts alone.as_many alone.whole
+    where
+      go : (after : List I) (texts : List (List ℕ)) → length texts ≡ 1
+          → FirstDeliver E (input ∷ []) after texts
+          → AreTextsAt (text_relation opening D opener E input) (codes "-" ∷ []) texts
+      go after [] many whole = absurd (cc many)
+      go [] (text ∷ texts) many whole = absurd whole
+      go (last ∷ after) (text ∷ []) many whole = inr (refl, (last, whole.0), refl)
+      go (last ∷ after) (text ∷ other ∷ texts) many whole = absurd (omega (arith, many))
 
 -- the answer to texts that are read in one sense is one to texts that are read in another
 module _ (task : Task) (old new : Option (List ℕ)) {AreRead Are : List (List ℕ) → Type 0}

@@ -1,26 +1,28 @@
 -- The texts that are read at the paths of the program's words.
-use Rattle.std.specs.Prelude.{◌≡◌, ◌≢◌, ◌⊎◌, ⊤, ℕ, List, [], ◌∷◌, Option, Some, None, codes}
+use Rattle.std.specs.Prelude.{◌≡◌, ◌≢◌, ◌⊎◌, ⊤, ℕ, Bool, List, [], ◌∷◌, Option, Some, None, codes}
 use Rattle.std.specs.Prelude.{slice_get}
+use Rattle.epx_types.specs.declared.fault.Fault.{Fault}
 use Rattle.epx_devices.specs.Deliveries.{DeliversAll, DeliversThenFails}
 use Rattle.epx_devices.specs.Models.{OpenerModel, SourceModel}
-use Rattle.epx_follow.specs.FollowingStops.{HasFirstLines}
+use Rattle.epx_follow.specs.Following.{new_follower}
+use Rattle.epx_follow.specs.FollowingStops.{StopsFollowing}
+use Rattle.epx_program.specs.SourcesAt.{AreSourcesAt, SourceAt, model_at}
 
 -- only the input is read: there are no paths, or the only path is a hyphen, which means the input
 abbrev pub IsInputAlone : Option (List (List ℕ)) → Type 0
 IsInputAlone None = ⊤
 IsInputAlone (Some paths) = paths ≡ codes "-" ∷ []
 
--- which text is that of the file at a path, and which that of the program's input; and which lines
--- are the first ones of it
+-- which text is that of the file at a path, and which that of the program's input; and with which
+-- faults following the logs at some paths stops, and what is written then
 pub record TextRelation : Type 1 where
   pub OfFile : List ℕ → List ℕ → Type 0
   pub OfInput : List ℕ → Type 0
-  pub FirstOfFile : List ℕ → List ℕ → Type 0
-  pub FirstOfInput : List ℕ → Type 0
+  pub Stops : Bool → Option (List (List ℕ)) → Fault → Option (List ℕ) → Option (List ℕ) → Type 0
 
--- the same once the input is read: nothing is left of it, so its text is empty
+-- the same texts once the input is read: nothing is left of it, so its text is empty
 abbrev pub after_input : TextRelation → TextRelation
-after_input Is = record Is { OfInput = λ text. text ≡ []; FirstOfInput = λ lines. lines ≡ [] }
+after_input Is = record Is { OfInput = λ text. text ≡ [] }
 
 -- the texts at these paths, in this order
 abbrev pub AreTextsAt : TextRelation → List (List ℕ) → List (List ℕ) → Type 0
@@ -30,25 +32,14 @@ AreTextsAt Is (path ∷ paths) (text ∷ texts) =
     ((path ≢ codes "-") × Is.OfFile path text × AreTextsAt Is paths texts)
     ⊎ ((path ≡ codes "-") × Is.OfInput text × AreTextsAt (after_input Is) paths texts)
 
--- the texts at the first of these paths, and then the first lines of the text at the next one
-abbrev pub AreBegunAt : TextRelation → List (List ℕ) → List (List ℕ) → List ℕ → Type 0
-AreBegunAt Is [] texts lines = (texts ≡ []) × (lines ≡ [])
-AreBegunAt Is (path ∷ paths) [] lines = (lines ≡ [])
-    ⊎ ((path ≢ codes "-") × Is.FirstOfFile path lines)
-    ⊎ ((path ≡ codes "-") × Is.FirstOfInput lines)
-AreBegunAt Is (path ∷ paths) (text ∷ texts) lines =
-    ((path ≢ codes "-") × Is.OfFile path text × AreBegunAt Is paths texts lines)
-    ⊎ ((path ≡ codes "-") × Is.OfInput text × AreBegunAt (after_input Is) paths texts lines)
+-- the paths that are read: without paths, that of the input
+abbrev pub paths_read : Option (List (List ℕ)) → List (List ℕ)
+paths_read None = codes "-" ∷ []
+paths_read (Some paths) = paths
 
--- the same of the paths that are read: without paths, that of the input
-abbrev pub AreBegun : TextRelation → Option (List (List ℕ)) → List (List ℕ) → List ℕ → Type 0
-AreBegun Is None = AreBegunAt Is (codes "-" ∷ [])
-AreBegun Is (Some paths) = AreBegunAt Is paths
-
--- the texts that are read: without paths, that of the input
+-- the texts that are read there
 abbrev pub AreTextsRead : TextRelation → Option (List (List ℕ)) → List (List ℕ) → Type 0
-AreTextsRead Is None = AreTextsAt Is (codes "-" ∷ [])
-AreTextsRead Is (Some paths) = AreTextsAt Is paths
+AreTextsRead Is paths = AreTextsAt Is (paths_read paths)
 
 -- reads of the source delivered this text, up to its end
 abbrev pub IsWholeText : {S : Type 0} → SourceModel S → S → List ℕ → Type 0
@@ -60,21 +51,24 @@ abbrev pub IsFileText : {O F : Type 0} → OpenerModel O F → SourceModel F
 IsFileText {O} {F} opening D opener path text =
     (file : F) × opening.opens opener path file × IsWholeText D file text
 
--- reads of the file that the opener opened at this path returned these lines, its first ones or all
-abbrev pub AreFirstLinesOfFile : {O F : Type 0} → OpenerModel O F → SourceModel F
-    → O → List ℕ → List ℕ → Type 0
-AreFirstLinesOfFile {O} {F} opening D opener path lines =
-    (file : F) × opening.opens opener path file × HasFirstLines D file lines
+-- following the sources at the paths stops with this fault
+pub record StopsAtPaths {O F I : Type 0} (opening : OpenerModel O F) (D : SourceModel F)
+    (opener : O) (E : SourceModel I) (input : I) (each : Bool) (paths : Option (List (List ℕ)))
+    (fault : Fault) (old new : Option (List ℕ)) : Type 0 where
+  pub left : Option I
+  pub sources : List (SourceAt O F I)
+  pub after : List (SourceAt O F I)
+  pub at : AreSourcesAt opener (Some input) left (paths_read paths) sources
+  pub stopped : StopsFollowing (model_at opening D E) new_follower each sources after fault old new
 
 -- the text of a path is what the reads of a file delivered that the opener opened there, and the
--- text of the input what the reads of the input delivered; likewise the first lines
+-- text of the input what the reads of the input delivered. Following stops by the same reads
 abbrev pub text_relation : {O F I : Type 0} → OpenerModel O F → SourceModel F → O
     → SourceModel I → I → TextRelation
 text_relation opening D opener E input = record {
   OfFile = IsFileText opening D opener;
   OfInput = IsWholeText E input;
-  FirstOfFile = AreFirstLinesOfFile opening D opener;
-  FirstOfInput = HasFirstLines E input;
+  Stops = StopsAtPaths opening D opener E input;
 }
 
 -- reads of the source delivered some bytes or none, and the next read failed

@@ -1,3 +1,4 @@
+pub mod SourcesAt
 pub mod Inputs
 pub mod Endings
 pub mod FollowEndings

@@ -1,24 +1,51 @@
 //! The subcommand `follow`: opens the sources at the paths and follows their logs.
-ghost use Rattle.std.specs.Prelude.{◌≡◌, ◌↔◌, List, ℕ, true, false, IfErr, IsErrOf, OnOk};
-ghost use Rattle.std.specs.Io.KnownBytes.{Appends};
-ghost use Rattle.epx_follow.specs.FollowingStops.{WritesSome};
+ghost use Rattle.std.specs.Prelude.{◌≡◌, ◌↔◌, ◌⊎◌, List, ℕ, true, false, All, Some};
+ghost use Rattle.std.specs.Prelude.{IfErr, IfOk, IsErrOf, OnOk};
+ghost use Rattle.std.specs.Io.KnownBytes.{Appends, Keeps};
+ghost use Rattle.epx_follow.specs.Following.{FollowerView, new_follower};
 ghost use Rattle.epx_follow.specs.InputEnds.{IsFollowed};
 ghost use Rattle.epx_program.specs.Calls.{paths_of};
-ghost use Rattle.epx_program.specs.FollowEndings.{EndsFollow, log_count};
-ghost use Rattle.epx_program.specs.Inputs.{AreBegun, AreTextsRead, text_relation};
+ghost use Rattle.epx_program.specs.FollowEndings.{EndsFollow};
+ghost use Rattle.epx_program.specs.Inputs.{AreTextsRead, paths_read, text_relation};
+ghost use Rattle.epx_program.specs.SourcesAt.{AreSourcesAt, model_at};
 
 use crate::exit_report::report_fault;
 use crate::explain::explain_stop;
-use crate::inputs::sources_at;
-use epx_devices::Opener;
-use epx_follow::follow;
+use crate::inputs::{Input, sources_at};
+use epx_devices::{EitherSource, KeptSource, Opener};
+use epx_follow::{Follower, follow};
 use epx_tool::{Sink, Source};
-use epx_types::{Fault, Memory, Plan};
-use std::alloc::{AllocGlobal, Global};
+use epx_types::{Fault, Plan};
+use std::alloc::{AllocError, AllocGlobal, Global};
 use std::io::Eprint;
+use std::mem;
 use std::random::RandomSource;
 use std::rt::Files;
 use std::thread::Threads;
+
+/// The sources at the paths. If `paths` is None, the input is the only one.
+fn sources_of<'a, R: Files, O: Opener, I: Source + Drop>(
+    rt: &R,
+    opener: &'a O,
+    alloc: Global,
+    paths: &'a Option<Vec<String>>,
+    input: I,
+) -> Result<Vec<KeptSource<Input<'a, O, I>>>, AllocError>
+    requires { I.model.has_failed input ≡ false }
+    ensures at { IfOk result (λ sources. (left : _) × AreSourcesAt opener.now (Some input) left
+        (paths_read (paths_of paths.now)) sources.items) }
+    ensures failed { IfOk result
+        (λ sources. All (λ s. (model_at O.model O.Opened.model I.model).has_failed s ≡ false)
+        sources.items) }
+{
+    if let Some(paths) = paths {
+        return sources_at(rt, opener, alloc, paths, false, input);
+    }
+    let source = EitherSource::Second(EitherSource::First(input));
+    let mut sources = Vec::new(alloc);
+    sources.push(KeptSource::new(alloc, source, false))?;
+    Ok(sources)
+}
 
 /// Follows the logs at the paths, where a hyphen means the input. If `paths` is None, it follows
 /// the input alone.
@@ -41,26 +68,25 @@ where
     requires output { W.model.has_failed output.old ≡ false }
 
     ensures followed { let Is = text_relation O.model O.Opened.model opener.now I.model input in
-        OnOk result ((logs : List (List ℕ)) × (text : List ℕ)
-        × AreTextsRead Is (paths_of paths.now) logs × IsFollowed each logs text
+        OnOk result ((logs : List (List ℕ)) × (last : FollowerView) × (text : List ℕ)
+        × AreTextsRead Is (paths_of paths.now) logs × IsFollowed new_follower each logs last text
         × Appends (W.model.contents output.old) (W.model.contents output.new) text) }
     ensures flushed { OnOk result (W.model.is_flushed output.new ≡ true) }
     ensures stopped { let Is = text_relation O.model O.Opened.model opener.now I.model input in
-        IfErr result (λ fault. (logs : List (List ℕ)) × (lines : List ℕ)
-        × AreBegun Is (paths_of paths.now) logs lines
-        × WritesSome each (log_count (paths_of paths.now)) logs lines fault
+        IfErr result (λ fault. ((fault ≡ Fault.Memory)
+        × Keeps (W.model.contents output.old) (W.model.contents output.new))
+        ⊎ Is.Stops each (paths_of paths.now) fault
         (W.model.contents output.old) (W.model.contents output.new)) }
     ensures failed { IsErrOf result Fault.Write ↔ (W.model.has_failed output.new ≡ true) }
 {
-    let Some(paths) = paths else {
-        let mut sources = Vec::new(alloc);
-        sources.push(input).map_err(Memory::from)?;
-        return follow(rt, alloc, &mut sources, each, plan, output);
-    };
-    let Ok(mut sources) = sources_at(rt, opener, alloc, paths, false, input) else {
+    let Ok(mut sources) = sources_of(rt, opener, alloc, paths, input) else {
         return Err(Fault::Memory);
     };
-    follow(rt, alloc, &mut sources, each, plan, output)
+    let start = Follower::new(alloc);
+    let last = follow(rt, alloc, start, &mut sources, each, plan, output)?;
+    // The process ends soon, and the system then takes back all its pages at once.
+    mem::forget(last);
+    Ok(())
 }
 
 /// Follows the logs at the paths, and returns the exit status. With `--explain` a further line on

@@ -1,6 +1,6 @@
 //! The sources that the paths name: files, and the program's input.
 ghost use Rattle.std.specs.Prelude.{◌≡◌, All, IfOk, IfSome, Some, false, map, string_bytes};
-ghost use Rattle.epx_program.specs.inner.SourcesAt.{AreSourcesAt, IsSourceAt, model_at};
+ghost use Rattle.epx_program.specs.SourcesAt.{AreSourcesAt, IsSourceAt, model_at};
 
 use epx_devices::{EitherSource, KeptSource, MemorySource, Opener, PathSource, Source};
 use std::alloc::{AllocError, Global};

@@ -1,10 +1,10 @@
 -- How a follower keeps the lines that it holds.
-use Rattle.std.specs.Prelude.{List, map, zip, Contains, AllPairs, Option}
+use Rattle.std.specs.Prelude.{List, map, zip, Contains, Option}
 use Rattle.std.specs.Option.{unwrap_or}
 use Rattle.epx_types.specs.declared.id.Id.{Id}
 use Rattle.epx_types.specs.declared.place.Place.{Place}
 use Rattle.epx_types.specs.Instances.{Instance}
-use Rattle.epx_types.specs.PlacedLines.{Placed, Earlier}
+use Rattle.epx_types.specs.PlacedLines.{Placed}
 use Rattle.epx_executor.specs.Commits.{AllWait}
 use Rattle.epx_follow.specs.Following.{FollowerView, held_lines}
 use Rattle.epx_follow.specs.FollowerLaws.{executor_of}
@@ -22,13 +22,8 @@ pending_lines noted m =
 abbrev pub batch_lines : List Place → List Instance → List Placed
 batch_lines places es = map (λ p. record { place = p.0; instance = p.1 }) (zip places es)
 
--- No instance of the batch is executed. Its lines come after those of what waits, and all before
--- the next line
+-- no instance of the batch is executed, and what waits is not ready
 pub record AreHeld (noted : Id → Option Place) (v : FollowerView) : Type 0 where
   pub settled : AllWait (executor_of v)
   pub left : (p : Placed) → Contains v.batch p → ¬ Contains v.done p.instance.id
-  pub in_order : AllPairs (λ p q. Earlier p.place q.place) v.batch
-  pub apart : (p q : Placed) → Contains v.pending p → Contains v.batch q
-      → Earlier p.place q.place
-  pub past : (p : Placed) → Contains (held_lines v) p → Earlier p.place v.next
   pub first_places : HasFirstPlaces noted (held_lines v)

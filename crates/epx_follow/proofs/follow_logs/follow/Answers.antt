@@ -1,9 +1,9 @@
-use Rattle.std.proofs.Common.{◌≡◌, ◌∙◌, ◌+◌, ◌≤◌, ap, arith, false, length, refl, set, subst}
-use Rattle.std.proofs.Common.{sym}
+use Rattle.std.proofs.Common.{◌≡◌, ◌∙◌, ◌+◌, ap, arith, false, set, subst, sym}
 use Rattle.std.proofs.lemmas.Bool.{false_from_ne_true}
 use Rattle.std.proofs.lemmas.Result.{err_from_is_err_and}
 use Rattle.epx_types.proofs.Common.{length-set}
 use Rattle.epx_types.specs.declared.fault.Fault.TheVariants.{TooManyLogs}
+use Rattle.epx_types.specs.declared.place.Place.{Place}
 use Rattle.epx_lines.specs.Lines.{lines_of}
 use Rattle.epx_follow.specs.Following.{FollowerView}
 use Rattle.epx_follow.proofs.FollowLogLemmas.{AreFollowed, all_followed, none_followed}
@@ -15,19 +15,21 @@ use Rattle.epx_follow.proofs.follow_logs.follow.Goals as goal
 pub returns-then-sources-gt-MAX_LOGS-clause-stopped :
     goal.returns-then-sources-gt-MAX_LOGS-clause-stopped
 returns-then-sources-gt-MAX_LOGS-clause-stopped g c =
-    too_many g.S.Source.model c.args.each c.args.sources.now
+    too_many g.S.Source.model c.args.start c.args.each c.args.sources.now
     (g.W.Sink.model.contents c.args.output.now) TooManyLogs c.if-sources-gt-MAX_LOGS.true
 
 pub loop-log-init : goal.loop-log-init
 loop-log-init g c =
     let D = g.S.Source.model in
     let W = g.W.Sink.model in
-    let sources = c.args.sources.now in
-    let was = W.contents c.args.output.now in
-    subst (λ (v : FollowerView). (W.has_failed c.args.output.now ≡ false) × (v.next.line ≡ 1)
-    × (v.next.log ≡ 0) × (0 ≤ length sources)
-    × AreFollowed D c.args.each sources sources 0 v was was) (sym c.new-follower.ensures)
-    (c.requires.output, refl, refl, omega arith, none_followed D c.args.each sources was)
+    let begin = c.requires.begin in (
+      c.requires.output,
+      ap (λ (p : Place). p.line) begin,
+      ap (λ (p : Place). p.log) begin,
+      omega arith,
+      none_followed D c.args.start c.args.each c.args.sources.now
+          (W.contents c.args.output.now),
+    )
 
 pub follow_log-requires-clause-source : goal.follow_log-requires-clause-source
 follow_log-requires-clause-source g c κs within =
@@ -36,8 +38,9 @@ follow_log-requires-clause-source g c κs within =
     let l = c.loop-log in
     let followed = l.invariant.4 in
     let d = c.index-sources-log.result in
-    subst (λ s. D.has_failed s ≡ false) (sym (same_next D c.args.each c.args.sources.now l.sources
-    l.log l.follower (contents c.args.output.now) (contents l.output) followed d))
+    subst (λ s. D.has_failed s ≡ false) (sym (same_next D c.args.start c.args.each
+    c.args.sources.now l.sources l.log l.follower (contents c.args.output.now) (contents l.output)
+    followed d))
     (c.requires.sources l.log d (omega (arith, c.loop-log-test.true, followed.many)))
 
 pub returns-in_err-followed-clause-stopped : goal.returns-in_err-followed-clause-stopped
@@ -46,8 +49,8 @@ returns-in_err-followed-clause-stopped g c =
     let l = c.loop-log in
     let followed = l.invariant.4 in
     let p = err_from_is_err_and c.from_residual.result c.from_residual.ensures.1 in
-    rw (p.1, p.2) (stops_in_next g.S.Source.model c.args.each c.args.sources.now l.sources l.log
-    l.follower (contents c.args.output.now) (contents l.output) followed
+    rw (p.1, p.2) (stops_in_next g.S.Source.model c.args.start c.args.each c.args.sources.now
+    l.sources l.log l.follower (contents c.args.output.now) (contents l.output) followed
     c.index-sources-log.result c.follow_log.new.source c.in_err-followed.field-0.0
     (contents c.follow_log.new.output) (omega (arith, c.loop-log-test.true, followed.many))
     c.in_err-followed.ensures.stopped)
@@ -84,10 +87,10 @@ loop-log-preserved g c =
       ap (λ (v : FollowerView). v.next.line) next,
       ap (λ (v : FollowerView). v.next.log) next ∙ ap (λ n. n + 1) (same ∙ l.invariant.2),
       omega (arith, c.loop-log-test.true, length-set l.sources l.log later),
-      subst (λ (v : FollowerView). AreFollowed D c.args.each c.args.sources.now
+      subst (λ (v : FollowerView). AreFollowed D c.args.start c.args.each c.args.sources.now
           (set l.sources l.log later) (l.log + 1) v was out) (sym next)
-          (one_more_followed D c.args.each c.args.sources.now l.sources l.log l.follower was
-          (W.contents l.output) followed c.index-sources-log.result later taken.0
+          (one_more_followed D c.args.start c.args.each c.args.sources.now l.sources l.log
+          l.follower was (W.contents l.output) followed c.index-sources-log.result later taken.0
           c.in_ok-followed.followed out
           (omega (arith, c.loop-log-test.true, followed.many)) taken.1 taken.2),
     )
@@ -97,8 +100,9 @@ returns-clause-followed g c =
     let contents = g.W.Sink.model.contents in
     let l = c.loop-log in
     let followed = l.invariant.4 in
-    all_followed g.S.Source.model c.args.each c.args.sources.now l.sources l.log l.follower
-    (contents c.args.output.now) (contents l.output) followed (contents c.end_input.new.output)
+    all_followed g.S.Source.model c.args.start c.args.each c.args.sources.now l.sources l.log
+    l.follower (contents c.args.output.now) (contents l.output) followed
+    (contents c.end_input.new.output)
     (omega (arith, c.loop-log-test.false, l.invariant.3, followed.many)) c.end_input.result
     c.end_input.ensures.ended
 
@@ -107,7 +111,8 @@ returns-clause-stopped g c =
     let contents = g.W.Sink.model.contents in
     let l = c.loop-log in
     let followed = l.invariant.4 in
-    stops_at_end g.S.Source.model c.args.each c.args.sources.now l.sources l.log l.follower
-    (contents c.args.output.now) (contents l.output) followed (contents c.end_input.new.output)
+    stops_at_end g.S.Source.model c.args.start c.args.each c.args.sources.now l.sources l.log
+    l.follower (contents c.args.output.now) (contents l.output) followed
+    (contents c.end_input.new.output)
     (omega (arith, c.loop-log-test.false, l.invariant.3, followed.many)) c.end_input.result
     c.end_input.ensures.stopped

@@ -8,8 +8,8 @@ invariant-loop-log g l =
     let W = g.W.Sink.model in
     (W.has_failed l.output ≡ false) × (l.follower.next.line ≡ 1)
     × (l.follower.next.log ≡ l.log) × (l.log ≤ length l.sources)
-    × AreFollowed D l.each l.fn.sources l.sources l.log l.follower (W.contents l.fn.output)
-    (W.contents l.output)
+    × AreFollowed D l.fn.start l.each l.fn.sources l.sources l.log l.follower
+    (W.contents l.fn.output) (W.contents l.output)
 
 abbrev pub decreases-loop-log : goal.decreases-loop-log
 decreases-loop-log g l = length l.sources - l.log

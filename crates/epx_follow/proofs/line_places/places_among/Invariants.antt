@@ -1,5 +1,5 @@
 use Rattle.std.proofs.Common.{◌≡◌, map, take}
-use Rattle.epx_follow.specs.inner.CallPlaces.{held_places}
+use Rattle.epx_follow.specs.CallPlaces.{held_places}
 use Rattle.epx_follow.specs.inner.FirstPlaces.{place_in}
 use Rattle.epx_follow.specs.inner.HeldLines.{pending_lines}
 use Rattle.epx_follow.proofs.line_places.places_among.Given as goal

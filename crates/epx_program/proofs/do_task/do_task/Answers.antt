@@ -5,7 +5,7 @@ use Rattle.epx_program.proofs.FailedInputLemmas.{alone, input_failed}
 use Rattle.epx_program.proofs.SourceListLemmas.{only_source_at}
 use Rattle.epx_program.proofs.TextsReadLemmas.{answer_read, part_read, text_of_input, texts_at}
 use Rattle.epx_program.specs.Inputs.{OneHasFailedRead}
-use Rattle.epx_program.specs.inner.SourcesAt.{AreSourcesAt}
+use Rattle.epx_program.specs.SourcesAt.{AreSourcesAt}
 use Rattle.epx_program.proofs.do_task.do_task.Goals as goal
 
 pub returns-clause-answered : goal.returns-clause-answered

@@ -1,6 +1,6 @@
 use Rattle.std.proofs.Common.{◌≡◌, false, ap, map}
 use Rattle.epx_types.proofs.Common.{string_bytes, take_all, All-push}
-use Rattle.epx_program.specs.inner.SourcesAt.{model_at}
+use Rattle.epx_program.specs.SourcesAt.{model_at}
 use Rattle.epx_program.proofs.SourceListLemmas.{sources-push}
 use Rattle.epx_program.proofs.inputs.sources_at.Goals as goal
 

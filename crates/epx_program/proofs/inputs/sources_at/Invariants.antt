@@ -1,6 +1,6 @@
 use Rattle.std.proofs.Common.{◌≡◌, false, All, map, take, IfSome, Some}
 use Rattle.epx_types.proofs.Common.{string_bytes}
-use Rattle.epx_program.specs.inner.SourcesAt.{AreSourcesAt, model_at}
+use Rattle.epx_program.specs.SourcesAt.{AreSourcesAt, model_at}
 use Rattle.epx_program.proofs.inputs.sources_at.Given as goal
 
 -- the sources of the paths so far, none of which has failed, and the input that is left

@@ -4,12 +4,11 @@ use Rattle.epx_types.specs.declared.reply.Reply.{Reply}
 use Rattle.epx_types.specs.declared.fault.Fault.TheVariants.{Memory}
 use Rattle.epx_types.specs.declared.id.Id.{Id}
 use Rattle.epx_types.specs.declared.place.Place.{Place}
-use Rattle.epx_committed.specs.MergedLines.{IsMergeFault}
 use Rattle.epx_types.proofs.Common.{Instance}
 use Rattle.epx_executor.specs.Commits.{AllWait, ExecutorView}
-use Rattle.epx_follow.specs.BatchEnds.{EndsBatch, batch_text}
-use Rattle.epx_follow.specs.Following.{FollowerView, held_lines}
-use Rattle.epx_follow.specs.inner.CallPlaces.{at_lines, held_places}
+use Rattle.epx_follow.specs.BatchEnds.{EndsBatch, RefusesBatch, batch_text}
+use Rattle.epx_follow.specs.Following.{FollowerView}
+use Rattle.epx_follow.specs.CallPlaces.{at_lines, held_places}
 use Rattle.epx_follow.specs.inner.FirstPlaces.{place_in}
 use Rattle.epx_follow.specs.inner.HeldLines.{AreHeld, pending_lines}
 use Rattle.epx_follow.proofs.BatchTextLemmas.{zip_parts}
@@ -21,8 +20,7 @@ use Rattle.epx_follow.proofs.follower.Follower.end_batch.Goals as goal
 pub returns-in-Err : goal.returns-in-Err
 returns-in-Err g c =
     let f = c.self.inside in
-    subst (λ (v : FollowerView). IsMergeFault (held_lines v) c.fault_at_lines.result)
-    c.self.view_is
+    subst (λ (v : FollowerView). RefusesBatch v c.fault_at_lines.result) c.self.view_is
     (refused f.executor.done f.executor.store (place_in f.places) f.executor.pending
     f.batch_places.items f.batch.items f.next f.is_open c.self.invariant.0 c.self.invariant.1
     c.in-Err.fault c.fault_at_lines.result c.in-Err.ensures.refused

@@ -14,9 +14,6 @@ abbrev pub place_among : List Place → List Place → Place → Place
 place_among pending batch at =
     get_or (cond (nat_eq at.log 0) pending batch) (at.line - 1) at
 
-abbrev pub real_place : List Placed → List Placed → Place → Place
-real_place pending batch at = place_among (held_places pending) (held_places batch) at
-
 -- the fault of a call, with the places that its lines name
 abbrev pub at_lines : List Place → List Place → Fault → Fault
 at_lines pending batch (Disagree id first second) =

@@ -1,0 +1,44 @@
+-- Laws of followers that hold their lines in the order of the places, as each does that started at
+-- the beginning of its logs.
+use Rattle.std.specs.Prelude.{◌≡◌, ℕ, Bool, List, Some, AllPairs, Contains}
+use Rattle.epx_types.specs.declared.fault.Fault.{Fault}
+use Rattle.epx_types.specs.CommittedMap.{ids_of}
+use Rattle.epx_types.specs.Ids.{IsRising}
+use Rattle.epx_types.specs.Instances.{Instance}
+use Rattle.epx_types.specs.PlacedLines.{Placed, Earlier}
+use Rattle.epx_committed.specs.MergedLines.{IsMergeFault}
+use Rattle.epx_follow.specs.Following.{FollowerView, at_next_log, held_lines, instances_of}
+use Rattle.epx_follow.specs.Following.{joined, new_follower, passed}
+use Rattle.epx_follow.specs.BatchEnds.{RefusesBatch, first_line}
+use Rattle.epx_follow.specs.LinesTaken.{TakesLine}
+
+-- No instance of the batch is executed. Its lines come after those of what waits, and all before
+-- the next line
+pub record AreInPlaceOrder (v : FollowerView) : Type 0 where
+  pub rising : IsRising (ids_of (instances_of v.pending))
+  pub left : (p : Placed) → Contains v.batch p → ¬ Contains v.done p.instance.id
+  pub in_order : AllPairs (λ p q. Earlier p.place q.place) v.batch
+  pub apart : (p q : Placed) → Contains v.pending p → Contains v.batch q
+      → Earlier p.place q.place
+  pub past : (p : Placed) → Contains (held_lines v) p → Earlier p.place v.next
+
+-- a new follower holds its lines in order, and they stay so
+abbrev pub LinesStayInOrder : Type 0
+LinesStayInOrder = AreInPlaceOrder new_follower
+    × ((v : FollowerView) → AreInPlaceOrder v → AreInPlaceOrder (passed v))
+    × ((v : FollowerView) (e : Instance) → AreInPlaceOrder v → AreInPlaceOrder (joined v e))
+    × ((each : Bool) (line : List ℕ) (v w : FollowerView) (text : List ℕ)
+    → AreInPlaceOrder v → TakesLine each line v w text → AreInPlaceOrder w)
+    × ((v : FollowerView) → AreInPlaceOrder v → AreInPlaceOrder (at_next_log v))
+
+-- then the first line of an instance that came is the earliest one
+abbrev pub FirstLinesAreEarliest : Type 0
+FirstLinesAreEarliest = (v : FollowerView) → AreInPlaceOrder v → (p q : Placed)
+    → first_line (held_lines v) p.instance.id ≡ Some p → Contains (held_lines v) q
+    → q.instance.id ≡ p.instance.id → ¬ Earlier q.place p.place
+
+-- and a batch is refused as the merge of its lines is: the first place that a fault names is the
+-- earlier one
+abbrev pub RefusedBatchIsARefusedMerge : Type 0
+RefusedBatchIsARefusedMerge = (v : FollowerView) → AreInPlaceOrder v → (fault : Fault)
+    → RefusesBatch v fault → IsMergeFault (held_lines v) fault

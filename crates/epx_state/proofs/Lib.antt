@@ -1,0 +1,15 @@
+mod ArrayLemmas
+mod FormLemmas
+mod PartOrderLemmas
+mod SaidPartLemmas
+mod ReachedLemmas
+mod AllowedLemmas
+mod ReadingLemmas
+mod RunIdLemmas
+mod RestoreLemmas
+mod UnbrokenTextLemmas
+mod LineReadingLemmas
+mod StateTextLemmas
+mod SectionLemmas
+mod BeginningLemmas
+mod ReadinessLemmas

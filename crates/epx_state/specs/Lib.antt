@@ -1,0 +1,5 @@
+pub mod StateForms
+pub mod States
+pub mod StateFaults
+pub mod StateLaws
+pub mod inner

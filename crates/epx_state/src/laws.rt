@@ -1,0 +1,19 @@
+//! Laws of states. Each contract is a law.
+ghost use Rattle.epx_state.specs.StateLaws.{StateIsOne, RestoredHoldTheSame};
+ghost use Rattle.epx_state.specs.StateLaws.{StateOfAnExecutorIsGood};
+
+/// Bytes are a state in at most one way.
+pub fn state_is_one()
+    ensures { StateIsOne }
+{}
+
+/// Executors that hold the parts of one state hold the same, whatever the order of their executed
+/// instances.
+pub fn restored_hold_the_same()
+    ensures { RestoredHoldTheSame }
+{}
+
+/// The state of an executor has no bad line. The law says nothing about how many instances wait.
+pub fn state_of_an_executor_is_good()
+    ensures { StateOfAnExecutorIsGood }
+{}
