@@ -1,18 +1,21 @@
 -- An instance that waits in an executor is not ready in its state.
 use Rattle.std.proofs.Common.{◌≡◌, ◌↔◌, ℕ, ◌+◌, ◌-◌, ◌<◌, not, List, map, filter}
-use Rattle.std.proofs.Common.{Contains, sym, ap, ◌∙◌, subst, arith, inl, inr}
+use Rattle.std.proofs.Common.{Contains, length, refl, sym, ap, ◌∙◌, subst, arith, inl, inr}
 use Rattle.std.specs.List.{range_with_len}
 use Rattle.std.proofs.lemmas.List.FromFn.{length-range_with_len, get_or-range_with_len}
 use Rattle.epx_types.proofs.Common.{is_among, remaining, Instance, IsReady, is_among_cases}
 use Rattle.epx_types.proofs.Common.{not_among, Contains-map, Contains-from_map}
 use Rattle.epx_types.proofs.Common.{Contains-flat_map, Contains-from_flat_map}
+use Rattle.epx_types.specs.declared.fault.Fault.TheVariants.{Memory, TooManyLogs, LogTooLong}
+use Rattle.epx_types.specs.declared.fault.Fault.TheVariants.{BadLine, TooManyInstances, Disagree}
+use Rattle.epx_types.specs.declared.fault.Fault.TheVariants.{Read, Write, BadBase}
 use Rattle.epx_types.specs.declared.id.Id.{Id}
 use Rattle.epx_executor.specs.declared.done_runs.Run.{Run}
 use Rattle.epx_executor.specs.Commits.{AllWait, ExecutorView}
 use Rattle.epx_executor.specs.Runs.{IsInRun, IsInRuns, ids_in, ids_of_run}
 use Rattle.epx_state.specs.StateForms.{StateParts}
-use Rattle.epx_state.specs.States.{HoldsState}
-use Rattle.epx_state.specs.StateFaults.{IsReadyIn}
+use Rattle.epx_state.specs.States.{HoldsState, IsState}
+use Rattle.epx_state.specs.StateFaults.{IsBadState, IsReadyIn}
 use Rattle.epx_state.specs.StateLaws.{StateOfAnExecutorIsGood}
 use Rattle.epx_state.proofs.SectionLemmas.{state_is_one}
 use Rattle.epx_state.proofs.BeginningLemmas.{no_bad_line}
@@ -93,8 +96,9 @@ none_is_ready p v holds wait e ready =
     wait.none_ready e.id
     (subst (λ (m : List Instance). IsReady m e.id) (left_alike p v holds) ready)
 
-pub state_of_an_executor_is_good : StateOfAnExecutorIsGood
-state_of_an_executor_is_good bytes p v is holds wait line bad = elim bad [
+not_bad : (bytes : List ℕ) (p : StateParts) (v : ExecutorView) → IsState bytes p → HoldsState p v
+    → AllWait v → (line : ℕ) → ¬ IsBadState bytes line
+not_bad bytes p v is holds wait line bad = elim bad [
   | inl first ↦ no_bad_line bytes p is line first
   | inr rest ↦ elim rest [
     | inl early ↦ early.not_whole p is
@@ -104,3 +108,19 @@ state_of_an_executor_is_good bytes p v is holds wait line bad = elim bad [
         (subst (λ (s : StateParts). IsReadyIn s has.ready) same has.is_ready)
   ]
 ]
+
+pub state_of_an_executor_is_good : StateOfAnExecutorIsGood
+state_of_an_executor_is_good bytes p v is holds wait few Memory h = refl
+state_of_an_executor_is_good bytes p v is holds wait few (BadBase line) h =
+    absurd (not_bad bytes p v is holds wait line h)
+state_of_an_executor_is_good bytes p v is holds wait few TooManyInstances h =
+    let same : length h.0.waiting ≡ length v.pending =
+    ap (λ (s : StateParts). length s.waiting) (state_is_one bytes h.0 p h.1 is)
+    ∙ ap length (sym holds.pending) in
+    absurd (omega (arith, h.2, few, same))
+state_of_an_executor_is_good bytes p v is holds wait few TooManyLogs h = absurd h
+state_of_an_executor_is_good bytes p v is holds wait few (LogTooLong log) h = absurd h
+state_of_an_executor_is_good bytes p v is holds wait few (BadLine place why) h = absurd h
+state_of_an_executor_is_good bytes p v is holds wait few (Disagree id first second) h = absurd h
+state_of_an_executor_is_good bytes p v is holds wait few (Read log) h = absurd h
+state_of_an_executor_is_good bytes p v is holds wait few Write h = absurd h

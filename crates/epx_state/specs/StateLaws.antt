@@ -1,8 +1,11 @@
 -- Laws of states.
-use Rattle.std.specs.Prelude.{◌≡◌, ℕ, List}
+use Rattle.std.specs.Prelude.{◌≡◌, ◌≤◌, ℕ, List, length}
+use Rattle.epx_types.specs.declared.fault.Fault.{Fault}
+use Rattle.epx_types.specs.declared.fault.Fault.TheVariants.{Memory}
+use Rattle.epx_types.specs.Limits.{max_instances}
 use Rattle.epx_executor.specs.Commits.{AllWait, ExecutorView}
 use Rattle.epx_executor.specs.ExecutorLaws.{HoldTheSame}
-use Rattle.epx_state.specs.StateFaults.{IsBadState}
+use Rattle.epx_state.specs.StateFaults.{IsStateFault}
 use Rattle.epx_state.specs.StateForms.{StateParts}
 use Rattle.epx_state.specs.States.{HoldsState, IsState}
 
@@ -15,7 +18,9 @@ abbrev pub RestoredHoldTheSame : Type 0
 RestoredHoldTheSame = (bytes : List ℕ) (p q : StateParts) (v w : ExecutorView)
     → IsState bytes p → HoldsState p v → IsState bytes q → HoldsState q w → HoldTheSame v w
 
--- the state of an executor is not refused
+-- the state of an executor in which no more instances wait than one can hold is refused only where
+-- memory runs out
 abbrev pub StateOfAnExecutorIsGood : Type 0
 StateOfAnExecutorIsGood = (bytes : List ℕ) (p : StateParts) (v : ExecutorView)
-    → IsState bytes p → HoldsState p v → AllWait v → (line : ℕ) → ¬ IsBadState bytes line
+    → IsState bytes p → HoldsState p v → AllWait v → length v.pending ≤ max_instances →
+    (fault : Fault) → IsStateFault bytes fault → fault ≡ Memory

@@ -13,7 +13,7 @@ pub fn restored_hold_the_same()
     ensures { RestoredHoldTheSame }
 {}
 
-/// The state of an executor has no bad line. The law says nothing about how many instances wait.
+/// The state of an executor is refused only where memory runs out.
 pub fn state_of_an_executor_is_good()
     ensures { StateOfAnExecutorIsGood }
 {}

@@ -124,7 +124,8 @@ fn pairs_are_read(pairs: &[(&Key, i64)])
     }
 }
 
-/// The state of an executor, as a text.
+/// The state of an executor, as a text. Takes time n log n in what it holds. The only error is out
+/// of memory.
 pub fn state_text(alloc: Global, executor: &Executor) -> Result<Vec<u8>, Memory>
     ensures { IfOk result (λ text. (p : StateParts) × HoldsState p executor.now
         × (text.items ≡ text_of_state p) × IsState text.items p) }

@@ -1,4 +1,4 @@
-use Rattle.std.proofs.Common.{◌≡◌, Some, rules}
+use Rattle.std.proofs.Common.{Some, rules}
 use Rattle.epx_program.proofs.FollowEndingLemmas.{followed_read, stopped_at_paths}
 use Rattle.epx_program.proofs.TextsReadLemmas.{texts_at}
 use Rattle.epx_program.specs.Calls.{paths_of}
