@@ -1,9 +1,9 @@
 -- How following the logs at paths ends.
 use Rattle.std.proofs.Common.{◌≡◌, ◌⊎◌, ◌∙◌, inl, inr, ℕ, Bool, List, Option, Some, Result, Ok, Err}
-use Rattle.std.proofs.Common.{IsErrOf, subst, sym}
+use Rattle.std.proofs.Common.{IsErrOf, subst, sym, true}
 use Rattle.epx_types.proofs.Common.{Appends, IfErr, Keeps, fault_status}
 use Rattle.epx_types.specs.declared.fault.Fault.{Fault}
-use Rattle.epx_types.specs.declared.fault.Fault.TheVariants.{Memory}
+use Rattle.epx_types.specs.declared.fault.Fault.TheVariants.{Memory, Write}
 use Rattle.epx_devices.specs.Models.{OpenerModel, SourceModel}
 use Rattle.epx_merge.specs.DeliveredLogs.{EachDelivers}
 use Rattle.epx_follow.specs.Following.{FollowerView, new_follower}
@@ -65,9 +65,10 @@ module _ (each : Bool) (old new : Option (List ℕ)) where
       (inr stops)
 
   pub ends_stopped : (Is : TextRelation) (paths : Option (List (List ℕ))) (fault : Fault)
-      (status : ℕ) → status ≡ fault_status fault
-      → StopsBy (λ f. Is.Stops each paths f old new) fault → EndsFollow Is each paths status old new
-  ends_stopped Is paths fault status is h = record {
+      (status : ℕ) (failed : Bool) → status ≡ fault_status fault
+      → (fault ≡ Write → failed ≡ true) → StopsBy (λ f. Is.Stops each paths f old new) fault
+      → EndsFollow Is each paths status failed old new
+  ends_stopped Is paths fault status failed is output h = record {
     followed = λ none. absurd (no_fault_ends_well fault (inl (sym is ∙ none)));
-    stopped = λ other. (fault, is, h);
+    stopped = λ other. (fault, is, output, h);
   }

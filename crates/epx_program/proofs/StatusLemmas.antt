@@ -146,20 +146,21 @@ abbrev IsFollowStatus : ℕ → Type 0
 IsFollowStatus status = (status ≡ 0) ⊎ ((fault : Fault) × (status ≡ fault_status fault))
 
 status_of_following : (Is : TextRelation) (each : Bool) (paths : Option (List (List ℕ)))
-    (status : ℕ) (old new : Option (List ℕ)) → EndsFollow Is each paths status old new
-    → IsFollowStatus status
-status_of_following Is each paths zero old new h = inl refl
-status_of_following Is each paths (suc n) old new h =
+    (status : ℕ) (failed : Bool) (old new : Option (List ℕ))
+    → EndsFollow Is each paths status failed old new → IsFollowStatus status
+status_of_following Is each paths zero failed old new h = inl refl
+status_of_following Is each paths (suc n) failed old new h =
     let stopped = h.stopped (λ none. omega (arith, none)) in inr (stopped.0, stopped.1)
 
-pub follow_status : (Is : TextRelation) (status : ℕ) (old new : Option (List ℕ)) (words : Words)
-    → IfFollow (λ plan paths each explain. EndsFollow Is each paths status old new) words
+pub follow_status : (Is : TextRelation) (status : ℕ) (failed : Bool) (old new : Option (List ℕ))
+    (words : Words)
+    → IfFollow (λ plan paths each explain. EndsFollow Is each paths status failed old new) words
     → IfFollow (λ plan paths each explain. IsFollowStatus status) words
-follow_status Is status old new (Work task plan paths) h = tt
-follow_status Is status old new (WorkWith task plan paths flags) h = tt
-follow_status Is status old new (Follow plan paths each explain) h =
-    status_of_following Is each _ status old new h
-follow_status Is status old new (Text text said) h = tt
+follow_status Is status failed old new (Work task plan paths) h = tt
+follow_status Is status failed old new (WorkWith task plan paths flags) h = tt
+follow_status Is status failed old new (Follow plan paths each explain) h =
+    status_of_following Is each _ status failed old new h
+follow_status Is status failed old new (Text text said) h = tt
 
 followed : (result : ℕ) → IsFollowStatus result → IsStatus result
 followed result (inl well) = inl (inl well)

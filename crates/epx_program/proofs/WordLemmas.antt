@@ -170,8 +170,8 @@ module _ {S : Type 0} (contents : S → Option (List ℕ)) (before after : S)
   pub ends_as_asked : (wanted : Words)
       → IfWork (λ task plan paths. EndsTask input Unread Is (flags_of wanted).exit_code task paths
       status failed (contents before) (contents after)) wanted
-      → IfFollow (λ plan paths each explain. EndsFollow Is each paths status (contents before)
-      (contents after)) wanted
+      → IfFollow (λ plan paths each explain. EndsFollow Is each paths status failed
+      (contents before) (contents after)) wanted
       → ((said : String Global) → wanted ≡ text said 0 → status ≡ 0
       → Appends (contents before) (contents after) (string_bytes said))
       → ((said : String Global) → wanted ≡ text said 0

@@ -98,7 +98,7 @@ EndsAsAsked input Unread Is (asked.Work task plan paths) status failed old new =
 EndsAsAsked input Unread Is (asked.WorkWith task plan paths flags) status failed old new =
     EndsTask input Unread Is flags.exit_code task (paths_of paths) status failed old new
 EndsAsAsked input Unread Is (asked.Follow plan paths each explain) status failed old new =
-    EndsFollow Is each (paths_of paths) status old new
+    EndsFollow Is each (paths_of paths) status failed old new
 EndsAsAsked input Unread Is (asked.Text text n) status failed old new =
     EndsWithText (string_bytes text) n status failed old new
 

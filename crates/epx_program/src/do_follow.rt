@@ -110,7 +110,8 @@ where
     requires output { W.model.has_failed output.old ≡ false }
 
     ensures ends { EndsFollow (text_relation O.model O.Opened.model opener.now I.model input) each
-        (paths_of paths) result (W.model.contents output.old) (W.model.contents output.new) }
+        (paths_of paths) result (W.model.has_failed output.new) (W.model.contents output.old)
+        (W.model.contents output.new) }
     ensures flushed { result ≡ 0 → W.model.is_flushed output.new ≡ true }
     ensures failed { W.model.has_failed output.new ≡ true → result ≡ 4 }
 {

@@ -101,7 +101,8 @@ where
         (W.model.contents output.old) (W.model.contents output.new)) words }
     ensures follow { IfFollow (λ _ paths each _. EndsFollow
         (text_relation O.model O.Opened.model opener.now I.model input) each paths result
-        (W.model.contents output.old) (W.model.contents output.new)) words }
+        (W.model.has_failed output.new) (W.model.contents output.old)
+        (W.model.contents output.new)) words }
 
     ensures shown { (text : _) → words ≡ Words.Text text 0 → result ≡ 0
         → Appends (W.model.contents output.old) (W.model.contents output.new) (string_bytes text) }

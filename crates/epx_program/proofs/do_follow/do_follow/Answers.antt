@@ -1,4 +1,4 @@
-use Rattle.std.proofs.Common.{◌≡◌, ◌∙◌}
+use Rattle.std.proofs.Common.{◌≡◌, ◌∙◌, Err, ap}
 use Rattle.epx_types.proofs.Common.{fault_status}
 use Rattle.epx_program.proofs.FollowEndingLemmas.{ends_stopped}
 use Rattle.epx_program.proofs.do_follow.do_follow.Goals as goal
@@ -11,4 +11,6 @@ returns-clause-ends g c =
       | then-explain w ↦ w.result-is ∙ c.report_fault-status.ensures
       | else-explain w ↦ w.result-is ∙ c.report_fault-status.ensures
     ] in
-    ends_stopped c.args.each _ _ _ _ fault _ is c.in-Err.ensures.stopped
+    ends_stopped c.args.each _ _ _ _ fault _ _ is
+    (λ write. c.follow_paths.ensures.failed.0 (c.in-Err.is ∙ ap Err write))
+    c.in-Err.ensures.stopped

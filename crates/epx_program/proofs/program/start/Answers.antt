@@ -12,7 +12,7 @@ returns-clause-status g c = rw c.from.ensures (elim c.match-read_args.branch [
       let said = w.execute_words-status.ensures in
       let words = w.in-Ok.words in
       rw w.status-is (of-words _ _ words _ w.in-Ok.ensures.status
-      (work_status _ _ _ _ _ _ _ words said.do_task) (follow_status _ _ _ _ words said.follow)
+      (work_status _ _ _ _ _ _ _ words said.do_task) (follow_status _ _ _ _ _ words said.follow)
       said.text said.refused)
   | in-Err w ↦ rw (w.status-is, w.report_fault-status.ensures) (inl (inr (Memory, refl)))
 ])
@@ -24,7 +24,7 @@ returns-clause-flushed g c = rw c.from.ensures (elim c.match-read_args.branch [
       rw (w.status-is, w.output-is) (λ well. elim well [
         | inl zero ↦ said.flushed zero
         | inr five ↦ found_by_work _ _ _ w.in-Ok.words _ w.in-Ok.ensures.status said.found
-            (follow_status _ _ _ _ w.in-Ok.words said.follow) said.text said.refused five
+            (follow_status _ _ _ _ _ w.in-Ok.words said.follow) said.text said.refused five
       ])
   | in-Err w ↦ rw (w.status-is, w.report_fault-status.ensures) (λ well. elim well [
     | inl zero ↦ absurd (cc zero)
