@@ -2,7 +2,7 @@
 use Rattle.std.specs.Prelude.{◌≡◌, ◌⊎◌, ⊤, ℕ, Bool, true, false, List, [], ◌++◌, Option, None}
 use Rattle.std.specs.Prelude.{Some, MatchOption, option_and_then}
 use Rattle.std.specs.Io.KnownBytes.{Keeps}
-use Rattle.epx_devices.specs.Models.{OpenerModel, SinkModel, SourceModel}
+use Rattle.epx_devices.specs.Models.{OpenerModel, SaverModel, SinkModel, SourceModel}
 use Rattle.epx_devices.specs.Reads.{IsOneRead}
 
 pub record ReaderState (R : Type 0) : Type 0 where
@@ -53,6 +53,18 @@ pub record PathState (O F : Type 0) : Type 0 where
 -- what opens files of the system: no contract of the system says which file is at a path
 abbrev pub file_opener : {O R : Type 0} → OpenerModel O (ReaderState R)
 file_opener = record { opens = λ _ _ file. IsUnread file; refuses = λ _ _. ⊤ }
+
+-- a file has accepted exactly these bytes, and buffers none of them
+abbrev pub IsFilled : {W : Type 0} → WriterState W → List ℕ → Type 0
+IsFilled file bytes = (file.taken ≡ bytes) × (file.flushed ≡ true)
+
+-- what saves files of the system: a file was filled with the bytes. No contract of the system says
+-- which file is at a path
+abbrev pub file_saver : {V : Type 0} → (W : Type 0) → SaverModel V
+file_saver W = record {
+  saves = λ _ path bytes _. (file : WriterState W) × IsFilled file bytes;
+  refuses = λ _ _ _ _. ⊤;
+}
 
 -- the next read reads from this file: the one that is open, or one that is opened at the path
 abbrev pub IsNextFile : {O F : Type 0} → OpenerModel O F → PathState O F → F → Type 0

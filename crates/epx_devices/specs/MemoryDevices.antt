@@ -1,6 +1,6 @@
 -- The models of devices in memory.
-use Rattle.std.specs.Prelude.{ℕ, Bool, true, false, List, Some}
-use Rattle.epx_devices.specs.Models.{SinkModel, SourceModel}
+use Rattle.std.specs.Prelude.{◌≡◌, ◌≤◌, ℕ, Bool, true, false, List, [], ◌∷◌, ◌++◌, length, Some}
+use Rattle.epx_devices.specs.Models.{SaverModel, SinkModel, SourceModel}
 use Rattle.epx_devices.specs.Reads.{IsOneRead}
 
 -- a source of these bytes, of which no read fails
@@ -23,4 +23,17 @@ memory_sink = record {
   contents = λ s. Some s.bytes;
   is_flushed = λ _. true;
   has_failed = λ s. s.failed;
+}
+
+-- the paths under which bytes were saved, in that order, and how many bytes a saver takes at most
+pub record SaverState : Type 0 where
+  pub files : List (List ℕ × List ℕ)
+  pub room : ℕ
+
+-- a saver that keeps what it is given
+abbrev pub memory_saver : SaverModel SaverState
+memory_saver = record {
+  saves = λ s path bytes t. (length bytes ≤ s.room)
+      × (t ≡ record s { files = s.files ++ (path, bytes) ∷ [] });
+  refuses = λ s _ _ t. t ≡ s;
 }

@@ -1,4 +1,4 @@
--- How contracts see a source, a sink, and what opens files.
+-- How contracts see a source, a sink, what opens files, and what saves them.
 use Rattle.std.specs.Prelude.{ℕ, Bool, List, Option}
 
 -- what is known of a source of bytes
@@ -27,3 +27,10 @@ pub record OpenerModel (O F : Type 0) : Type 1 where
   pub opens : O → List ℕ → F → Type 0
   -- none could be opened at this path
   pub refuses : O → List ℕ → Type 0
+
+-- what is known of a saver, which keeps bytes under a path as a whole
+pub record SaverModel (V : Type 0) : Type 1 where
+  -- the bytes were saved under the path, and that left the saver in this state
+  pub saves : V → List ℕ → List ℕ → V → Type 0
+  -- they could not be saved there, and what was there before stays
+  pub refuses : V → List ℕ → List ℕ → V → Type 0

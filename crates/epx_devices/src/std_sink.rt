@@ -46,6 +46,13 @@ impl<W: Write> StdSink<W> {
             failed: false,
         }
     }
+
+    /// The writer.
+    pub fn writer(&self) -> &W
+        ensures { result.now ≡ self.now.writer }
+    {
+        &self.writer
+    }
 }
 
 impl<W: Write> Sink for StdSink<W> {

@@ -1,7 +1,7 @@
-mod RunLemmas
+pub mod RunLemmas
 mod PairLemmas
 mod FilterLemmas
-mod RemainderLemmas
+pub mod RemainderLemmas
 pub mod CallLineLemmas
 mod OrderedLemmas
 mod PendingLemmas

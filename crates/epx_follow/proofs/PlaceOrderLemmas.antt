@@ -20,8 +20,8 @@ use Rattle.epx_follow.specs.BatchEnds.{EndsBatch, first_line}
 use Rattle.epx_follow.specs.Following.{FollowerView, at_next_log, held_lines, joined, next_line}
 use Rattle.epx_follow.specs.Following.{new_follower, passed}
 use Rattle.epx_follow.specs.LinesTaken.{EndsIf, TakesAs}
-use Rattle.epx_follow.specs.PlaceOrderLaws.{AreInPlaceOrder, FirstLinesAreEarliest, LinesStayInOrder}
-use Rattle.epx_follow.specs.PlaceOrderLaws.{RefusedBatchIsARefusedMerge}
+use Rattle.epx_follow.specs.PlaceOrderLaws.{AreInPlaceOrder, FirstLinesAreEarliest}
+use Rattle.epx_follow.specs.PlaceOrderLaws.{LinesStayInOrder, RefusedBatchIsARefusedMerge}
 use Rattle.epx_follow.proofs.CallPlaceLemmas.{fault_real}
 use Rattle.epx_follow.proofs.CountLemmas.{rising_passing}
 use Rattle.epx_follow.proofs.FirstLineLemmas.{first_line-cases, first_line-earlier}

@@ -1,5 +1,6 @@
 //! The execution order.
-ghost use Rattle.std.specs.Prelude.{List, IfOk};
+ghost use Rattle.std.specs.Prelude.{◌≡◌, List, length, IfOk};
+ghost use Rattle.std.specs.List.Sorted.{IsPermutation, IsSorted};
 ghost use Rattle.epx_types.specs.declared.id.Id.{Id};
 ghost use Rattle.epx_types.specs.Done.{remaining};
 ghost use Rattle.epx_types.specs.ExecutionOrder.{ranked_ids, IsExecutionOrder};
@@ -8,12 +9,28 @@ ghost use Rattle.epx_graph.specs.GraphOf.{IsGraphOfRest, IsGraphOf};
 
 use crate::ready::ready_ranks;
 use epx_committed::Merged;
-use epx_components::OrderList;
+use epx_components::{OrderList, Rank};
 use epx_graph::Graph;
 use epx_types::Memory;
 use rayon::prelude::*;
 use std::alloc::Global;
 use std::thread::Threads;
+
+/// One thread sorts fewer ranks than these faster than several that have to be begun for it.
+const MANY: usize = 1_000;
+
+/// Sorts ranks. They differ, so it is enough that the sort is unstable, and it takes no memory.
+fn sort_ranks<R: Threads + Sync>(rt: &R, ranks: &mut [Rank])
+    ensures permutation { IsPermutation ranks.old ranks.new }
+    ensures len { length ranks.new ≡ length ranks.old }
+    ensures sorted { IsSorted Rank.cmp ranks.new }
+{
+    if ranks.len() < MANY {
+        ranks.sort_unstable();
+    } else {
+        par_sort_unstable(rt, ranks);
+    }
+}
 
 /// The execution order of the ready instances of a committed map. If instances without a node are
 /// done, it is the order of the remaining ones.
@@ -44,7 +61,6 @@ pub fn order<R: Threads + Sync>(
         → IsLawful merged.now (ranked_ids order)) }
 {
     let mut ranks = ready_ranks(alloc, merged, graph)?;
-    // Ranks differ, so it is enough that the sort is unstable, and it takes no memory.
-    par_sort_unstable(rt, &mut ranks);
+    sort_ranks(rt, &mut ranks);
     OrderList::new(alloc, ranks)
 }
