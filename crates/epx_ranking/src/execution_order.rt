@@ -9,26 +9,26 @@ ghost use Rattle.epx_graph.specs.GraphOf.{IsGraphOfRest, IsGraphOf};
 
 use crate::ready::ready_ranks;
 use epx_committed::Merged;
-use epx_components::{OrderList, Rank};
+use epx_components::OrderList;
 use epx_graph::Graph;
 use epx_types::Memory;
 use rayon::prelude::*;
 use std::alloc::Global;
 use std::thread::Threads;
 
-/// One thread sorts fewer ranks than these faster than several that have to be begun for it.
+/// One thread sorts fewer items than these sooner than several do, which have to be begun.
 const MANY: usize = 1_000;
 
-/// Sorts ranks. They differ, so it is enough that the sort is unstable, and it takes no memory.
-fn sort_ranks<R: Threads + Sync>(rt: &R, ranks: &mut [Rank])
-    ensures permutation { IsPermutation ranks.old ranks.new }
-    ensures len { length ranks.new ≡ length ranks.old }
-    ensures sorted { IsSorted Rank.cmp ranks.new }
+/// Sorts the items, by several threads if they are many. Equal ones may change places.
+fn sort<R: Threads + Sync, T: Ord + Send>(rt: &R, items: &mut [T])
+    ensures permutation { IsPermutation items.old items.new }
+    ensures len { length items.new ≡ length items.old }
+    ensures sorted { IsSorted T.cmp items.new }
 {
-    if ranks.len() < MANY {
-        ranks.sort_unstable();
+    if items.len() < MANY {
+        items.sort_unstable();
     } else {
-        par_sort_unstable(rt, ranks);
+        par_sort_unstable(rt, items);
     }
 }
 
@@ -61,6 +61,7 @@ pub fn order<R: Threads + Sync>(
         → IsLawful merged.now (ranked_ids order)) }
 {
     let mut ranks = ready_ranks(alloc, merged, graph)?;
-    sort_ranks(rt, &mut ranks);
+    // Ranks differ, so it is enough that the sort is unstable, and it takes no memory.
+    sort(rt, &mut ranks);
     OrderList::new(alloc, ranks)
 }

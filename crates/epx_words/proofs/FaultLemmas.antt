@@ -207,7 +207,7 @@ module _ (rest : List Text) where
         numbers.cut,
         λ has. absurd (no_first (codes "follow") (refl, (refl, (refl, (refl, tt)))) has),
         λ e. no_flag (codes "exit-code") follow_leaf
-            (refl, (refl, (refl, (refl, (refl, (refl, tt)))))) rest none,
+            (refl, (refl, (refl, (refl, (refl, (refl, (refl, (refl, tt)))))))) rest none,
       )
 
 task_works : (name : Text) (rest : List Text) → IsTaskName name

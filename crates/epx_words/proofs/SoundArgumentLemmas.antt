@@ -21,7 +21,7 @@ use Rattle.clap.specs.declared.error.kind.ErrorKind.TheVariants.{WrongNumberOfVa
 use Rattle.clap.specs.declared.parser.matches.ValueSource.{ValueSource}
 use Rattle.clap.specs.declared.parser.matches.ValueSource.TheVariants.{CommandLine, DefaultValue}
 use Rattle.clap.proofs.ValueTestLemmas.{accepts-Accepts}
-use Rattle.epx_words.specs.App.{first_rule, flag_rule, logs_rule, number_rule, reaches_rule}
+use Rattle.epx_words.specs.App.{first_rule, flag_rule, logs_rule, number_rule, text_rule}
 use Rattle.epx_words.specs.SubcommandRows.{IsNumberUpTo, first_in}
 use Rattle.epx_words.proofs.KindLemmas.{none_after, none_first}
 use Rattle.epx_words.proofs.SoundRowLemmas.{AreSound, IsSoundRow, first_read, default_has_row}
@@ -45,15 +45,15 @@ logs_leaf i = with_index i (filled logs_rule)
 abbrev flag_leaf : Text → Rule
 flag_leaf name = filled (flag_rule name)
 
-abbrev reaches_leaf : Rule
-reaches_leaf = filled reaches_rule
+abbrev text_leaf : Text → Rule
+text_leaf name = filled (text_rule name)
 
 -- what each subcommand begins with: its numbers and the flag for explanations
 abbrev pub numbers_and : List Rule → List Rule
 numbers_and rest = workers_leaf ∷ cut_leaf ∷ flag_leaf (codes "explain") ∷ rest
 
--- what follows: the logs, or a first argument and the logs, each with or without further flags or
--- the end of a path
+-- what follows: the logs, or a first argument and the logs, each with or without further flags and
+-- options whose values are texts
 abbrev pub to_logs : List Rule
 to_logs = logs_leaf 1 ∷ filled help_rule ∷ []
 
@@ -70,13 +70,14 @@ abbrev pub prefix_to_first : List Rule
 prefix_to_first = flag_leaf (codes "exit-code") ∷ flag_leaf (codes "prefix") ∷ to_first
 
 abbrev pub reaches_to_first : List Rule
-reaches_to_first = reaches_leaf ∷ to_first
+reaches_to_first = text_leaf (codes "reaches") ∷ to_first
 
 abbrev pub reads_to_first : List Rule
 reads_to_first = flag_leaf (codes "reads") ∷ to_first
 
 abbrev pub each_to_logs : List Rule
-each_to_logs = flag_leaf (codes "each") ∷ to_logs
+each_to_logs =
+    flag_leaf (codes "each") ∷ text_leaf (codes "state") ∷ text_leaf (codes "save") ∷ to_logs
 
 -- each use of the argument keeps the rows sound
 abbrev KeepsSound : Bool → Rule → Type 0
@@ -184,13 +185,11 @@ module _ (name : Text) (no_workers : bytes_eq name (codes "workers") ≡ false)
   flag_default_keeps rows ok = default_sound (flag_leaf name) (codes "false") [] rows refl
       (other_sound DefaultValue (codes "false" ∷ [])) ok
 
-reaches_keeps : (again : Bool) → KeepsSound again reaches_leaf
-reaches_keeps again values rows none ok =
-    values_sound (codes "reaches") AsWritten CommandLine (values_or_missing reaches_leaf values)
-    (without (codes "reaches") rows)
-    (other_sound (codes "reaches") refl refl refl CommandLine
-    (values_or_missing reaches_leaf values))
-    (without_kept IsSoundRow (codes "reaches") rows ok)
+  text_keeps : (again : Bool) → KeepsSound again (text_leaf name)
+  text_keeps again values rows none ok =
+      values_sound name AsWritten CommandLine (values_or_missing (text_leaf name) values)
+      (without name rows) (other_sound CommandLine (values_or_missing (text_leaf name) values))
+      (without_kept IsSoundRow name rows ok)
 
 help_keeps : (again : Bool) → KeepsSound again (filled help_rule)
 help_keeps again values rows none ok = ok
@@ -207,6 +206,12 @@ flag_is_kept : (name : Text) → bytes_eq name (codes "workers") ≡ false
     → Keeps (flag_leaf name)
 flag_is_kept name workers cut first =
     (flag_keeps name workers cut first true, flag_default_keeps name workers cut first)
+
+text_is_kept : (name : Text) → bytes_eq name (codes "workers") ≡ false
+    → bytes_eq name (codes "cut") ≡ false → bytes_eq name (codes "first") ≡ false
+    → Keeps (text_leaf name)
+text_is_kept name workers cut first =
+    (text_keeps name workers cut first true, no_default_keeps (text_leaf name) refl)
 
 pub to_logs_keep : AllByRecursion Keeps to_logs
 to_logs_keep = (
@@ -236,14 +241,19 @@ prefix_to_first_keep = (
 )
 
 pub reaches_to_first_keep : AllByRecursion Keeps reaches_to_first
-reaches_to_first_keep =
-    ((reaches_keeps true, no_default_keeps reaches_leaf refl), to_first_keep)
+reaches_to_first_keep = (text_is_kept (codes "reaches") refl refl refl, to_first_keep)
 
 pub reads_to_first_keep : AllByRecursion Keeps reads_to_first
 reads_to_first_keep = (flag_is_kept (codes "reads") refl refl refl, to_first_keep)
 
 pub each_to_logs_keep : AllByRecursion Keeps each_to_logs
-each_to_logs_keep = (flag_is_kept (codes "each") refl refl refl, to_logs_keep)
+each_to_logs_keep = (
+  flag_is_kept (codes "each") refl refl refl,
+  (
+    text_is_kept (codes "state") refl refl refl,
+    (text_is_kept (codes "save") refl refl refl, to_logs_keep),
+  ),
+)
 
 uses_keep : (rules : List Rule) → AllByRecursion Keeps rules
     → AllByRecursion (KeepsSound true) rules

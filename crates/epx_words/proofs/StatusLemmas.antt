@@ -20,7 +20,7 @@ module _ (kinds : Kinds) (kind : ErrorKind) (not_memory : kind ≢ OutOfMemory)
       → IsWork asked ↔ IsTaken kinds given
   is_not_taken given (words.Work task plan paths) h = absurd h
   is_not_taken given (words.WorkWith task plan paths flags) h = absurd h
-  is_not_taken given (words.Follow plan paths each explain) h = absurd h
+  is_not_taken given (words.Follow plan paths options) h = absurd h
   is_not_taken given (words.Text text status) h = (
     λ asks. absurd asks,
     λ taken. absurd
@@ -31,13 +31,13 @@ module _ (kinds : Kinds) (kind : ErrorKind) (not_memory : kind ≢ OutOfMemory)
       → IfText (IsExitStatus kinds) asked
   has_exit_status (words.Work task plan paths) h = tt
   has_exit_status (words.WorkWith task plan paths flags) h = tt
-  has_exit_status (words.Follow plan paths each explain) h = tt
+  has_exit_status (words.Follow plan paths options) h = tt
   has_exit_status (words.Text text status) h = (kind, is_among kinds kind not_memory has, h)
 
 pub is_refused : (kind : ErrorKind) (takes : Bool) (asked : Words) → kind ≢ OutOfMemory
     → (takes ≡ true → kind ≡ OutOfMemory) → IfText (λ status. takes ≡ false) asked
 is_refused kind takes (words.Work task plan paths) not_memory passes = tt
 is_refused kind takes (words.WorkWith task plan paths flags) not_memory passes = tt
-is_refused kind takes (words.Follow plan paths each explain) not_memory passes = tt
+is_refused kind takes (words.Follow plan paths options) not_memory passes = tt
 is_refused kind true (words.Text text status) not_memory passes = absurd (not_memory (passes refl))
 is_refused kind false (words.Text text status) not_memory passes = refl

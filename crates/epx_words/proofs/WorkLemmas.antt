@@ -93,7 +93,7 @@ is_taken kinds given (words.WorkWith t plan paths flags) none means = (
   λ work. (none, (names_subject given t plan _ means.0, means.2)),
   λ taken. tt,
 )
-is_taken kinds given (words.Follow plan paths each explain) none means = (
+is_taken kinds given (words.Follow plan paths options) none means = (
   λ work. (none, follow_names_all given means.0.name means.1),
   λ taken. tt,
 )
@@ -118,14 +118,14 @@ module _ (given : Given) where
       → P t plan paths) → (asked : Words) → IsMeaningOf given asked → IfWork P asked
   has_part P part (words.Work t plan paths) means = part t plan _ means.0
   has_part P part (words.WorkWith t plan paths flags) means = part t plan _ means.0
-  has_part P part (words.Follow plan paths each explain) means = tt
+  has_part P part (words.Follow plan paths options) means = tt
   has_part P part (words.Text text status) means = tt
 
   pub has_flags : (asked : Words) → IsMeaningOf given asked → IsWork asked
       → FitFlags (flags_of asked) (rows_in given)
   has_flags (words.Work t plan paths) means work = means.1
   has_flags (words.WorkWith t plan paths flags) means work = means.1
-  has_flags (words.Follow plan paths each explain) means work = record {
+  has_flags (words.Follow plan paths options) means work = record {
     exit_code = (λ e. absurd (true≢false (sym e)), λ has. absurd (means.1 has));
     explain = means.0.explain;
   }
@@ -134,14 +134,14 @@ module _ (given : Given) where
   pub is_followed : (asked : Words) → IsMeaningOf given asked → IfFollow (AsksToFollow given) asked
   is_followed (words.Work t plan paths) means = tt
   is_followed (words.WorkWith t plan paths flags) means = tt
-  is_followed (words.Follow plan paths each explain) means = means.0
+  is_followed (words.Follow plan paths options) means = means.0
   is_followed (words.Text text status) means = tt
 
   pub not_all_named : (asked : Words) → IsMeaningOf given asked
       → IfText (λ status. (¬ NamesAll given) × (status ≡ 2)) asked
   not_all_named (words.Work t plan paths) means = tt
   not_all_named (words.WorkWith t plan paths flags) means = tt
-  not_all_named (words.Follow plan paths each explain) means = tt
+  not_all_named (words.Follow plan paths options) means = tt
   not_all_named (words.Text text status) means = means
 
 -- a refusal of words that ask for a status and name no log
@@ -150,7 +150,7 @@ pub no_log_named : (given : Given) (rows : List Row) (named : Bool) (asked : Wor
     → IsMeaningOf given asked
 no_log_named given rows named (words.Work t plan paths) are means none is = absurd is
 no_log_named given rows named (words.WorkWith t plan paths flags) are means none is = absurd is
-no_log_named given rows named (words.Follow plan paths each explain) are means none is = absurd is
+no_log_named given rows named (words.Follow plan paths options) are means none is = absurd is
 no_log_named given rows named (words.Text text status) are means none is =
     (λ all. true≢false (sym (means.1 (subst NamesLogs are all.1)) ∙ none), is)
 
@@ -159,5 +159,5 @@ pub text_weaker : (P Q : ℕ → Type 0) (asked : Words) → ((status : ℕ) →
     → IfText P asked → IfText Q asked
 text_weaker P Q (words.Work t plan paths) weaker h = tt
 text_weaker P Q (words.WorkWith t plan paths flags) weaker h = tt
-text_weaker P Q (words.Follow plan paths each explain) weaker h = tt
+text_weaker P Q (words.Follow plan paths options) weaker h = tt
 text_weaker P Q (words.Text text status) weaker h = weaker status h

@@ -1,6 +1,6 @@
 -- The program as clap knows it. Each subcommand has two options with numbers, the flag `--explain`
 -- and any number of logs. Four subcommands have a required argument before the logs. Some have
--- further flags, or an option for the end of a path.
+-- further flags, or options whose values are texts: the end of a path, or where states are.
 use Rattle.std.specs.Prelude.{ℕ, true, Some, [], ◌∷◌, codes}
 use Rattle.clap.specs.Simple.{on_top}
 use Rattle.clap.specs.Words.{App, Rule, Text, new_app, new_rule, with_rule, with_subcommand}
@@ -33,10 +33,10 @@ first_rule = record (new_rule (codes "first")) {
 abbrev pub flag_rule : Text → Rule
 flag_rule name = record (new_rule name) { long = Some name; action = Some SetTrue }
 
--- the option for the end of a path
-abbrev pub reaches_rule : Rule
-reaches_rule = record (new_rule (codes "reaches")) {
-  long = Some (codes "reaches");
+-- an option whose value is a text
+abbrev pub text_rule : Text → Rule
+text_rule name = record (new_rule name) {
+  long = Some name;
   action = Some Set;
   value_names = 1;
 }
@@ -78,7 +78,8 @@ list_app name =
 -- a subcommand about an instance, over logs
 abbrev pub why_app : Text → App
 why_app name =
-    with_rule (with_rule (with_rule (numbers_app name) reaches_rule) first_rule) logs_rule
+    with_rule (with_rule (with_rule (numbers_app name) (text_rule (codes "reaches"))) first_rule)
+    logs_rule
 
 -- a subcommand about a key, over logs
 abbrev pub trace_app : Text → App
@@ -88,7 +89,13 @@ trace_app name =
 
 -- the subcommand that executes logs as they come
 abbrev pub follow_app : Text → App
-follow_app name = with_rule (with_rule (numbers_app name) (flag_rule (codes "each"))) logs_rule
+follow_app name =
+    with_rule
+    (with_rule
+    (with_rule (with_rule (numbers_app name) (flag_rule (codes "each")))
+    (text_rule (codes "state")))
+    (text_rule (codes "save")))
+    logs_rule
 
 -- the program without its subcommands; of an option that is given twice the last counts
 abbrev pub epx_top : App

@@ -1,5 +1,5 @@
 -- What a command line asks for.
-use Rattle.std.specs.Prelude.{◌≡◌, ◌≤◌, ◌⊎◌, ◌↔◌, ⊤, ℕ, Bool, true, false, List, ◌∷◌, Option}
+use Rattle.std.specs.Prelude.{◌≡◌, ◌≤◌, ◌⊎◌, ◌↔◌, ⊤, ℕ, true, false, List, ◌∷◌, Option}
 use Rattle.std.specs.Prelude.{Some, None, codes, length, map, option_map, slice_get, string_bytes}
 use Rattle.clap.specs.Words.{Row, Text}
 use Rattle.epx_types.specs.Pieces.{PlanNumbers}
@@ -9,8 +9,10 @@ use Rattle.epx_names.specs.declared.task.Task.TheVariants as task
 use Rattle.epx_words.specs.declared.words.Words.{Words}
 use Rattle.epx_words.specs.declared.words.Words.TheVariants as words
 use Rattle.epx_words.specs.declared.words.Flags.{Flags}
+use Rattle.epx_words.specs.declared.words.FollowOptions.{FollowOptions}
 use Rattle.epx_words.specs.SubcommandRows.{Given, HasFlag, IsCutOf, IsWorkersOf, first_in, logs_in}
-use Rattle.epx_words.specs.SubcommandRows.{name_in, reaches_in, rows_in, some_logs_in}
+use Rattle.epx_words.specs.SubcommandRows.{name_in, reaches_in, rows_in, save_in, some_logs_in}
+use Rattle.epx_words.specs.SubcommandRows.{state_in}
 use Rattle.epx_words.specs.Subjects.{IsNameOf, NamesAll, NamesLogs}
 
 -- the words are the program's name at most, or this and a hyphen: they name no subcommand
@@ -72,22 +74,22 @@ IfWork P (words.Work task plan paths) =
     P task plan (option_map (λ list. map string_bytes list.items) paths)
 IfWork P (words.WorkWith task plan paths flags) =
     P task plan (option_map (λ list. map string_bytes list.items) paths)
-IfWork P (words.Follow plan paths each explain) = ⊤
+IfWork P (words.Follow plan paths options) = ⊤
 IfWork P (words.Text text status) = ⊤
 
--- if the words ask to follow logs, P holds of the plan, the paths and both flags
-abbrev pub IfFollow : (PlanNumbers → Option (List Text) → Bool → Bool → Type 0) → Words → Type 0
+-- if the words ask to follow logs, P holds of the plan, the paths and the options
+abbrev pub IfFollow : (PlanNumbers → Option (List Text) → FollowOptions → Type 0) → Words → Type 0
 IfFollow P (words.Work task plan paths) = ⊤
 IfFollow P (words.WorkWith task plan paths flags) = ⊤
-IfFollow P (words.Follow plan paths each explain) =
-    P plan (option_map (λ list. map string_bytes list.items) paths) each explain
+IfFollow P (words.Follow plan paths options) =
+    P plan (option_map (λ list. map string_bytes list.items) paths) options
 IfFollow P (words.Text text status) = ⊤
 
 -- the words ask for work
 abbrev pub IsWork : Words → Type 0
 IsWork (words.Work task plan paths) = ⊤
 IsWork (words.WorkWith task plan paths flags) = ⊤
-IsWork (words.Follow plan paths each explain) = ⊤
+IsWork (words.Follow plan paths options) = ⊤
 IsWork (words.Text text status) = ⊥
 
 abbrev pub no_flags : Flags
@@ -97,7 +99,8 @@ no_flags = record { exit_code = false; explain = false }
 abbrev pub flags_of : Words → Flags
 flags_of (words.Work task plan paths) = no_flags
 flags_of (words.WorkWith task plan paths flags) = flags
-flags_of (words.Follow plan paths each explain) = record { exit_code = false; explain = explain }
+flags_of (words.Follow plan paths options) =
+    record { exit_code = false; explain = options.explain }
 flags_of (words.Text text status) = no_flags
 
 -- the flags are those that the rows have
@@ -109,14 +112,14 @@ pub record FitFlags (flags : Flags) (rows : List Row) : Type 0 where
 abbrev pub IfText : (ℕ → Type 0) → Words → Type 0
 IfText P (words.Work task plan paths) = ⊤
 IfText P (words.WorkWith task plan paths flags) = ⊤
-IfText P (words.Follow plan paths each explain) = ⊤
+IfText P (words.Follow plan paths options) = ⊤
 IfText P (words.Text text status) = P status
 
 -- the words ask for a text with this status
 abbrev pub IsText : ℕ → Words → Type 0
 IsText n (words.Work task plan paths) = ⊥
 IsText n (words.WorkWith task plan paths flags) = ⊥
-IsText n (words.Follow plan paths each explain) = ⊥
+IsText n (words.Follow plan paths options) = ⊥
 IsText n (words.Text text status) = status ≡ n
 
 -- this is the work that a subcommand asks for by its rows
@@ -130,13 +133,15 @@ pub record AsksFor (given : Given) (asked : Task) (cutting : PlanNumbers)
 
 -- this is what the subcommand `follow` asks for by its rows: the logs are None if none is named
 pub record AsksToFollow (given : Given) (cutting : PlanNumbers) (logs : Option (List Text))
-    (by_line explained : Bool) : Type 0 where
+    (options : FollowOptions) : Type 0 where
   pub name : name_in given ≡ Some (codes "follow")
   pub workers : IsWorkersOf (rows_in given) cutting.workers
   pub cut : IsCutOf (rows_in given) cutting.cut
   pub paths : logs ≡ some_logs_in (rows_in given)
-  pub each : (by_line ≡ true) ↔ HasFlag (codes "each") (rows_in given)
-  pub explain : (explained ≡ true) ↔ HasFlag (codes "explain") (rows_in given)
+  pub each : (options.each ≡ true) ↔ HasFlag (codes "each") (rows_in given)
+  pub explain : (options.explain ≡ true) ↔ HasFlag (codes "explain") (rows_in given)
+  pub state : option_map string_bytes options.state ≡ state_in (rows_in given)
+  pub save : option_map string_bytes options.save ≡ save_in (rows_in given)
 
 -- the words ask for that work; or they are refused with status 2, since they do not name all that
 -- they ask about
@@ -147,7 +152,7 @@ IsMeaningOf given (words.Work task plan paths) =
 IsMeaningOf given (words.WorkWith task plan paths flags) =
     AsksFor given task plan (option_map (λ list. map string_bytes list.items) paths)
     × FitFlags flags (rows_in given) × NamesLogs (rows_in given)
-IsMeaningOf given (words.Follow plan paths each explain) =
-    AsksToFollow given plan (option_map (λ list. map string_bytes list.items) paths) each explain
+IsMeaningOf given (words.Follow plan paths options) =
+    AsksToFollow given plan (option_map (λ list. map string_bytes list.items) paths) options
     × (¬ HasFlag (codes "exit-code") (rows_in given))
 IsMeaningOf given (words.Text text status) = (¬ NamesAll given) × (status ≡ 2)

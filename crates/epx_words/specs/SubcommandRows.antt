@@ -1,5 +1,5 @@
--- The values in the rows of a subcommand: two numbers, flags, the logs, and the argument before
--- them.
+-- The values in the rows of a subcommand: two numbers, flags, texts, the logs, and the argument
+-- before them.
 use Rattle.std.specs.Prelude.{◌≡◌, ◌⊎◌, ℕ, List, [], ◌∷◌, Option, Some, None, codes, option_map}
 use Rattle.std.specs.Prelude.{unwrap_or}
 use Rattle.std.specs.Option.{IsSome, option_map_or}
@@ -51,6 +51,14 @@ first_in rows = first_of (codes "first") rows
 -- the value of the option `--reaches`, if it is there
 abbrev pub reaches_in : List Row → Option Text
 reaches_in rows = first_of (codes "reaches") rows
+
+-- the value of the option `--state`, if it is there
+abbrev pub state_in : List Row → Option Text
+state_in rows = first_of (codes "state") rows
+
+-- the value of the option `--save`, if it is there
+abbrev pub save_in : List Row → Option Text
+save_in rows = first_of (codes "save") rows
 
 -- a flag is there
 abbrev pub HasFlag : Text → List Row → Type 0

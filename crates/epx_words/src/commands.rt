@@ -3,7 +3,7 @@ ghost use Rattle.std.specs.Prelude.{◌≡◌, IfOk, codes};
 ghost use Rattle.clap.specs.Words.{app_of, new_app, rule_of};
 ghost use Rattle.epx_words.specs.App.{base_app, checks_app, epx_app, epx_top, finding_app};
 ghost use Rattle.epx_words.specs.App.{first_rule, flag_rule, follow_app, list_app, logs_rule};
-ghost use Rattle.epx_words.specs.App.{number_rule, numbers_app, reaches_rule, runs_app, trace_app};
+ghost use Rattle.epx_words.specs.App.{number_rule, numbers_app, runs_app, text_rule, trace_app};
 ghost use Rattle.epx_words.specs.App.{why_app, work_app};
 
 use clap::builder::ValueParser;
@@ -233,10 +233,13 @@ const FOLLOW: Help = Help {
     about: "Executes logs as they come, and prints the replies batch by batch",
     long_about: "Reads the lines of the logs as they come, executes what they commit, and prints
 the replies batch by batch. A blank line ends a batch, and so does the end of
-the last log; with --each every line is a batch. At the end it prints which
+the last log; with --each every line is a batch. With --state it goes on from a
+state that --save saved earlier, or from an earlier report, and with --save it
+saves at the end what it goes on from next time. At the end it prints which
 instances wait, and the final store.",
-    after: "Example:
-  tail -f examples/replicas/0.jsonl | epx follow --each",
+    after: "Examples:
+  tail -f examples/replicas/0.jsonl | epx follow --each
+  epx follow --state old.state --save new.state more.jsonl",
     long_after: "The logs are read one after another. Without a LOG standard input is read, as
 with the LOG -. What comes out after each batch is a line of counts, and a line
 for each instance that is executed now, in execution order:
@@ -250,8 +253,9 @@ At the end come the last lines of a report:
   [\"waiting\",r,i,mr,mi]   it waits for the least missing one that it reaches
   [\"store\",k,v]           the value of a key in the final store
 
-Example:
-  tail -f examples/replicas/0.jsonl | epx follow --each",
+Examples:
+  tail -f examples/replicas/0.jsonl | epx follow --each
+  epx follow --state old.state --save new.state more.jsonl",
 };
 
 /// What `--exit-code` asks of a subcommand that executes or orders instances.
@@ -325,15 +329,15 @@ fn exit_code<'a>(alloc: Global, found: &'a str) -> Arg<'a>
     flag(alloc, "exit-code", found)
 }
 
-/// The option `--reaches`, whose value is the name of an instance.
-fn reaches<'a>(alloc: Global) -> Arg<'a>
-    ensures { rule_of result ≡ reaches_rule }
+/// An option whose value is a text.
+fn text_option<'a>(alloc: Global, name: &'a str, value: &'a str, help: &'a str) -> Arg<'a>
+    ensures { rule_of result ≡ text_rule name.entry.now }
 {
-    Arg::new(alloc, "reaches")
-        .long("reaches")
-        .value_name("R.I")
+    Arg::new(alloc, name)
+        .long(name)
+        .value_name(value)
         .action(ArgAction::Set)
-        .help("Prints a shortest path of dependencies to this instance instead")
+        .help(help)
 }
 
 /// The argument LOG, which may occur any number of times.
@@ -407,7 +411,13 @@ fn why<'a>(alloc: Global) -> Result<Command<'a>, AllocError>
     ensures { IfOk result (λ c. app_of c ≡ why_app (codes "why")) }
 {
     let id = first(alloc, "R.I", "The instance with number I of replica R");
-    let why = subcommand(alloc, "why", WHY)?.arg(reaches(alloc))?;
+    let reaches = text_option(
+        alloc,
+        "reaches",
+        "R.I",
+        "Prints a shortest path of dependencies to this instance instead",
+    );
+    let why = subcommand(alloc, "why", WHY)?.arg(reaches)?;
     why.arg(id)?.arg(logs(alloc))
 }
 
@@ -426,9 +436,21 @@ fn follow<'a>(alloc: Global) -> Result<Command<'a>, AllocError>
     ensures { IfOk result (λ c. app_of c ≡ follow_app (codes "follow")) }
 {
     let each = flag(alloc, "each", "Makes every line a batch");
-    subcommand(alloc, "follow", FOLLOW)?
-        .arg(each)?
-        .arg(logs(alloc))
+    let state = text_option(
+        alloc,
+        "state",
+        "STATE",
+        "Goes on from this state, or from an earlier report",
+    );
+    let save = text_option(
+        alloc,
+        "save",
+        "STATE",
+        "Saves the state at the end under this path",
+    );
+    let follow = subcommand(alloc, "follow", FOLLOW)?.arg(each)?;
+    let stated = follow.arg(state)?;
+    stated.arg(save)?.arg(logs(alloc))
 }
 
 /// The program without its subcommands. Its usage line has the subcommand as optional: `epx` with

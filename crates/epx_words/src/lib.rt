@@ -9,4 +9,4 @@ mod words;
 
 pub use epx_names::Task;
 pub use read::read_words;
-pub use words::{Flags, Words};
+pub use words::{Flags, FollowOptions, Words};

@@ -2,8 +2,8 @@
 ghost use Rattle.std.specs.Prelude.{◌≡◌, ◌≤◌, ◌≢◌, ◌⊎◌, ◌↔◌, [], None, Some, IfOk, MatchResult};
 ghost use Rattle.std.specs.Prelude.{codes, length, map, false, option_map, string_bytes, true};
 ghost use Rattle.std.specs.Option.{IsSome};
-ghost use Rattle.clap.specs.Words.{fault_of, found_of, kind_of, one_of, rows_of, subcommand_of};
-ghost use Rattle.clap.specs.Words.{subcommand_rows_of, takes};
+ghost use Rattle.clap.specs.Words.{fault_of, first_of, found_of, kind_of, one_of, rows_of};
+ghost use Rattle.clap.specs.Words.{subcommand_of, subcommand_rows_of, takes};
 ghost use Rattle.epx_names.specs.Tasks.{HasInput};
 ghost use Rattle.epx_words.specs.App.{epx_app};
 ghost use Rattle.epx_words.specs.Requests.{AreFirstAndLogs, ArePathsOf, AsksToFollow, FitFlags};
@@ -16,7 +16,7 @@ ghost use Rattle.epx_words.specs.SubcommandRows.{first_in, logs_in, name_in, row
 
 use crate::commands::command;
 use crate::task_of::{has_flag, task_of};
-use crate::words::{Flags, Words};
+use crate::words::{Flags, FollowOptions, Words};
 use clap::error::ErrorKind;
 use clap::{ArgMatches, Error};
 use epx_names::Task;
@@ -143,6 +143,21 @@ fn flags_of(matches: &ArgMatches<'_>) -> Flags
     }
 }
 
+/// A copy of the value of an option. None if the option is not there.
+fn value_of(
+    alloc: Global,
+    matches: &ArgMatches<'_>,
+    option: &str,
+) -> Result<Option<String>, AllocError>
+    ensures { IfOk result (λ value. option_map string_bytes value
+        ≡ first_of option.now (rows_of (found_of matches.now))) }
+{
+    match matches.get_str(option) {
+        Some(text) => Ok(Some(String::from_str(alloc, text)?)),
+        None => Ok(None),
+    }
+}
+
 /// What the subcommand `follow` asks for.
 fn follow_of(alloc: Global, matches: &ArgMatches<'_>) -> Result<Words, AllocError>
     requires { AsksForWork (Some (codes "follow", rows_of (found_of matches.now))) }
@@ -150,11 +165,16 @@ fn follow_of(alloc: Global, matches: &ArgMatches<'_>) -> Result<Words, AllocErro
 {
     let plan = plan_of(matches);
     let paths = some_logs(alloc, matches)?;
+    let options = FollowOptions {
+        each: has_flag(matches, "each"),
+        explain: has_flag(matches, "explain"),
+        state: value_of(alloc, matches, "state")?,
+        save: value_of(alloc, matches, "save")?,
+    };
     Ok(Words::Follow {
         plan,
         paths,
-        each: has_flag(matches, "each"),
-        explain: has_flag(matches, "explain"),
+        options,
     })
 }
 

@@ -12,6 +12,19 @@ pub struct Flags {
     pub explain: bool,
 }
 
+/// How logs are followed.
+#[derive(Debug, Drop)]
+pub struct FollowOptions {
+    /// `--each`: every line is a batch.
+    pub each: bool,
+    /// `--explain`: a further line explains a fault.
+    pub explain: bool,
+    /// `--state`: the path of a state, or of a report, to go on from.
+    pub state: Option<String>,
+    /// `--save`: the path under which the state at the end is saved.
+    pub save: Option<String>,
+}
+
 /// What a command line means: work to do, or a text to print.
 #[derive(Debug, Drop)]
 pub enum Words {
@@ -29,13 +42,11 @@ pub enum Words {
         paths: Option<Vec<String>>,
         flags: Flags,
     },
-    /// Executes the logs at these paths as they come. `None` means one log, standard input. With
-    /// `each` every line is a batch, and `explain` is the flag `--explain`.
+    /// Executes the logs at these paths as they come. `None` means one log, standard input.
     Follow {
         plan: Plan,
         paths: Option<Vec<String>>,
-        each: bool,
-        explain: bool,
+        options: FollowOptions,
     },
     /// A text to print: the help or the version, or why the command line is refused. The program
     /// then exits with `status`.

@@ -10,8 +10,8 @@ use Rattle.epx_ranking.proofs.execution_order.order.Goals as goal
 pub returns-clause-order : goal.returns-clause-order
 returns-clause-order g c =
     let ranks = c.in_ok-ranks.ranks in
-    let sort = c.par_sort_unstable.ensures in
-    let sorted = c.par_sort_unstable.new.s in
+    let sort = c.sort.ensures in
+    let sorted = c.sort.new.items in
     let read = c.deref_mut.ensures.value in
     let written = with_items_is ranks sorted (sort.len ∙ (ap length read ∙ sym ranks.ok.0)) in
     IfOk-weaker c.new.result _ _ (λ found at done is.

@@ -10,6 +10,8 @@ returns c = (
     paths = c.in_ok-paths.ensures;
     each = c.has_flag.ensures;
     explain = c.has_flag-2.ensures;
+    state = c.in_ok-value_of.ensures;
+    save = c.in_ok-value_of-2.ensures;
   },
   c.requires.4 refl,
 )
