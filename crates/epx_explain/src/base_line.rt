@@ -1,4 +1,4 @@
-//! Explains which line of a base or a list is bad.
+//! Explains which line of a state, a base or a list is bad.
 use crate::contents::read_again;
 use crate::file_kind::explain_file_kind;
 use crate::inputs::{Input, Role};
@@ -17,10 +17,18 @@ const FIRST_LINE: &str = "a report begins with [\"executed\",E,\"waiting\",W,\"c
 const FURTHER_LINE: &str =
     "a further line of a report begins with \"done\", \"reply\", \"waiting\" or \"store\"";
 
+const FIRST_OF_STATE: &str =
+    "a state begins with [\"state\",\"runs\",R,\"waiting\",W,\"store\",S], and a report with \
+[\"executed\",E,\"waiting\",W,\"components\",C]";
+
+const LINE_OF_STATE: &str =
+    "after the first line of a state come R lines of runs, W instances that \
+wait for others, and S lines of the store, all rising: docs/FORMAT.md has the lines of a state";
+
 const OUT_OF_PLACE: &str = "it may not follow the lines before it, or a part of it is wrong: \
 docs/FORMAT.md has the lines of a base";
 
-/// What an input is in place of a base or of a list.
+/// What an input is in place of a state, a base or a list.
 fn explain_looks(role: Role, looks: Looks) -> Option<&'static str> {
     match (role, looks) {
         (Role::List, Looks::Log) => {
@@ -32,24 +40,47 @@ fn explain_looks(role: Role, looks: Looks) -> Option<&'static str> {
         (Role::Base, Looks::Log) => {
             Some("it looks like a log: BASE comes first, as in epx resume BASE LOG..")
         }
+        (Role::State, Looks::Log) => {
+            Some("it looks like a log: STATE is what --save saved, or a report")
+        }
         (Role::Base, Looks::List) => Some("it looks like a list: BASE must be a report"),
+        (Role::State, Looks::List) => {
+            Some("it looks like a list: STATE is what --save saved, or a report")
+        }
         _ => None,
     }
 }
 
-/// What is wrong with a line of a base. `is_known` says whether it begins as a line of a report.
-fn explain_place(number: usize, is_known: bool) -> &'static str {
-    match (number, is_known) {
-        (0 | 1, _) => FIRST_LINE,
-        (_, true) => OUT_OF_PLACE,
-        (_, false) => FURTHER_LINE,
+/// Whether an input is read as a state, and not as a report.
+fn is_state(role: Role, looks: Looks) -> bool {
+    match (role, looks) {
+        (Role::State, Looks::Report) => false,
+        (Role::State, _) => true,
+        _ => false,
     }
 }
 
-/// What is wrong with a line of a base.
-fn explain_form(alloc: Global, line: LogLine<'_>, number: usize) -> Result<String, Memory> {
+/// What is wrong with a line of a state or of a base. `is_known` says whether it begins as a line of
+/// a report.
+fn explain_place(is_state: bool, number: usize, is_known: bool) -> &'static str {
+    match (is_state, number, is_known) {
+        (true, 0 | 1, _) => FIRST_OF_STATE,
+        (true, _, _) => LINE_OF_STATE,
+        (false, 0 | 1, _) => FIRST_LINE,
+        (false, _, true) => OUT_OF_PLACE,
+        (false, _, false) => FURTHER_LINE,
+    }
+}
+
+/// What is wrong with a line of a state or of a base.
+fn explain_form(
+    alloc: Global,
+    is_state: bool,
+    line: LogLine<'_>,
+    number: usize,
+) -> Result<String, Memory> {
     if let Some(value) = read_json(alloc, line.bytes)? {
-        let text = explain_place(number, is_report_line(&value));
+        let text = explain_place(is_state, number, is_report_line(&value));
         return Ok(String::from_str(alloc, text)?);
     }
     if is_array_begun(line.bytes) {
@@ -57,11 +88,16 @@ fn explain_form(alloc: Global, line: LogLine<'_>, number: usize) -> Result<Strin
             return Ok(text);
         }
     }
-    Ok(String::from_str(alloc, explain_place(number, false))?)
+    Ok(String::from_str(alloc, explain_place(is_state, number, false))?)
 }
 
-/// Explains a line of a base.
-fn explain_report_line(alloc: Global, line: LogLine<'_>, number: usize) -> Result<String, Memory> {
+/// Explains a line of a state or of a base.
+fn explain_report_line(
+    alloc: Global,
+    is_state: bool,
+    line: LogLine<'_>,
+    number: usize,
+) -> Result<String, Memory> {
     if let Some(text) = explain_file_kind(alloc, line)? {
         return Ok(text);
     }
@@ -71,7 +107,7 @@ fn explain_report_line(alloc: Global, line: LogLine<'_>, number: usize) -> Resul
             "line {number} has {length} bytes, and at most {MAX_LINE_BYTES} are allowed"
         )?);
     }
-    let text = explain_form(alloc, line, number)?;
+    let text = explain_form(alloc, is_state, line, number)?;
     if is_blank_line(line.bytes) {
         return Ok(format!(in alloc; "line {number} is blank: {text}")?);
     }
@@ -79,14 +115,15 @@ fn explain_report_line(alloc: Global, line: LogLine<'_>, number: usize) -> Resul
     Ok(format!(in alloc; "line {number} is {shown}: {text}")?)
 }
 
-/// Explains a line of a base or a list.
+/// Explains a line of a state, a base or a list.
 fn explain_input_line(
     alloc: Global,
     role: Role,
     bytes: &[u8],
     number: usize,
 ) -> Result<String, Memory> {
-    if let Some(text) = explain_looks(role, looks_of(alloc, bytes)?) {
+    let looks = looks_of(alloc, bytes)?;
+    if let Some(text) = explain_looks(role, looks) {
         return Ok(String::from_str(alloc, text)?);
     }
     let Some(line) = line_at(bytes, number) else {
@@ -97,7 +134,7 @@ fn explain_input_line(
     };
     match role {
         Role::List => explain_list_line(alloc, line, number),
-        _ => explain_report_line(alloc, line, number),
+        _ => explain_report_line(alloc, is_state(role, looks), line, number),
     }
 }
 

@@ -6,6 +6,7 @@ use crate::differences::explain_differences;
 use crate::inputs::Inputs;
 use crate::log_line::explain_bad_line;
 use crate::reading::{explain_length, explain_log_count, explain_read};
+use crate::shown::show_text;
 use epx_types::limits::MAX_INSTANCES;
 use epx_types::{Fault, Memory};
 use std::alloc::Global;
@@ -16,6 +17,20 @@ epx resume over its report and the next part";
 
 const WRITE: &str =
     "standard output took no more: is the disk full, or has the reader closed the pipe?";
+
+/// Explains that the output failed, or that a state could not be saved.
+fn explain_write(alloc: Global, inputs: &Inputs<'_>) -> Result<String, Memory> {
+    match inputs.unsaved() {
+        Some(path) => {
+            let path = show_text(alloc, path)?;
+            Ok(format!(in alloc;
+                "the state could not be saved as {path}, where all is as it was: \
+is the disk full, may its folder not be written, or is this no plain file?"
+            )?)
+        }
+        None => Ok(String::from_str(alloc, WRITE)?),
+    }
+}
 
 /// Explains that the logs commit too many instances.
 fn explain_instance_count(alloc: Global) -> Result<String, Memory> {
@@ -51,7 +66,7 @@ pub fn explain_fault<R: Files>(
             explain_differences(rt, alloc, inputs, first, second)?
         }
         Fault::Read { log } => explain_read(rt, alloc, inputs.numbered(log))?,
-        Fault::Write => String::from_str(alloc, WRITE)?,
+        Fault::Write => explain_write(alloc, inputs)?,
         Fault::BadBase { line } => match inputs.first_input() {
             Some(input) => explain_base_line(rt, alloc, input, line)?,
             None => return Ok(None),

@@ -5,11 +5,13 @@ use epx_types::Memory;
 use std::alloc::Global;
 use std::fmt;
 
-/// What the first path of a command line names. It is read after the logs.
+/// What the first path of a command line names. In faults it has the number after the last log.
 #[derive(Clone, Copy, Debug)]
 pub(crate) enum FirstInput {
     /// A log, as all other paths.
     None,
+    /// The state, or the report, from which logs are followed.
+    State,
     /// The report from which a run resumes.
     Base,
     /// The list of executed instances.
@@ -20,6 +22,7 @@ pub(crate) enum FirstInput {
 #[derive(Clone, Copy)]
 pub(crate) enum Role {
     Log(usize),
+    State,
     Base,
     List,
 }
@@ -28,6 +31,7 @@ impl fmt::Display for Role {
     fn fmt<W: fmt::Write>(&self, f: &mut fmt::Formatter<W>) -> fmt::Result {
         match self {
             Role::Log(number) => write!(f, "log {number}"),
+            Role::State => write!(f, "STATE"),
             Role::Base => write!(f, "BASE"),
             Role::List => write!(f, "LIST"),
         }
@@ -75,6 +79,8 @@ pub struct Inputs<'a> {
     paths: Option<&'a [String]>,
     first: FirstInput,
     kept: &'a [Option<Vec<u8>>],
+    /// The path under which a state could not be saved.
+    unsaved: Option<&'a str>,
 }
 
 fn origin_at<'a>(paths: Option<&'a [String]>, index: usize) -> Origin<'a> {
@@ -85,6 +91,13 @@ fn origin_at<'a>(paths: Option<&'a [String]>, index: usize) -> Origin<'a> {
         Some(path) if path.as_str() == "-" => Origin::StandardInput,
         Some(path) => Origin::File(path.as_str()),
         None => Origin::Unnamed,
+    }
+}
+
+fn paths_of(paths: &Option<Vec<String>>) -> Option<&[String]> {
+    match paths {
+        Some(paths) => Some(paths.as_slice()),
+        None => None,
     }
 }
 
@@ -108,12 +121,37 @@ impl<'a> Inputs<'a> {
         paths: &'a Option<Vec<String>>,
         kept: &'a [Option<Vec<u8>>],
     ) -> Inputs<'a> {
-        let paths = match paths {
-            Some(paths) => Some(paths.as_slice()),
-            None => None,
+        Inputs {
+            paths: paths_of(paths),
+            first: first_of(task),
+            kept,
+            unsaved: None,
+        }
+    }
+
+    /// The inputs of following logs. With `has_state` the first path is that of the state. `unsaved`
+    /// is the path under which the state at the end could not be saved, if it could not.
+    pub fn of_follow(
+        paths: &'a Option<Vec<String>>,
+        has_state: bool,
+        unsaved: Option<&'a str>,
+    ) -> Inputs<'a> {
+        let first = if has_state {
+            FirstInput::State
+        } else {
+            FirstInput::None
         };
-        let first = first_of(task);
-        Inputs { paths, first, kept }
+        Inputs {
+            paths: paths_of(paths),
+            first,
+            kept: &[],
+            unsaved,
+        }
+    }
+
+    /// The path under which a state could not be saved.
+    pub(crate) fn unsaved(&self) -> Option<&'a str> {
+        self.unsaved
     }
 
     fn at(&self, role: Role, index: usize) -> Input<'a> {
@@ -137,10 +175,11 @@ impl<'a> Inputs<'a> {
         }
     }
 
-    /// BASE or LIST, if the command has one.
+    /// STATE, BASE or LIST, if the command has one.
     pub(crate) fn first_input(&self) -> Option<Input<'a>> {
         match self.first {
             FirstInput::None => None,
+            FirstInput::State => Some(self.at(Role::State, 0)),
             FirstInput::Base => Some(self.at(Role::Base, 0)),
             FirstInput::List => Some(self.at(Role::List, 0)),
         }
@@ -155,8 +194,8 @@ impl<'a> Inputs<'a> {
         self.at(Role::Log(log), index)
     }
 
-    /// The input with this number in a fault of reading: BASE and LIST have the number after the
-    /// last log.
+    /// The input with this number in a fault of reading: STATE, BASE and LIST have the number after
+    /// the last log.
     pub(crate) fn numbered(&self, number: usize) -> Input<'a> {
         match self.first_input() {
             Some(input) if number >= self.count_logs() => input,
