@@ -52,11 +52,11 @@ fn name_both(
     first: Place,
     second: Place,
 ) -> Result<String, Memory> {
-    let name = inputs.log(first.log).name(alloc)?;
+    let name = inputs.numbered(first.log).name(alloc)?;
     if first.log == second.log {
         return Ok(name);
     }
-    let other = inputs.log(second.log).name(alloc)?;
+    let other = inputs.numbered(second.log).name(alloc)?;
     Ok(format!(in alloc; "{name}, {other}")?)
 }
 
@@ -69,8 +69,8 @@ pub(crate) fn explain_differences<R: Files>(
     second: Place,
 ) -> Result<String, Memory> {
     let name = name_both(alloc, inputs, first, second)?;
-    let one = read_entry(rt, alloc, inputs.log(first.log), first.line)?;
-    let other = read_entry(rt, alloc, inputs.log(second.log), second.line)?;
+    let one = read_entry(rt, alloc, inputs.numbered(first.log), first.line)?;
+    let other = read_entry(rt, alloc, inputs.numbered(second.log), second.line)?;
     let (Some(one), Some(other)) = (one, other) else {
         return Ok(format!(in alloc;
             "{name}; the two lines cannot be compared again: \
