@@ -55,14 +55,14 @@ abbrev pub file_opener : {O R : Type 0} → OpenerModel O (ReaderState R)
 file_opener = record { opens = λ _ _ file. IsUnread file; refuses = λ _ _. ⊤ }
 
 -- a file has accepted exactly these bytes, and buffers none of them
-abbrev pub IsFilled : {W : Type 0} → WriterState W → List ℕ → Type 0
-IsFilled file bytes = (file.taken ≡ bytes) × (file.flushed ≡ true)
+abbrev pub HasAccepted : {W : Type 0} → WriterState W → List ℕ → Type 0
+HasAccepted file bytes = (file.taken ≡ bytes) × (file.flushed ≡ true)
 
 -- what saves files of the system: a file was filled with the bytes. No contract of the system says
 -- which file is at a path
 abbrev pub file_saver : {V : Type 0} → (W : Type 0) → SaverModel V
 file_saver W = record {
-  saves = λ _ path bytes _. (file : WriterState W) × IsFilled file bytes;
+  saves = λ _ path bytes _. (file : WriterState W) × HasAccepted file bytes;
   refuses = λ _ _ _ _. ⊤;
 }
 

@@ -1,6 +1,6 @@
 //! A saver of files of the system.
 ghost use Rattle.std.specs.Prelude.{OnOk};
-ghost use Rattle.epx_devices.specs.DeviceStates.{IsFilled, WriterState, file_saver};
+ghost use Rattle.epx_devices.specs.DeviceStates.{HasAccepted, WriterState, file_saver};
 
 use crate::device::DeviceFault;
 use crate::saver::Saver;
@@ -51,7 +51,7 @@ fn new_name<R: RandomSource + AllocGlobal>(system: &R, path: &str) -> Result<Str
 
 /// Fills a new file with the bytes, and waits until they are on the disk.
 fn fill_new<R: Files>(system: &R, name: &str, bytes: &[u8]) -> Result<(), DeviceFault>
-    ensures { OnOk result ((file : WriterState R.File) × IsFilled file bytes.now) }
+    ensures { OnOk result ((file : WriterState R.File) × HasAccepted file bytes.now) }
 {
     let Ok(file) = fs::File::create_new(system, name) else {
         return Err(DeviceFault);
@@ -68,7 +68,7 @@ fn fill_new<R: Files>(system: &R, name: &str, bytes: &[u8]) -> Result<(), Device
 
 /// Fills a new file with the bytes, and gives it the path.
 fn replace_by<R: Files>(system: &R, name: &str, path: &str, bytes: &[u8]) -> Result<(), DeviceFault>
-    ensures { OnOk result ((file : WriterState R.File) × IsFilled file bytes.now) }
+    ensures { OnOk result ((file : WriterState R.File) × HasAccepted file bytes.now) }
 {
     fill_new(system, name, bytes)?;
     match fs::rename(system, name, path) {
