@@ -60,8 +60,8 @@ fn is_state(role: Role, looks: Looks) -> bool {
     }
 }
 
-/// What is wrong with a line of a state or of a base. `is_known` says whether it begins as a line of
-/// a report.
+/// What is wrong with a line of a state or of a base. `is_known` says whether it begins as one of a
+/// report.
 fn explain_place(is_state: bool, number: usize, is_known: bool) -> &'static str {
     match (is_state, number, is_known) {
         (true, 0 | 1, _) => FIRST_OF_STATE,

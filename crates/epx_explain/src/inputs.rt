@@ -129,8 +129,8 @@ impl<'a> Inputs<'a> {
         }
     }
 
-    /// The inputs of following logs. With `has_state` the first path is that of the state. `unsaved`
-    /// is the path under which the state at the end could not be saved, if it could not.
+    /// The inputs of following logs. With `has_state` the first path is that of the state.
+    /// `unsaved` is the path under which the state at the end could not be saved.
     pub fn of_follow(
         paths: &'a Option<Vec<String>>,
         has_state: bool,

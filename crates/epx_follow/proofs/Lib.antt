@@ -17,3 +17,4 @@ mod FollowedLogLemmas
 mod AfterLemmas
 mod PlaceOrderLemmas
 mod SameFollowerLemmas
+mod CutLogLemmas

@@ -79,6 +79,22 @@ TakesLogs-push each v w u (l ∷ logs) log first rest h k = (
   ap (λ t. t ++ rest) h.5 ∙ append_assoc h.1 h.2 rest,
 )
 
+-- logs that are taken after others, where the first ones end
+pub TakesLogs-split : (each : Bool) (v w : FollowerView) (logs more : List (List ℕ))
+    (text : List ℕ) → TakesLogs each v (logs ++ more) w text
+    → (u : FollowerView) × (first : List ℕ) × (rest : List ℕ) × TakesLogs each v logs u first
+    × TakesLogs each u more w rest × (text ≡ first ++ rest)
+TakesLogs-split each v w [] more text h = (v, [], text, (refl, refl), h, refl)
+TakesLogs-split each v w (log ∷ logs) more text h =
+    let k = TakesLogs-split each (at_next_log h.0) w logs more h.2 h.4 in (
+      k.0,
+      h.1 ++ k.1,
+      k.2,
+      (h.0, h.1, k.1, h.3, k.3, refl),
+      k.4,
+      h.5 ∙ ap (λ t. h.1 ++ t) k.5 ∙ sym (append_assoc h.1 k.1 k.2),
+    )
+
 -- ---- where lines stop
 
 pub stops_at_later : (each : Bool) (v : FollowerView) (line : List ℕ) (fault : Fault)

@@ -24,7 +24,7 @@ use Rattle.epx_executor.specs.ExecutorLaws.{HoldTheSame, SameExecutorsCommitAlik
 use Rattle.epx_follow.specs.BatchEnds.{EndsBatch, batch_text, count_new}
 use Rattle.epx_follow.specs.FollowerLaws.{SameFollowersFollowAlike, executor_of}
 use Rattle.epx_follow.specs.Following.{FollowerView, at_next_log, instances_of, joined, passed}
-use Rattle.epx_follow.specs.InputEnds.{EndsInput, IsRest}
+use Rattle.epx_follow.specs.InputEnds.{EndsInput, IsFollowed, IsRest}
 use Rattle.epx_follow.specs.LinesTaken.{EndsIf, TakesAs}
 use Rattle.epx_follow.specs.LogsTaken.{TakesLines, TakesLogs}
 use Rattle.epx_follow.proofs.BatchEndLemmas.{batch_is_a_commit}
@@ -85,7 +85,7 @@ module _ (v w : FollowerView) (same : HoldTheSame (executor_of v) (executor_of w
 -- ---- followers that are alike
 
 -- their executors and their batches hold the same instances
-record AreAlike (v w : FollowerView) : Type 0 where
+pub record AreAlike (v w : FollowerView) : Type 0 where
   pub executors : HoldTheSame (executor_of v) (executor_of w)
   pub batch : instances_of v.batch ≡ instances_of w.batch
   pub is_open : v.is_open ≡ w.is_open
@@ -141,7 +141,7 @@ alike_joined v w e a = record {
 module _ (map_is_unique : CommittedMapIsUnique) (list_is_unique : WaitingListIsUnique)
     (commit_alike : SameExecutorsCommitAlike) where
   -- they write the same text, and are alike again
-  abbrev Follow : FollowerView → FollowerView → List ℕ → List ℕ → Type 0
+  abbrev pub Follow : FollowerView → FollowerView → List ℕ → List ℕ → Type 0
   Follow v w text other = (text ≡ other) × AreAlike v w
 
   batch_alike : (v w next last : FollowerView) (text other : List ℕ) → AreAlike v w
@@ -205,7 +205,7 @@ module _ (map_is_unique : CommittedMapIsUnique) (list_is_unique : WaitingListIsU
       let rest = alike_lines each lines h.0 k.0 next last h.2 k.2 first.1 h.4 k.4 in
       (h.5 ∙ ap₂ (λ (xs ys : List ℕ). xs ++ ys) first.0 rest.0 ∙ sym k.5, rest.1)
 
-  alike_logs : (each : Bool) (logs : List (List ℕ)) (v w next last : FollowerView)
+  pub alike_logs : (each : Bool) (logs : List (List ℕ)) (v w next last : FollowerView)
       (text other : List ℕ) → AreAlike v w → TakesLogs each v logs next text
       → TakesLogs each w logs last other → Follow next last text other
   alike_logs each [] v w next last text other a h k =
@@ -224,6 +224,17 @@ module _ (map_is_unique : CommittedMapIsUnique) (list_is_unique : WaitingListIsU
       let rest = same_rest next last ends.1.executors list_is_unique h.rest k.rest h.left k.left in
       (h.printed ∙ ap₂ (λ (xs ys : List ℕ). xs ++ ys) ends.0 rest ∙ sym k.printed, ends.1)
 
+  pub alike_followed : (each : Bool) (logs : List (List ℕ)) (v w last other : FollowerView)
+      (text same : List ℕ) → AreAlike v w → IsFollowed v each logs last text
+      → IsFollowed w each logs other same → Follow last other text same
+  alike_followed each logs v w last other text same a h k =
+      let taken = alike_logs each logs v w h.taken k.taken h.batches k.batches a h.lines
+      k.lines in
+      let ended = alike_input h.taken k.taken last other h.rest k.rest taken.1 h.ended k.ended in (
+        h.printed ∙ ap₂ (λ (xs ys : List ℕ). xs ++ ys) taken.0 ended.0 ∙ sym k.printed,
+        ended.1,
+      )
+
   -- ---- the law
 
   pub same_followers_follow_alike : SameFollowersFollowAlike
@@ -235,9 +246,5 @@ module _ (map_is_unique : CommittedMapIsUnique) (list_is_unique : WaitingListIsU
         left = λ p there. absurd (Contains-nil p
             (subst (λ (ls : List Placed). Contains ls p) closed.0 there));
       } in
-      let taken = alike_logs each logs v w h.taken k.taken h.batches k.batches alike h.lines
-      k.lines in
-      let ended = alike_input h.taken k.taken last other h.rest k.rest taken.1 h.ended k.ended in (
-        h.printed ∙ ap₂ (λ (xs ys : List ℕ). xs ++ ys) taken.0 ended.0 ∙ sym k.printed,
-        ended.1.executors,
-      )
+      let followed = alike_followed each logs v w last other text more alike h k in
+      (followed.0, followed.1.executors)

@@ -1,5 +1,5 @@
 -- Laws of followers.
-use Rattle.std.specs.Prelude.{◌≡◌, ℕ, Bool, List, [], ◌∷◌, ◌++◌, length, Contains, Ok}
+use Rattle.std.specs.Prelude.{◌≡◌, ℕ, Bool, false, List, [], ◌∷◌, ◌++◌, length, Contains, Ok}
 use Rattle.epx_types.specs.declared.id.Id.{Id}
 use Rattle.epx_types.specs.declared.reply.Reply.{Reply}
 use Rattle.epx_types.specs.Instances.{Instance}
@@ -62,3 +62,17 @@ SameFollowersFollowAlike = (v w : FollowerView) → IsClosed v → IsClosed w
     (each : Bool) (logs : List (List ℕ)) (last other : FollowerView) (text same : List ℕ)
     → IsFollowed v each logs last text → IsFollowed w each logs other same
     → (text ≡ same) × HoldTheSame (executor_of last) (executor_of other)
+
+-- Logs that are followed from a follower whose batch is empty can be cut where no batch is open. A
+-- follower whose executor holds the same then goes on as if there were no cut: the batches of the
+-- first logs, and then the text of the others, are the text of all, and the executors hold the same
+-- at the end
+abbrev pub CutStreamsGoOn : Type 0
+CutStreamsGoOn = (start : FollowerView) → start.batch ≡ [] →
+    (each : Bool) (first others : List (List ℕ)) (middle : FollowerView) (begun : List ℕ)
+    → (cut : IsFollowed start each first middle begun) → cut.taken.is_open ≡ false →
+    (next last : FollowerView) (text : List ℕ) → IsClosed next
+    → HoldTheSame (executor_of middle) (executor_of next)
+    → IsFollowed next each others last text →
+    (other : FollowerView) (whole : List ℕ) → IsFollowed start each (first ++ others) other whole
+    → (whole ≡ cut.batches ++ text) × HoldTheSame (executor_of last) (executor_of other)

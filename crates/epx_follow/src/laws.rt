@@ -1,6 +1,6 @@
 //! The laws of followers. Each contract is a law; the functions call the laws that theirs rest on.
-ghost use Rattle.epx_follow.specs.FollowerLaws.{BatchIsACommit, FollowedLogsAreCommits};
-ghost use Rattle.epx_follow.specs.FollowerLaws.{FollowerAfterHoldsTheSame};
+ghost use Rattle.epx_follow.specs.FollowerLaws.{BatchIsACommit, CutStreamsGoOn};
+ghost use Rattle.epx_follow.specs.FollowerLaws.{FollowedLogsAreCommits, FollowerAfterHoldsTheSame};
 ghost use Rattle.epx_follow.specs.FollowerLaws.{SameFollowersFollowAlike};
 ghost use Rattle.epx_follow.specs.PlaceOrderLaws.{LinesStayInOrder, FirstLinesAreEarliest};
 ghost use Rattle.epx_follow.specs.PlaceOrderLaws.{RefusedBatchIsARefusedMerge};
@@ -27,6 +27,16 @@ pub fn follower_after_holds_the_same()
 /// Followers whose executors hold the same follow logs alike.
 pub fn same_followers_follow_alike()
     ensures { SameFollowersFollowAlike }
+{
+    committed_map_is_unique();
+    waiting_list_is_unique();
+    same_executors_commit_alike();
+}
+
+/// Logs can be cut where no batch is open: a follower that holds the same goes on as if there were
+/// no cut.
+pub fn cut_streams_go_on()
+    ensures { CutStreamsGoOn }
 {
     committed_map_is_unique();
     waiting_list_is_unique();
