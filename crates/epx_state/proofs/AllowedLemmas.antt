@@ -7,13 +7,13 @@ use Rattle.epx_types.proofs.Common.{ids_of, is_sorted, key_cmp, length_push, nat
 use Rattle.epx_report.proofs.RisingListLemmas.{above_last_key}
 use Rattle.epx_executor.specs.Runs.{ids_in}
 use Rattle.epx_executor.specs.declared.done_runs.Run.{Run}
+use Rattle.epx_executor.proofs.RunLemmas.{from_ids_in}
 use Rattle.epx_state.specs.declared.forms.StateCounts.{StateCounts}
 use Rattle.epx_state.specs.StateForms.{StateParts, counts_of_line, entry_of_line, pair_of_line}
 use Rattle.epx_state.specs.StateForms.{run_of_line}
 use Rattle.epx_state.specs.States.{AreInOrder, FitCounts, SayState}
 use Rattle.epx_state.specs.inner.StateProgress.{StateProgress, past_lines, past_line, before_lines}
 use Rattle.epx_state.proofs.PartOrderLemmas.{Ends, above_last_entry, above_last_run}
-use Rattle.epx_state.proofs.RunIdLemmas.{from_ids_in}
 
 abbrev pub state : StateCounts → List Run → List Instance → List (List ℕ × ℤ) → StateProgress
 state c rs ws qs = record { counts = Some c; runs = rs; waiting = ws; stored = qs }

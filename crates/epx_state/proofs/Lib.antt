@@ -13,3 +13,4 @@ mod StateTextLemmas
 mod SectionLemmas
 mod BeginningLemmas
 mod ReadinessLemmas
+mod StartLemmas

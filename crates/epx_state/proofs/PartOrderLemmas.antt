@@ -4,8 +4,8 @@ use Rattle.std.proofs.Common.{option_map, slice_get, refl, sym, ap, ◌∙◌, s
 use Rattle.std.proofs.lemmas.Option.{slice_get-map}
 use Rattle.epx_types.proofs.Common.{AllPairs-head, AllPairs-tail, Below, Contains-cons}
 use Rattle.epx_types.proofs.Common.{Contains-cons_cases, Contains-head, Contains-nil, IsRising}
-use Rattle.epx_types.proofs.Common.{IsRising-push, All-contains, All-contains_itself, All-push}
-use Rattle.epx_types.proofs.Common.{All-weaker, all_pairs_push, below_trans, id_cmp, id_cmp_total}
+use Rattle.epx_types.proofs.Common.{IsRising-push, All-contains, All-contains_itself, All-weaker}
+use Rattle.epx_types.proofs.Common.{below_trans, id_cmp, id_cmp_total}
 use Rattle.epx_types.proofs.Common.{ids_of, Instance, length-map, map-append, nat_tests}
 use Rattle.epx_types.specs.declared.id.Id.{Id}
 use Rattle.epx_report.specs.inner.Progress.{is_after_last, last}
@@ -13,6 +13,7 @@ use Rattle.epx_report.proofs.IdSetLemmas.{above_each}
 use Rattle.epx_report.proofs.RisingListLemmas.{last-cons}
 use Rattle.epx_executor.specs.Runs.{AreRuns, IsFilledRun, end_of, start_of}
 use Rattle.epx_executor.specs.declared.done_runs.Run.{Run}
+use Rattle.epx_executor.proofs.RunLemmas.{AreRuns-push}
 
 -- ---- runs
 
@@ -55,15 +56,13 @@ each_run_ends (a ∷ b ∷ rs) r apart filled past x h =
           (rest b (Contains-head b rs)))
     ]
 
-pub AreRuns-push : (rs : List Run) (r : Run) → AreRuns rs → IsFilledRun r
+pub runs_rise : (rs : List Run) (r : Run) → AreRuns rs → IsFilledRun r
     → is_after_last id_cmp (option_map end_of (last rs)) (start_of r) ≡ true
     → AreRuns (rs ++ r ∷ [])
-AreRuns-push rs r are filled past = record {
-  filled = All-push IsFilledRun rs r are.filled filled;
-  apart = all_pairs_push Ends rs r are.apart
-      (All-weaker (Contains rs) (λ a. Ends a r) (each_run_ends rs r are.apart
-      (λ a h. All-contains IsFilledRun rs a are.filled h) past) rs (All-contains_itself rs));
-}
+runs_rise rs r are filled past =
+    AreRuns-push rs r are filled
+    (All-weaker (Contains rs) (λ a. Ends a r) (each_run_ends rs r are.apart
+    (λ a h. All-contains IsFilledRun rs a are.filled h) past) rs (All-contains_itself rs))
 
 -- ---- instances
 

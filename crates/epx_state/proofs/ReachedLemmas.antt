@@ -9,6 +9,7 @@ use Rattle.epx_report.proofs.BegunBaseLemmas.{allowed, both, sorted_push}
 use Rattle.epx_report.proofs.RisingListLemmas.{is_true}
 use Rattle.epx_executor.specs.Runs.{IsInRuns, ids_in}
 use Rattle.epx_executor.specs.declared.done_runs.Run.{Run}
+use Rattle.epx_executor.proofs.RunLemmas.{Contains-ids_in}
 use Rattle.epx_state.specs.declared.forms.StateCounts.{StateCounts}
 use Rattle.epx_state.specs.StateForms.{counts_of_line, entry_of_line, pair_of_line, run_of_line}
 use Rattle.epx_state.specs.States.{AreInOrder, FitCounts, BeginState, SayState}
@@ -16,8 +17,7 @@ use Rattle.epx_state.specs.inner.StateProgress.{StateProgress, past_lines, after
 use Rattle.epx_state.specs.inner.StateProgress.{after_pair, after_part, after_run, before_lines}
 use Rattle.epx_state.specs.inner.StateProgress.{past_with, parts_of}
 use Rattle.epx_state.proofs.FormLemmas.{and_then_some, map_some, run_is_filled}
-use Rattle.epx_state.proofs.PartOrderLemmas.{AreRuns-push, entries_rise}
-use Rattle.epx_state.proofs.RunIdLemmas.{Contains-ids_in}
+use Rattle.epx_state.proofs.PartOrderLemmas.{entries_rise, runs_rise}
 use Rattle.epx_state.proofs.SaidPartLemmas.{entry_said, first_said, pair_said, run_said}
 
 -- the state is that after the lines, of which the first one says the counts
@@ -62,7 +62,7 @@ module _ (ls : List (List ℕ)) (s : StateProgress) (h : IsAfter ls s) (l : List
         counts_are = h.counts_are;
         said = run_said ls h.counts (parts_of s) h.said l r e none.0 none.1;
         ordered = record {
-          runs = AreRuns-push s.runs r h.ordered.runs (run_is_filled l r e) past;
+          runs = runs_rise s.runs r h.ordered.runs (run_is_filled l r e) past;
           waiting = h.ordered.waiting;
           left = λ i k. absurd (Contains-nil i
               (subst (λ (es : List Instance). Contains es i) none.0 k));

@@ -10,8 +10,8 @@ use Rattle.epx_state.specs.declared.forms.StateCounts.{StateCounts}
 use Rattle.epx_state.specs.StateForms.{StateParts, state_counts}
 use Rattle.epx_state.specs.StateFaults.{StateEndsEarly}
 use Rattle.epx_state.specs.States.{FitCounts, BeginState, IsState, SayState}
-use Rattle.epx_state.specs.inner.StateProgress.{IsReadTo, StateProgress, past_lines, past_line, is_whole_state}
-use Rattle.epx_state.specs.inner.StateProgress.{before_lines, parts_of}
+use Rattle.epx_state.specs.inner.StateProgress.{IsReadTo, StateProgress, before_lines, parts_of}
+use Rattle.epx_state.specs.inner.StateProgress.{is_whole_state, past_line, past_lines}
 use Rattle.epx_state.proofs.AllowedLemmas.{said_is_allowed, state}
 use Rattle.epx_state.proofs.FormLemmas.{and_then_some}
 use Rattle.epx_state.proofs.ReachedLemmas.{IsAfter, IsReached, begin_if_reached, reached_all}

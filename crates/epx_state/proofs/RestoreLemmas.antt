@@ -1,6 +1,6 @@
 -- An executor that is made of the parts of a state holds them, or one of the instances was ready.
-use Rattle.std.proofs.Common.{◌≡◌, ◌↔◌, inl, inr, ℕ, ◌+◌, ◌<◌, Bool, true, false, not, List, []}
-use Rattle.std.proofs.Common.{◌∷◌, length, map, filter, All, Contains, slice_get, Some, refl, sym}
+use Rattle.std.proofs.Common.{◌≡◌, ◌↔◌, inl, inr, ℕ, ◌+◌, ◌<◌, Bool, false, List, []}
+use Rattle.std.proofs.Common.{◌∷◌, length, All, Contains, slice_get, Some, refl, sym}
 use Rattle.std.proofs.Common.{ap, ◌∙◌, subst, arith, option_map, T, IsTrue, ℤ, get_or}
 use Rattle.std.specs.FinMap as contents
 use Rattle.std.proofs.lemmas.Option.{slice_get-map}
@@ -10,7 +10,7 @@ use Rattle.epx_types.proofs.Common.{Contains-remaining_iff, Contains-slice_get, 
 use Rattle.epx_types.proofs.Common.{Instance, IsCommittedBy, IsCommittedBy-unique}
 use Rattle.epx_types.proofs.Common.{IsExecutionOrder-IsLawful, IsFirstDisagreement-not_Agree}
 use Rattle.epx_types.proofs.Common.{IsReady, IsRising, IsRising-same, Placed, commands_in, execute}
-use Rattle.epx_types.proofs.Common.{ids_of, is_among, is_among_cases, length-map, max_instances}
+use Rattle.epx_types.proofs.Common.{ids_of, length-map, max_instances}
 use Rattle.epx_types.proofs.Common.{not_among, ranked_ids, remaining, slice_get-from_map, is_sorted}
 use Rattle.epx_types.proofs.Common.{key_cmp, cases_lt, get_or_default, get_or_from_slice_get}
 use Rattle.epx_types.proofs.Common.{slice_get-get_or, slice_get_within}
@@ -33,7 +33,7 @@ use Rattle.epx_state.specs.StateForms.{StateParts}
 use Rattle.epx_state.specs.StateFaults.{IsReadyIn, IsStateFault}
 use Rattle.epx_state.specs.States.{AreInOrder, HoldsState, IsState}
 use Rattle.epx_state.specs.inner.Restoring.{IsFirstAmong, IsFirstReady, IsRestoreFault}
-use Rattle.epx_state.proofs.RunIdLemmas.{Contains-ids_in, from_ids_in}
+use Rattle.epx_state.proofs.RunIdLemmas.{remaining_in_runs}
 
 -- ---- the map that a first call commits
 
@@ -63,25 +63,23 @@ module _ (done : List Id) (came : List Instance) (rising : IsRising (ids_of came
       let same = named_ids_are_committed lines came h.0 came_is_committed h.1 in
       omega (arith, h.2, ap length same, length-map came (λ (e : Instance). e.id))
 
--- ---- tests
+-- if nothing comes, only memory can run out
+module _ (done : List Id) where
+  pub only_memory : (f : Fault) → IsMergeFault (call_lines done [] []) f → f ≡ Memory
+  only_memory Memory h = refl
+  only_memory TooManyInstances h =
+      absurd (omega (arith, too_many done [] tt (λ e n. absurd (Contains-nil e n)) h))
+  only_memory (Disagree id first second) h =
+      absurd (IsFirstDisagreement-not_Agree (call_lines done [] []) id h.1.0 h.1.1 h.1.2
+      (came_agree done [] tt (λ e n. absurd (Contains-nil e n))))
+  only_memory TooManyLogs h = absurd h
+  only_memory (LogTooLong log) h = absurd h
+  only_memory (BadLine place why) h = absurd h
+  only_memory (Read log) h = absurd h
+  only_memory Write h = absurd h
+  only_memory (BadBase line) h = absurd h
 
-among_true : (done : List Id) (x : Id) → Contains done x → is_among done x ≡ true
-among_true done x h = elim (is_among_cases done x)
-    [ inl found ↦ found.0 | inr none ↦ absurd (none.1 h) ]
-
-same_among : (a b : List Id) → ((x : Id) → Contains a x ↔ Contains b x) → (x : Id)
-    → is_among a x ≡ is_among b x
-same_among a b same x = elim (is_among_cases a x) [
-  | inl found ↦ found.0 ∙ sym (among_true b x ((same x).0 found.1))
-  | inr none ↦ none.0 ∙ sym (not_among b x (λ there. none.1 ((same x).1 there)))
-]
-
--- the same remains for done lists with the same Ids
-same_remaining : (a b : List Id) → ((x : Id) → Contains a x ↔ Contains b x) → (m : List Instance)
-    → remaining a m ≡ remaining b m
-same_remaining a b same m = λ i. map (λ (e : Instance). record e {
-  deps = filter (λ (x : Id). not (same_among a b same x i)) e.deps;
-}) (filter (λ (e : Instance). not (same_among a b same e.id i)) m)
+-- ---- lists of which nothing is done
 
 not_done-all : (done : List Id) (m : List Instance)
     → ((e : Instance) → Contains m e → ¬ Contains done e.id) → not_done done m ≡ m
@@ -101,12 +99,6 @@ module _ (p : StateParts) (ordered : AreInOrder p) (done : List Id)
     (same : (x : Id) → Contains done x ↔ IsInRuns p.runs x) where
   is_left : (e : Instance) → Contains p.waiting e → ¬ Contains done e.id
   is_left e h there = ordered.left e h ((same e.id).0 there)
-
-  as_in_runs : (x : Id) → Contains done x ↔ Contains (ids_in p.runs) x
-  as_in_runs x = (
-    λ h. Contains-ids_in p.runs x ((same x).0 h),
-    λ h. (same x).1 (from_ids_in p.runs x h),
-  )
 
   pub merge_fault_is_restore_fault : (f : Fault)
       → IsMergeFault (call_lines done [] p.waiting) f → IsRestoreFault p f
@@ -135,7 +127,7 @@ module _ (p : StateParts) (ordered : AreInOrder p) (done : List Id)
 
     same_map : remaining done commit.other ≡ remaining (ids_in p.runs) p.waiting
     same_map = ap (remaining done) other_is_waiting
-        ∙ same_remaining done (ids_in p.runs) as_in_runs p.waiting
+        ∙ remaining_in_runs done p.runs same p.waiting
 
     executed_is_ready : (x : Id) → Contains executed x
         → IsReady (remaining (ids_in p.runs) p.waiting) x

@@ -7,6 +7,7 @@ use Rattle.epx_executor.specs.Commits.{AllWait, ExecutorView}
 use Rattle.epx_executor.specs.ExecutorLaws.{HoldTheSame}
 use Rattle.epx_state.specs.StateFaults.{IsStateFault}
 use Rattle.epx_state.specs.StateForms.{StateParts}
+use Rattle.epx_state.specs.Starts.{GoesOnFrom}
 use Rattle.epx_state.specs.States.{HoldsState, IsState}
 
 -- bytes are a state in only one way
@@ -24,3 +25,8 @@ abbrev pub StateOfAnExecutorIsGood : Type 0
 StateOfAnExecutorIsGood = (bytes : List ℕ) (p : StateParts) (v : ExecutorView)
     → IsState bytes p → HoldsState p v → AllWait v → length v.pending ≤ max_instances →
     (fault : Fault) → IsStateFault bytes fault → fault ≡ Memory
+
+-- two executors that go on from the same bytes hold the same
+abbrev pub StartedHoldTheSame : Type 0
+StartedHoldTheSame = (bytes : List ℕ) (v w : ExecutorView) (line other : ℕ)
+    → GoesOnFrom bytes v line → GoesOnFrom bytes w other → HoldTheSame v w

@@ -1,6 +1,6 @@
 //! Laws of states. Each contract is a law.
 ghost use Rattle.epx_state.specs.StateLaws.{StateIsOne, RestoredHoldTheSame};
-ghost use Rattle.epx_state.specs.StateLaws.{StateOfAnExecutorIsGood};
+ghost use Rattle.epx_state.specs.StateLaws.{StartedHoldTheSame, StateOfAnExecutorIsGood};
 
 /// Bytes are a state in at most one way.
 pub fn state_is_one()
@@ -16,4 +16,9 @@ pub fn restored_hold_the_same()
 /// The state of an executor is refused only where memory runs out.
 pub fn state_of_an_executor_is_good()
     ensures { StateOfAnExecutorIsGood }
+{}
+
+/// Executors that go on from the same bytes, be they a state or a report, hold the same.
+pub fn started_hold_the_same()
+    ensures { StartedHoldTheSame }
 {}

@@ -7,7 +7,9 @@ pub mod laws;
 mod progress;
 mod read;
 mod restore;
+mod start;
 mod write;
 
 pub use read::read_state;
+pub use start::read_start;
 pub use write::state_text;

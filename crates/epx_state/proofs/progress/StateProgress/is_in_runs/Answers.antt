@@ -24,6 +24,6 @@ invariant_of-self-2 c = (
 
 pub returns-clause-found : goal.returns-clause-found
 returns-clause-found c =
-    among_ids_in _ _ _ _ c.in_ok-done.ensures c.contains-found.ensures
+    among_ids_in _ _ c.in_ok-done.ensures _ _ c.contains-found.ensures
     ∙ ap (λ (runs : List Run). is_among (ids_in runs) c.args.id)
     (c.deref.ensures.value ∙ ap (λ (s : StateProgress). s.runs) c.self.view_is)
