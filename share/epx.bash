@@ -26,7 +26,7 @@ _epx() {
         check) options=" --workers --cut --explain --exit-code --prefix --help " firsts=0 ;;
         why) options=" --workers --cut --explain --reaches --help " firsts=1 ;;
         trace) options=" --workers --cut --explain --reads --help " firsts=1 ;;
-        follow) options=" --workers --cut --explain --each --help " firsts=0 ;;
+        follow) options=" --workers --cut --explain --each --state --save --help " firsts=0 ;;
         *) _epx_offer ""; return ;;
     esac
     for word in "${COMP_WORDS[@]:2:COMP_CWORD-2}"; do
@@ -35,11 +35,12 @@ _epx() {
             [ "$word" = "=" ] || is_value=""
         elif [ -z "$is_ended" ] && [[ $word == -?* ]]; then
             options=${options/ "$word" / }
-            case $word in --) is_ended=1 ;; --workers | --cut | --reaches) is_value=1 ;; esac
+            case $word in --) is_ended=1 ;; --workers | --cut | --reaches | --state | --save) is_value=$word ;; esac
         else
             firsts=$((firsts - 1))
         fi
     done
+    case $is_value in --state | --save) return ;; esac
     if [ -n "$is_value" ]; then
         _epx_offer ""
     elif [ -z "$is_ended" ] && [[ $cursor == -* ]]; then

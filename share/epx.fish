@@ -12,8 +12,8 @@ function __epx_at_command
     test (count $words) -eq 1; or test (count $words) -eq 2 -a "$words[2]" = help
 end
 
-# Whether a path may be at the cursor: not where an option or its value is, and not before the names
-# that are no paths.
+# Whether a path may be at the cursor: not where an option or its value is, unless the value is a
+# path, and not before the names that are no paths.
 function __epx_at_path
     set -l words (commandline -opc)
     set -l firsts
@@ -35,14 +35,15 @@ function __epx_at_path
             switch $word
                 case --
                     set is_ended 1
-                case --workers --cut --reaches
-                    set is_value 1
+                case --workers --cut --reaches --state --save
+                    set is_value $word
             end
         else
             set firsts (math $firsts - 1)
         end
     end
     set -q is_ended[1]; or not string match -q -- '-*' (commandline -ct); or return 1
+    contains -- "$is_value" --state --save; and return 0
     not set -q is_value[1]; and test $firsts -le 0
 end
 
@@ -72,3 +73,5 @@ complete -c epx -n '__epx_in check; and not __fish_contains_opt prefix' -l prefi
 complete -c epx -n '__epx_in why; and not __fish_contains_opt reaches' -l reaches -x -d 'Prints a shortest path of dependencies to this instance instead'
 complete -c epx -n '__epx_in trace; and not __fish_contains_opt reads' -l reads -d 'Prints the commands that read the key, too'
 complete -c epx -n '__epx_in follow; and not __fish_contains_opt each' -l each -d 'Makes every line a batch'
+complete -c epx -n '__epx_in follow; and not __fish_contains_opt state' -l state -r -d 'Goes on from this state, or from an earlier report'
+complete -c epx -n '__epx_in follow; and not __fish_contains_opt save' -l save -r -d 'Saves the state at the end under this path'

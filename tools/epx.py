@@ -6,19 +6,29 @@
     report.store["alice"], report.replies[0].values
 
 A log is a path, or its bytes. `Fault` is raised where epx refuses the logs, and with
-`exit_code=True` `Finding` where an answer finds something. Nothing but the standard library is
-needed, and the program at `epx.PROGRAM`: where there is none, `FileNotFoundError` is raised.
-`python3 tools/epx.py` compares the answers with those of examples/.
+`exit_code=True` `Finding` where an answer finds something. A `Follower` keeps the program open, and
+hands in lines batch by batch:
+
+    with epx.Follower() as follower:
+        replies = follower.commit(lines)
+
+Nothing but the standard library is needed, and the program at `epx.PROGRAM`: where there is none,
+`FileNotFoundError` is raised. `python3 tools/epx.py` compares the answers with those of examples/,
+and in the repository tries followers as well.
 """
 
 import contextlib
 import dataclasses
 import functools
+import importlib
 import json
+import os
 import pathlib
+import re
 import subprocess
 import sys
 import tempfile
+import threading
 
 HERE = pathlib.Path(__file__).resolve().parent
 FINDS = 5  # the status of an answer that finds something, with `--exit-code`
@@ -39,12 +49,15 @@ PROGRAM = find_program()
 
 class Fault(Exception):
     """Why there is no answer: the line of standard error, the fault's number (None: the words
-    were refused), and the exit status."""
+    were refused), and the exit status.
 
-    def __init__(self, text, status):
+    Of a follower, `batch` has the lines that got no replies, and `index` is that of the line at
+    fault among them, or None."""
+
+    def __init__(self, text, status, batch=None, index=None):
         super().__init__(text)
         words = text.split()
-        self.status = status
+        self.status, self.batch, self.index = status, batch, index
         self.number = int(words[2][:-1]) if words[:2] == ["epx:", "fault"] else None
 
 
@@ -179,6 +192,129 @@ def trace(key, logs, workers=4, reads=False):
     return ask("trace", logs, workers, False, read_rows, options, key)
 
 
+class Follower:
+    """`epx follow`, kept open: each `commit` hands in lines as one batch.
+
+    It goes on from `state`, a path, its bytes or a `Report`. `close` saves a state at the path
+    `save`. A `with` block closes it, or kills it where an exception ends the block. Several threads
+    may commit, each call a batch of its own.
+
+    `came` says how many instances of the last batch did not wait before, and `waiting` how many
+    wait after it. After `close`, `waiting_list` has what waits, and `store` the store."""
+
+    def __init__(self, state=None, save=None, workers=4):
+        self.came = self.waiting = self._lines = 0
+        self.waiting_list = self.store = None
+        self._lock, self._is_open = threading.Lock(), True
+        words, pipe = [PROGRAM, "follow", "--workers", str(workers)], subprocess.PIPE
+        with contextlib.ExitStack() as stack:
+            # standard input has the lines, so `-` is a file of this name
+            if state is not None:
+                text = state.text if isinstance(state, Report) else state
+                words += ["--state", os.path.join(".", path_of(text, stack))]
+            if save is not None:
+                words += ["--save", os.path.join(".", save)]
+            # a pipe has room for the one line of a fault
+            self._process = subprocess.Popen([*words, "-"], stdin=pipe, stdout=pipe, stderr=pipe)
+            self.commit([])  # is answered once the state is read
+
+    def commit(self, lines):
+        """The replies of a batch, in the order of execution.
+
+        `lines` is a text, or texts, of one line or more, as `str` or `bytes`; a line may also be a
+        dict of its members. Blank lines are passed over. An instance that waits has its reply in
+        the batch that brings what it waits for. After a `Fault` the follower is closed."""
+        batch = lines_of(lines)
+        with self._turn():
+            with contextlib.suppress(BrokenPipeError):  # it has ended, and its fault says why
+                self._process.stdin.write(b"".join(line + b"\n" for line in [*batch, b""]))
+                self._process.stdin.flush()
+            _, self.came, _, executed, _, self.waiting = self._read_row(batch)
+            replies = [reply_of(*self._read_row(batch)[1:]) for _ in range(executed)]
+            self._lines += len(batch) + 1
+            return replies
+
+    async def commit_async(self, lines):
+        """As `commit`, in a thread of its own. A call that is cancelled is committed all the
+        same."""
+        import asyncio  # here, since it takes longer than all else that the module imports
+
+        return await asyncio.to_thread(self.commit, lines)
+
+    def close(self):
+        """Ends the input, waits until the state is saved, and keeps what waits and the store."""
+        if not self._is_open:
+            return
+        with self._turn():
+            self._process.stdin.close()
+            text = self._process.stdout.read()
+            if self._process.wait():
+                raise self._fault()
+            found = read_rows(text)
+            self.waiting_list = [waiting_of(*row[1:]) for row in found if row[0] == "waiting"]
+            self.store = {row[1]: row[2] for row in found if row[0] == "store"}
+            self._end()
+
+    def kill(self):
+        """Ends the program at once. No state is saved."""
+        self._process.kill()
+        with self._lock:
+            self._end()
+
+    def __enter__(self):
+        return self
+
+    def __exit__(self, kind, *_):
+        if kind is None:
+            self.close()
+        else:
+            self.kill()
+
+    @contextlib.contextmanager
+    def _turn(self):
+        """Lets one call at a time use the pipes. An exception ends the program, since what was
+        written and read by then is not known."""
+        with self._lock:
+            if not self._is_open:
+                raise ValueError("the follower is closed")
+            try:
+                yield
+            except BaseException:
+                self._end()
+                raise
+
+    def _read_row(self, batch):
+        """The next row that the program writes about a batch."""
+        line = self._process.stdout.readline()
+        if not line.endswith(b"\n"):
+            raise self._fault(batch)
+        return json.loads(line)
+
+    def _fault(self, batch=None):
+        """The fault with which the program ends. The last line that it names is the bad one."""
+        status, text = self._process.wait(), self._process.stderr.read().decode().strip()
+        lines = re.findall(r"log 0 line (\d+)", text)
+        index = int(lines[-1]) - 1 - self._lines if lines else None
+        return Fault(text or f"epx follow ended with status {status}", status, batch, index)
+
+    def _end(self):
+        """Ends the program, if it runs, and closes its pipes."""
+        self._is_open = False
+        self._process.kill()
+        self._process.wait()
+        for pipe in (self._process.stdin, self._process.stdout, self._process.stderr):
+            with contextlib.suppress(BrokenPipeError):
+                pipe.close()
+
+
+def lines_of(lines):
+    """The lines of a batch as bytes, without line feeds and blank ones."""
+    texts = [lines] if isinstance(lines, (str, bytes, dict)) else lines
+    texts = (json.dumps(text) if isinstance(text, dict) else text for text in texts)
+    texts = (text.encode() if isinstance(text, str) else text for text in texts)
+    return [line for text in texts for line in text.split(b"\n") if line.strip(b" \t\r")]
+
+
 def name_of(one):
     """An instance as words of the command line name it."""
     return f"{one.replica}.{one.number}"
@@ -218,6 +354,17 @@ def read_path(text):
     return None if row == ["none"] else [Id(*pair) for pair in row[1:]]
 
 
+def reply_of(replica, number, how, rest):
+    """The reply of a row."""
+    values, place = (tuple(rest), None) if how == "ok" else ((), rest)
+    return Reply(Id(replica, number), values, place)
+
+
+def waiting_of(replica, number, *missing):
+    """The instance that waits of a row."""
+    return Waiting(Id(replica, number), Id(*missing))
+
+
 def read_report(text):
     """A report from its text."""
     rows = [json.loads(line) for line in text.splitlines()]
@@ -226,10 +373,9 @@ def read_report(text):
         if kind == "done":
             found.done.append(Id(*row))
         elif kind == "reply":
-            values, place = (tuple(row[3]), None) if row[2] == "ok" else ((), row[3])
-            found.replies.append(Reply(Id(*row[:2]), values, place))
+            found.replies.append(reply_of(*row))
         elif kind == "waiting":
-            found.waiting.append(Waiting(Id(*row[:2]), Id(*row[2:])))
+            found.waiting.append(waiting_of(*row))
         else:
             found.store[row[0]] = row[1]
     return found
@@ -314,6 +460,26 @@ def test_findings(examples, logs):
     assert (fault.number, fault.status) == (4, 1)
 
 
+def test_follower(examples):
+    """Follows the batches of an example, at once and from a saved state."""
+    first, second = (examples / "arriving.jsonl").read_text().split("\n\n")
+    replies = [Reply(Id(1, 0), ()), Reply(Id(0, 1), (7,))]
+    with tempfile.TemporaryDirectory() as folder:
+        state = os.path.join(folder, "state")
+        with Follower(save=state) as one:
+            assert one.commit(first) == [Reply(Id(0, 0), ())]
+            assert (one.came, one.waiting) == (2, 1)
+        assert one.waiting_list == [Waiting(Id(0, 1), Id(1, 0))] and one.store == {"k": 5}
+        with Follower(state=state) as other:
+            assert (other.came, other.waiting) == (0, 1)
+            assert other.commit(first) == [] and other.commit(second.split("\n")) == replies
+        assert other.waiting_list == [Waiting(Id(2, 1), Id(2, 0))] and other.store == {"k": 7}
+    with Follower(state=report([first.encode()])) as other:
+        assert other.commit(first + "\n" + second) == replies and other.waiting == 1
+    whole = report([examples / "arriving.jsonl"])
+    assert (other.waiting_list, other.store) == (whole.waiting, whole.store)
+
+
 def test():
     """Compares answers with the examples of the repository."""
     examples = HERE.parent / "examples"
@@ -323,7 +489,10 @@ def test():
     logs = sorted(examples.glob("replicas/*.jsonl"))
     test_answers(examples, logs)
     test_findings(examples, logs)
+    test_follower(examples)
     print("the answers are those of examples/, and the findings as well")
+    if (HERE / "follower_test.py").is_file():
+        importlib.import_module("follower_test").test()
     return 0
 
 

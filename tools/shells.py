@@ -37,11 +37,12 @@ _epx() {
             [ "$word" = "=" ] || is_value=""
         elif [ -z "$is_ended" ] && [[ $word == -?* ]]; then
             options=${options/ "$word" / }
-            case $word in --) is_ended=1 ;; %(valued)s) is_value=1 ;; esac
+            case $word in --) is_ended=1 ;; %(valued)s) is_value=$word ;; esac
         else
             firsts=$((firsts - 1))
         fi
     done
+    case $is_value in %(paths)s) return ;; esac
     if [ -n "$is_value" ]; then
         _epx_offer ""
     elif [ -z "$is_ended" ] && [[ $cursor == -* ]]; then
@@ -116,8 +117,8 @@ function __epx_at_command
     test (count $words) -eq 1; or test (count $words) -eq 2 -a "$words[2]" = help
 end
 
-# Whether a path may be at the cursor: not where an option or its value is, and not before the names
-# that are no paths.
+# Whether a path may be at the cursor: not where an option or its value is, unless the value is a
+# path, and not before the names that are no paths.
 function __epx_at_path
     set -l words (commandline -opc)
     set -l firsts
@@ -137,13 +138,14 @@ function __epx_at_path
                 case --
                     set is_ended 1
                 case %(valued)s
-                    set is_value 1
+                    set is_value $word
             end
         else
             set firsts (math $firsts - 1)
         end
     end
     set -q is_ended[1]; or not string match -q -- '-*' (commandline -ct); or return 1
+    contains -- "$is_value" %(paths)s; and return 0
     not set -q is_value[1]; and test $firsts -le 0
 end
 
@@ -183,6 +185,17 @@ def valued():
     return list(dict.fromkeys(found))
 
 
+def takes_path(option):
+    """Whether the value of an option is a path."""
+    return (option.value or "").strip("<>") in PATHS
+
+
+def path_options():
+    """The options whose value is a path."""
+    found = [option for command in subcommands() for option in command.options]
+    return list(dict.fromkeys(option.name for option in found if takes_path(option)))
+
+
 def with_paths():
     """The subcommands that have a path."""
     return [command for command in subcommands() if firsts_of(command) is not None]
@@ -201,13 +214,17 @@ def bash():
         "top": " ".join(option.name for option in top_options()),
         "cases": "\n".join(cases),
         "valued": " | ".join(valued()),
+        "paths": " | ".join(path_options()),
     }
 
 
 def zsh_option(option):
-    """An option as `_arguments` of zsh takes it, with a message in the place of its value."""
+    """An option as `_arguments` of zsh takes it, with a message in the place of its value, or with
+    files."""
     about = option.about.replace("[", "\\[").replace("]", "\\]")
-    value = f"=[{about}]:{about.replace(':', chr(92) + ':')}: " if option.value else f"[{about}]"
+    action = "_files" if takes_path(option) else " "
+    message = about.replace(":", "\\:")
+    value = f"=[{about}]:{message}:{action}" if option.value else f"[{about}]"
     return quoted(option.name + value)
 
 
@@ -244,7 +261,9 @@ def zsh():
 
 def fish_option(option, where):
     """The line of an option, which is offered once a command line."""
-    words = [f"-l {option.name[2:]}", "-x" if option.value else ""]
+    # files are offered where a path may be
+    value = "-r" if takes_path(option) else "-x"
+    words = [f"-l {option.name[2:]}", value if option.value else ""]
     condition = f"'{where}; and not __fish_contains_opt {option.name[2:]}'"
     words = ["complete -c epx -n", condition, *filter(None, words), "-d", fish_quoted(option.about)]
     return " ".join(words)
@@ -272,5 +291,6 @@ def fish():
     return FISH % {
         "firsts": "\n".join(firsts),
         "valued": " ".join(valued()),
+        "paths": " ".join(path_options()),
         "rows": "\n".join(rows + fish_options()),
     }

@@ -2,7 +2,7 @@
 //! input.
 #![tactic(auto)]
 
-use epx_devices::{StdSink, StdSource};
+use epx_devices::{FileSaver, StdSink, StdSource};
 use epx_program::{InputKind, start};
 use std::io::IsTerminal;
 use std::process::ExitCode;
@@ -24,9 +24,11 @@ fn main(rt: HostRuntime) -> ExitCode {
     let kind = kind_of_input(&rt);
     let mut output = StdSink::new(rt.stdout());
     let words = env::args(&rt);
+    let mut saver = FileSaver::new(&rt);
     let status = start(
         &rt,
         &rt,
+        &mut saver,
         words,
         kind,
         StdSource::new(rt.stdin()),

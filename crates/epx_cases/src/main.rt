@@ -1,6 +1,9 @@
 //! Runs the cases of the scripts that its words name, and then `epx` with several lists of words.
-//! It prints what `epx` writes to standard output and to standard error, and its exit status.
+//! It prints what `epx` writes to standard output and to standard error, its exit status, and the
+//! states that it saves.
 #![tactic(auto)]
+
+ghost use Rattle.std.specs.Prelude.{◌≡◌, false};
 
 mod asked_task;
 mod case;
@@ -19,43 +22,97 @@ mod words;
 use crate::script::run_scripts;
 use crate::test_runtime::TestRuntime;
 use crate::word_lists::{calls_of, lists_with_input, words_of};
-use epx_devices::{StdSink, StdSource};
+use epx_devices::{MemorySaver, Sink, Source, StdSink, StdSource};
 use epx_program::{InputKind, start};
-use std::io::{self, ErrorKind};
+use std::alloc::{Alloc, AllocGlobal};
+use std::io::{self, ErrorKind, Print};
 use std::process::ExitCode;
+use std::random::RandomSource;
+use std::rt::Files;
+use std::thread::Threads;
 use std::{env, fs};
 
 /// The log that `epx` has as its input.
 const INPUT: &str =
     "{\"r\":9,\"i\":0,\"seq\":1,\"deps\":[],\"ops\":[[\"put\",\"a\",5],[\"get\",\"a\"]]}\n";
 
+/// A call has room for so many bytes of a state, where nothing else is said.
+const ROOM: usize = 1 << 20;
+
+/// Prints the status of a call, and what it saved.
+fn print_end<R: Alloc + Print>(rt: &R, status: ExitCode, saver: &MemorySaver) -> io::Result<()> {
+    println!(rt; "== {status:?}")?;
+    for (path, bytes) in saver.files() {
+        let text = String::from_utf8_lossy(rt.alloc(), bytes)?;
+        println!(rt; "== saved as {path}\n{text}")?;
+    }
+    Ok(())
+}
+
+/// Calls `epx` with these words over an input and an output, where a state has room for so many
+/// bytes.
+fn call<R, I, W>(
+    rt: &R,
+    words: &[&str],
+    kind: InputKind,
+    room: usize,
+    input: I,
+    output: &mut W,
+) -> io::Result<()>
+where
+    R: AllocGlobal + Files + Print + Threads + RandomSource + Sync,
+    I: Source + Drop,
+    W: Sink,
+    requires input { I.model.has_failed input ≡ false }
+    requires output { W.model.has_failed output.old ≡ false }
+{
+    println!(rt; "== {words:?}")?;
+    let host = TestRuntime { rt, words };
+    let args = env::args(&host);
+    let mut saver = MemorySaver::new(rt.alloc(), room);
+    let status = start(&host, &host, &mut saver, args, kind, input, output);
+    print_end(rt, status, &saver)
+}
+
 fn main(rt: HostRuntime) -> io::Result<ExitCode> {
     if run_scripts(&rt)? {
         return Ok(ExitCode::SUCCESS);
     }
 
+    let kind = InputKind::Other;
     let calls = calls_of(rt.alloc(), fs::read_to_string(&rt, "calls.txt")?.as_str())?;
-    for call in calls.as_str().lines() {
-        let words = &words_of(rt.alloc(), call)?;
-        println!(rt; "== {words:?}")?;
-        let host = TestRuntime { rt: &rt, words };
-        let args = env::args(&host);
+    for line in calls.as_str().lines() {
+        let words = words_of(rt.alloc(), line)?;
         let input = StdSource::new(rt.stdin());
-        let mut output = StdSink::new(rt.stdout());
-        let status = start(&host, &host, args, InputKind::Other, input, &mut output);
-        println!(rt; "== {status:?}")?;
+        call(
+            &rt,
+            &words,
+            kind,
+            ROOM,
+            input,
+            &mut StdSink::new(rt.stdout()),
+        )?;
     }
 
     println!(rt; "== with a log as input")?;
     for (words, kind) in lists_with_input() {
-        println!(rt; "== {kind:?}\n== {words:?}")?;
-        let host = TestRuntime { rt: &rt, words };
-        let args = env::args(&host);
+        println!(rt; "== {kind:?}")?;
         let input = StdSource::new(INPUT.as_bytes());
-        let mut output = StdSink::new(rt.stdout());
-        let status = start(&host, &host, args, kind, input, &mut output);
-        println!(rt; "== {status:?}")?;
+        call(
+            &rt,
+            words,
+            kind,
+            ROOM,
+            input,
+            &mut StdSink::new(rt.stdout()),
+        )?;
     }
+
+    println!(rt; "== room for ten bytes of a state")?;
+    let line = "epx follow --explain --save full.state follow/begun.jsonl";
+    let words = words_of(rt.alloc(), line)?;
+    let input = StdSource::new(rt.stdin());
+    call(&rt, &words, kind, 10, input, &mut StdSink::new(rt.stdout()))?;
 
     println!(rt; "== words that could not be had as memory ran out")?;
     let words: &[&str] = &["epx", "run", "--explain"];
@@ -63,7 +120,8 @@ fn main(rt: HostRuntime) -> io::Result<ExitCode> {
     let failed = Err(io::Error::from(ErrorKind::OutOfMemory));
     let input = StdSource::new(rt.stdin());
     let mut output = StdSink::new(rt.stdout());
-    let status = start(&host, &host, failed, InputKind::Other, input, &mut output);
+    let mut saver = MemorySaver::new(rt.alloc(), ROOM);
+    let status = start(&host, &host, &mut saver, failed, kind, input, &mut output);
     println!(rt; "== {status:?}")?;
 
     println!(rt; "== room for ten bytes of output\n== {words:?}")?;
@@ -71,7 +129,7 @@ fn main(rt: HostRuntime) -> io::Result<ExitCode> {
     let input = StdSource::new(rt.stdin());
     let mut room = [0; 10];
     let mut output = StdSink::new(room.as_mut_slice());
-    let status = start(&host, &host, args, InputKind::Other, input, &mut output);
+    let status = start(&host, &host, &mut saver, args, kind, input, &mut output);
     println!(rt; "== {status:?}\n== taken: {room:?}")?;
     Ok(status)
 }

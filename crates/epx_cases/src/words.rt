@@ -26,13 +26,6 @@ fn work_text<T: Debug + Drop>(
     Ok(text)
 }
 
-/// That logs are followed, and how.
-#[derive(Clone, Copy, Debug)]
-struct Follow {
-    each: bool,
-    explain: bool,
-}
-
 /// What the flags ask for.
 fn flags_text(flags: Flags) -> &'static str {
     match (flags.exit_code, flags.explain) {
@@ -60,9 +53,8 @@ fn text_of(alloc: Global, words: Words) -> io::Result<String> {
         Words::Follow {
             plan,
             paths,
-            each,
-            explain,
-        } => work_text(alloc, Follow { each, explain }, plan, "", paths),
+            options,
+        } => work_text(alloc, options, plan, "", paths),
     }
 }
 

@@ -51,7 +51,7 @@ text_ends : (kinds : Kinds) (given : Given) (wanted : Words)
     → IfText (IsTextStatus kinds given) wanted → IfText IsTextEnd wanted
 text_ends kinds given (asked.Work task plan paths) is = tt
 text_ends kinds given (asked.WorkWith task plan paths flags) is = tt
-text_ends kinds given (asked.Follow plan paths each explain) is = tt
+text_ends kinds given (asked.Follow plan paths options) is = tt
 text_ends kinds given (asked.Text text status) is = status_ends kinds given status is
 
 -- words that name no subcommand ask for no text

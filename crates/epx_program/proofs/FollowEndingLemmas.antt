@@ -1,74 +1,109 @@
--- How following the logs at paths ends.
-use Rattle.std.proofs.Common.{◌≡◌, ◌⊎◌, ◌∙◌, inl, inr, ℕ, Bool, List, Option, Some, Result, Ok, Err}
-use Rattle.std.proofs.Common.{IsErrOf, subst, sym, true}
-use Rattle.epx_types.proofs.Common.{Appends, IfErr, Keeps, fault_status}
+-- How following logs at paths ends.
+use Rattle.std.proofs.Common.{◌≡◌, ◌∙◌, ◌∷◌, [], inl, inr, ℕ, List, length, Option}
+use Rattle.std.proofs.Common.{suc, Some, None, Result, Ok, Err, IsErrOf, subst, subst₂, sym, ap}
+use Rattle.epx_types.proofs.Common.{Keeps, MatchResult}
 use Rattle.epx_types.specs.declared.fault.Fault.{Fault}
-use Rattle.epx_types.specs.declared.fault.Fault.TheVariants.{Memory, Write}
 use Rattle.epx_devices.specs.Models.{OpenerModel, SourceModel}
-use Rattle.epx_merge.specs.DeliveredLogs.{EachDelivers}
-use Rattle.epx_follow.specs.Following.{FollowerView, new_follower}
-use Rattle.epx_follow.specs.FollowingStops.{StopsFollowing}
-use Rattle.epx_follow.specs.InputEnds.{IsFollowed}
-use Rattle.epx_program.specs.FollowEndings.{EndsFollow}
-use Rattle.epx_program.specs.Inputs.{StopsAtPaths, TextRelation, paths_read}
-use Rattle.epx_program.specs.SourcesAt.{AreSourcesAt, SourceAt, model_at}
-use Rattle.epx_program.proofs.StatusLemmas.{no_fault_ends_well}
+use Rattle.epx_follow.specs.Following.{FollowerView}
+use Rattle.epx_words.specs.declared.words.FollowOptions.{FollowOptions}
+use Rattle.epx_program.specs.FollowEndings.{Begins, FollowsToEnds}
+use Rattle.epx_program.specs.FollowEndings.{state_of}
+use Rattle.epx_program.specs.FollowStops.{StartsAfter, StopsAtPaths, StopsFrom, state_number}
+use Rattle.epx_program.specs.Inputs.{TextRelation, text_relation}
+use Rattle.epx_program.specs.PathsRead.{paths_read}
+use Rattle.epx_program.specs.SourcesAt.{AreSourcesAt, SourceAt}
+use Rattle.epx_program.specs.inner.Follows.{FollowsFrom, RefusesStart, StartsAt}
+use Rattle.epx_program.proofs.TextsReadLemmas.{texts_after, texts_at}
 
-module _ (each : Bool) (old new : Option (List ℕ)) where
-  -- the text of following logs that are read in one sense is appended
-  abbrev AppendsFollowed : (List (List ℕ) → Type 0) → Type 0
-  AppendsFollowed AreRead = (logs : List (List ℕ)) × (last : FollowerView) × (text : List ℕ)
-      × AreRead logs × IsFollowed new_follower each logs last text × Appends old new text
+-- there is one source for each path
+as_many_sources : {O F I : Type 0} (opener : O) (input left : Option I) (paths : List (List ℕ))
+    (sources : List (SourceAt O F I)) → AreSourcesAt opener input left paths sources
+    → length sources ≡ length paths
+as_many_sources opener input left [] sources are = ap length are.0
+as_many_sources opener input left (path ∷ paths) [] are = absurd are
+as_many_sources opener input left (path ∷ paths) (source ∷ sources) are =
+    ap suc (as_many_sources opener are.0 left paths sources are.2)
 
-  pub followed_read : {S : Type 0} (D : SourceModel S) (sources after : List S)
-      {Are : List (List ℕ) → Type 0}
-      → ((logs : List (List ℕ)) → EachDelivers D sources after logs → Are logs)
-      → (start : FollowerView) → start ≡ new_follower →
-      (last : FollowerView) → ((logs : List (List ℕ)) × (text : List ℕ)
-      × EachDelivers D sources after logs × IsFollowed start each logs last text
-      × Appends old new text) → AppendsFollowed Are
-  followed_read D sources after these start begins last h = (
-    h.0,
-    last,
-    h.1,
-    these h.0 h.2,
-    subst (λ (v : FollowerView). IsFollowed v each h.0 last h.1) begins h.3,
-    h.4,
-  )
+module _ {O F I : Type 0} (opening : OpenerModel O F) (D : SourceModel F) (opener : O)
+    (E : SourceModel I) (input : I) (options : FollowOptions) (paths : Option (List (List ℕ)))
+    (old new : Option (List ℕ)) where
+  abbrev texts : TextRelation
+  texts = text_relation opening D opener E input
 
-  -- why following stops
-  abbrev StopsBy : (Fault → Type 0) → Fault → Type 0
-  StopsBy Stops fault = ((fault ≡ Memory) × Keeps old new) ⊎ Stops fault
+  abbrev starts_at : Option (List ℕ) → Option I → FollowerView → Type 0
+  starts_at state left start =
+      StartsAt opening D opener E state (state_number paths) (Some input) left start
 
-  pub stopped_at_paths : {O F I : Type 0} (opening : OpenerModel O F) (D : SourceModel F)
-      (opener : O) (E : SourceModel I) (input : I) (left : Option I)
-      (paths : Option (List (List ℕ))) (sources after : List (SourceAt O F I))
-      → AreSourcesAt opener (Some input) left (paths_read paths) sources
-      → (start : FollowerView) → start ≡ new_follower → (fault : Fault)
-      → StopsFollowing (model_at opening D E) start each sources after fault old new
-      → (done : Result (Unit {0}) Fault) → IsErrOf done fault
-      → IfErr done (StopsBy (λ f. StopsAtPaths opening D opener E input each paths f old new))
-  stopped_at_paths opening D opener E input left paths sources after at start begins fault h (Ok u)
-      is = tt
-  stopped_at_paths opening D opener E input left paths sources after at start begins fault h
-      (Err other) is =
-      let same : other ≡ fault = cc is in
-      let stops : StopsAtPaths opening D opener E input each paths fault old new = record {
-        left = left;
-        sources = sources;
-        after = after;
-        at = at;
-        stopped = subst (λ (v : FollowerView).
-            StopsFollowing (model_at opening D E) v each sources after fault old new) begins h;
-      } in
-      subst (StopsBy (λ f. StopsAtPaths opening D opener E input each paths f old new)) (sym same)
-      (inr stops)
-
-  pub ends_stopped : (Is : TextRelation) (paths : Option (List (List ℕ))) (fault : Fault)
-      (status : ℕ) (failed : Bool) → status ≡ fault_status fault
-      → (fault ≡ Write → failed ≡ true) → StopsBy (λ f. Is.Stops each paths f old new) fault
-      → EndsFollow Is each paths status failed old new
-  ends_stopped Is paths fault status failed is output h = record {
-    followed = λ none. absurd (no_fault_ends_well fault (inl (sym is ∙ none)));
-    stopped = λ other. (fault, is, output, h);
+  pub follows_to_ends : (left : Option I) (start last : FollowerView)
+      → starts_at (state_of options) left start
+      → FollowsFrom opening D opener E start left options.each paths last old new
+      → FollowsToEnds texts options paths last old new
+  follows_to_ends left start last starts h = record {
+    logs = h.logs;
+    start = start;
+    text = h.text;
+    begins = go (state_of options) starts;
+    followed = h.followed;
+    appended = h.appended;
   }
+    where
+      number : state_number paths ≡ length h.logs
+      number = sym (as_many_sources opener left h.left (paths_read paths) h.sources h.at)
+          ∙ sym h.delivered.as_many
+
+      go : (state : Option (List ℕ)) → starts_at state left start
+          → Begins texts state paths h.logs start
+      go None begins = (
+        texts_at opening D opener E input h.left (paths_read paths) h.sources h.after
+            (subst (λ i. AreSourcesAt opener i h.left (paths_read paths) h.sources) begins.0 h.at)
+            h.logs h.delivered,
+        begins.1,
+      )
+      go (Some state) begins =
+          let read = begins.1 in (
+            begins.0,
+            texts_after opening D opener E input left h.left state read.source read.last begins.0
+                read.at read.delivered (paths_read paths) h.sources h.after h.at h.logs h.delivered,
+            subst (λ n. StartsAfter begins.0 n start) number begins.2,
+          )
+
+  abbrev stops_at : Option (List ℕ) → Fault → Type 0
+  stops_at state fault =
+      StopsAtPaths opening D opener E input state options.each paths fault old new
+
+  pub stops_at_paths : (left : Option I) (start : FollowerView) (fault : Fault)
+      → starts_at (state_of options) left start
+      → StopsFrom opening D opener E start left options.each paths fault old new
+      → stops_at (state_of options) fault
+  stops_at_paths left start fault starts h = go (state_of options) starts
+    where
+      go : (state : Option (List ℕ)) → starts_at state left start → stops_at state fault
+      go None begins = subst₂
+          (λ v i. StopsFrom opening D opener E v i options.each paths fault old new)
+          begins.1 begins.0 h
+      go (Some state) begins = inr (left, begins.0, start, begins.1, begins.2, h)
+
+  pub refused_at_paths : (fault : Fault)
+      → RefusesStart opening D opener E (state_of options) (state_number paths) (Some input) fault
+      → Keeps old new → stops_at (state_of options) fault
+  refused_at_paths fault refused kept = go (state_of options) refused
+    where
+      go : (state : Option (List ℕ))
+          → RefusesStart opening D opener E state (state_number paths) (Some input) fault
+          → stops_at state fault
+      go None bad = absurd bad
+      go (Some state) bad = inl (bad, kept)
+
+-- a call that ends with this fault
+pub ends_with : {T : Type 0} (P : T → Type 0) (Q : Fault → Type 0) (done : Result T Fault)
+    (fault : Fault) → IsErrOf done fault → Q fault → MatchResult done P Q
+ends_with P Q (Ok x) fault is why = absurd (cc is)
+ends_with P Q (Err other) fault is why =
+    let same : other ≡ fault = cc is in subst Q (sym same) why
+
+-- a call that ends as another one, of which more is known
+pub ends_as : {T : Type 0} {P P2 : T → Type 0} {Q Q2 : Fault → Type 0} (done : Result T Fault)
+    → ((x : T) → P x → P2 x) → ((fault : Fault) → Q fault → Q2 fault)
+    → MatchResult done P Q → MatchResult done P2 Q2
+ends_as (Ok x) well ill h = well x h
+ends_as (Err fault) well ill h = ill fault h

@@ -4,6 +4,7 @@ mod WordLemmas
 mod SourceListLemmas
 mod TextsReadLemmas
 mod StatusLemmas
+mod StartLemmas
 mod FollowEndingLemmas
 mod FailedInputLemmas
 mod OutcomeLemmas

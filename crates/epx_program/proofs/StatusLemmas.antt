@@ -9,6 +9,7 @@ use Rattle.epx_types.specs.declared.fault.Fault.TheVariants.{TooManyInstances, D
 use Rattle.epx_types.specs.declared.fault.Fault.TheVariants.{BadBase, Memory, Write}
 use Rattle.epx_words.specs.Requests.{IfFollow, IfText, IfWork, flags_of}
 use Rattle.epx_names.specs.declared.task.Task.{Task}
+use Rattle.epx_words.specs.declared.words.FollowOptions.{FollowOptions}
 use Rattle.epx_words.specs.declared.words.Words.{Words}
 use Rattle.epx_words.specs.declared.words.Words.TheVariants.{Work, WorkWith, Follow, Text}
 use Rattle.epx_program.specs.Calls.{EndsTask}
@@ -16,6 +17,7 @@ use Rattle.epx_program.specs.Endings.{IsAnswerStatus, IsTaskResult, EndsWith, Is
 use Rattle.epx_program.specs.Endings.{answer_status, status_of}
 use Rattle.epx_program.specs.FollowEndings.{EndsFollow}
 use Rattle.epx_program.specs.Inputs.{TextRelation}
+use Rattle.epx_program.specs.Saving.{SaveRelation}
 use Rattle.epx_program.proofs.OutputLemmas.{contents_unchanged}
 
 -- the status of a task that succeeded or failed
@@ -138,29 +140,30 @@ pub work_status : (input : Option (List ℕ)) (Unread : Type 0) (Is : TextRelati
     → IfWork (λ task plan paths. IsStatus status) words
 work_status input Unread Is status failed old new (Work task plan paths) h = h.ends
 work_status input Unread Is status failed old new (WorkWith task plan paths flags) h = h.ends
-work_status input Unread Is status failed old new (Follow plan paths each explain) h = tt
+work_status input Unread Is status failed old new (Follow plan paths options) h = tt
 work_status input Unread Is status failed old new (Text text said) h = tt
 
 -- the status of following logs: 0, or that of a fault
 abbrev IsFollowStatus : ℕ → Type 0
 IsFollowStatus status = (status ≡ 0) ⊎ ((fault : Fault) × (status ≡ fault_status fault))
 
-status_of_following : (Is : TextRelation) (each : Bool) (paths : Option (List (List ℕ)))
-    (status : ℕ) (failed : Bool) (old new : Option (List ℕ))
-    → EndsFollow Is each paths status failed old new → IsFollowStatus status
-status_of_following Is each paths zero failed old new h = inl refl
-status_of_following Is each paths (suc n) failed old new h =
+status_of_following : (Is : TextRelation) (Saving : SaveRelation) (options : FollowOptions)
+    (paths : Option (List (List ℕ))) (status : ℕ) (failed : Bool) (old new : Option (List ℕ))
+    → EndsFollow Is Saving options paths status failed old new → IsFollowStatus status
+status_of_following Is Saving options paths zero failed old new h = inl refl
+status_of_following Is Saving options paths (suc n) failed old new h =
     let stopped = h.stopped (λ none. omega (arith, none)) in inr (stopped.0, stopped.1)
 
-pub follow_status : (Is : TextRelation) (status : ℕ) (failed : Bool) (old new : Option (List ℕ))
-    (words : Words)
-    → IfFollow (λ plan paths each explain. EndsFollow Is each paths status failed old new) words
-    → IfFollow (λ plan paths each explain. IsFollowStatus status) words
-follow_status Is status failed old new (Work task plan paths) h = tt
-follow_status Is status failed old new (WorkWith task plan paths flags) h = tt
-follow_status Is status failed old new (Follow plan paths each explain) h =
-    status_of_following Is each _ status failed old new h
-follow_status Is status failed old new (Text text said) h = tt
+pub follow_status : (Is : TextRelation) (Saving : SaveRelation) (status : ℕ) (failed : Bool)
+    (old new : Option (List ℕ)) (words : Words)
+    → IfFollow (λ plan paths options. EndsFollow Is Saving options paths status failed old new)
+    words
+    → IfFollow (λ plan paths options. IsFollowStatus status) words
+follow_status Is Saving status failed old new (Work task plan paths) h = tt
+follow_status Is Saving status failed old new (WorkWith task plan paths flags) h = tt
+follow_status Is Saving status failed old new (Follow plan paths options) h =
+    status_of_following Is Saving options _ status failed old new h
+follow_status Is Saving status failed old new (Text text said) h = tt
 
 followed : (result : ℕ) → IsFollowStatus result → IsStatus result
 followed result (inl well) = inl (inl well)
@@ -174,12 +177,12 @@ no_five result (inr failed) five = no_fault_ends_well failed.0 (inr (sym failed.
 pub of-words : (P Q : Type 0) (words : Words) (result : ℕ)
     → IfText (λ status. (status ≡ 0) ⊎ (status ≡ 2)) words
     → IfWork (λ task plan paths. IsStatus result) words
-    → IfFollow (λ plan paths each explain. IsFollowStatus result) words
+    → IfFollow (λ plan paths options. IsFollowStatus result) words
     → IfText (λ status. status ≡ 0 → (result ≡ 0) ⊎ ((result ≡ 4) × Q)) words
     → IfText (λ status. status ≢ 0 → (result ≡ status) × P) words → IsStatus result ⊎ (result ≡ 2)
 of-words P Q (Work task plan paths) result said work follow text refused = inl work
 of-words P Q (WorkWith task plan paths flags) result said work follow text refused = inl work
-of-words P Q (Follow plan paths each explain) result said work follow text refused =
+of-words P Q (Follow plan paths options) result said work follow text refused =
     inl (followed result follow)
 of-words P Q (Text text status) result (inl good) work follow asked refused =
     inl (shown result (asked good))
@@ -190,13 +193,13 @@ of-words P Q (Text text status) result (inr two) work follow asked refused =
 pub found_by_work : (P Q R : Type 0) (words : Words) (result : ℕ)
     → IfText (λ status. (status ≡ 0) ⊎ (status ≡ 2)) words
     → IfWork (λ task plan paths. result ≡ 5 → P) words
-    → IfFollow (λ plan paths each explain. IsFollowStatus result) words
+    → IfFollow (λ plan paths options. IsFollowStatus result) words
     → IfText (λ status. status ≡ 0 → (result ≡ 0) ⊎ ((result ≡ 4) × Q)) words
     → IfText (λ status. status ≢ 0 → (result ≡ status) × R) words → result ≡ 5 → P
 found_by_work P Q R (Work task plan paths) result said work follow text refused five = work five
 found_by_work P Q R (WorkWith task plan paths flags) result said work follow text refused five =
     work five
-found_by_work P Q R (Follow plan paths each explain) result said work follow text refused five =
+found_by_work P Q R (Follow plan paths options) result said work follow text refused five =
     absurd (no_five result follow five)
 found_by_work P Q R (Text text status) result (inl good) work follow asked refused five =
     elim (asked good) [

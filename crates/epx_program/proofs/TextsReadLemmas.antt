@@ -111,6 +111,18 @@ module _ {O F I : Type 0} (opening : OpenerModel O F) (D : SourceModel F) (opene
   texts_at input left paths sources after are texts each =
       texts_from input (Some input) left paths texts sources after are each.as_many each.whole
 
+  -- what a source delivered and then others is the text at its path and those at theirs
+  pub texts_after : (input : I) (next left : Option I) (path : List ℕ)
+      (source last : SourceAt O F I) (text : List ℕ)
+      → IsSourceAt opener path (Some input) next source
+      → DeliversAll any source last text → (paths : List (List ℕ))
+      (sources after : List (SourceAt O F I)) → AreSourcesAt opener next left paths sources
+      → (texts : List (List ℕ)) → EachDelivers any sources after texts
+      → AreTextsAt (text_relation opening D opener E input) (path ∷ paths) (text ∷ texts)
+  texts_after input next left path source last text is all paths sources after are texts each =
+      one_text input path text paths texts (Some input) next source last is all
+      (texts_from input next left paths texts sources after are each.as_many each.whole)
+
   -- what the input delivered, if it is the only source, is the text at a hyphen
   pub text_of_input : (input : I) (sources after : List I) → sources ≡ input ∷ []
       → (texts : List (List ℕ)) → EachDelivers E sources after texts

@@ -23,6 +23,7 @@ use Rattle.epx_program.specs.Calls.{AreTakenFor, Asks, EndsAsAsked, EndsTask, En
 use Rattle.epx_program.specs.Calls.{IsFollow, NamesFollow}
 use Rattle.epx_program.specs.FollowEndings.{EndsFollow}
 use Rattle.epx_program.specs.Inputs.{TextRelation}
+use Rattle.epx_program.specs.Saving.{SaveRelation}
 use Rattle.epx_program.proofs.BareWordLemmas.{bare_or_not}
 use Rattle.epx_program.proofs.OutputLemmas.{contents_unchanged}
 
@@ -78,7 +79,7 @@ module _ (words : List Text) where
         paths = are_paths;
         parts = are_parts;
       }
-  work_fits (Follow plan paths each explain) is_task is_workers is_cut are_paths are_parts = tt
+  work_fits (Follow plan paths options) is_task is_workers is_cut are_paths are_parts = tt
   work_fits (text said status) is_task is_workers is_cut are_paths are_parts = tt
 
   text_ends : (asked : Words)
@@ -88,7 +89,7 @@ module _ (words : List Text) where
       × IsTextStatus kinds given status) asked
   text_ends (Work task plan paths) refused ends = tt
   text_ends (WorkWith task plan paths flags) refused ends = tt
-  text_ends (Follow plan paths each explain) refused ends = tt
+  text_ends (Follow plan paths options) refused ends = tt
   text_ends (text said status) refused ends = (refused, ends)
 
   -- what is read of the words is what they ask for
@@ -131,7 +132,7 @@ module _ (words : List Text) where
       → name_in given ≡ Some (codes "follow")
   name_of_follow (Work task plan paths) asks follow = absurd follow
   name_of_follow (WorkWith task plan paths flags) asks follow = absurd follow
-  name_of_follow (Follow plan paths each explain) asks follow = asks.name
+  name_of_follow (Follow plan paths options) asks follow = asks.name
   name_of_follow (text said status) asks follow = absurd follow
 
   -- words that ask to follow logs name the subcommand
@@ -148,8 +149,8 @@ module _ (words : List Text) where
   ]
 
 module _ {S : Type 0} (contents : S → Option (List ℕ)) (before after : S)
-    (input : Option (List ℕ)) (Unread : Type 0) (Is : TextRelation) (status : ℕ)
-    (failed : Bool) where
+    (input : Option (List ℕ)) (Unread : Type 0) (Is : TextRelation) (Saving : SaveRelation)
+    (status : ℕ) (failed : Bool) where
   ends_with_text : (said : List ℕ) (n : ℕ)
       → (n ≡ 0 → status ≡ 0 → Appends (contents before) (contents after) said)
       → (n ≡ 0 → AppendsPrefix (contents before) (contents after) said)
@@ -170,7 +171,7 @@ module _ {S : Type 0} (contents : S → Option (List ℕ)) (before after : S)
   pub ends_as_asked : (wanted : Words)
       → IfWork (λ task plan paths. EndsTask input Unread Is (flags_of wanted).exit_code task paths
       status failed (contents before) (contents after)) wanted
-      → IfFollow (λ plan paths each explain. EndsFollow Is each paths status failed
+      → IfFollow (λ plan paths options. EndsFollow Is Saving options paths status failed
       (contents before) (contents after)) wanted
       → ((said : String Global) → wanted ≡ text said 0 → status ≡ 0
       → Appends (contents before) (contents after) (string_bytes said))
@@ -178,10 +179,10 @@ module _ {S : Type 0} (contents : S → Option (List ℕ)) (before after : S)
       → AppendsPrefix (contents before) (contents after) (string_bytes said))
       → IfText (λ n. n ≡ 0 → (status ≡ 0) ⊎ ((status ≡ 4) × (failed ≡ true))) wanted
       → IfText (λ n. n ≢ 0 → (status ≡ n) × (after ≡ before)) wanted
-      → EndsAsAsked input Unread Is wanted status failed (contents before) (contents after)
+      → EndsAsAsked input Unread Is Saving wanted status failed (contents before) (contents after)
   ends_as_asked (Work task plan paths) work follow shown prefix well refused = work
   ends_as_asked (WorkWith task plan paths flags) work follow shown prefix well refused = work
-  ends_as_asked (Follow plan paths each explain) work follow shown prefix well refused = follow
+  ends_as_asked (Follow plan paths options) work follow shown prefix well refused = follow
   ends_as_asked (text said n) work follow shown prefix well refused =
       ends_with_text (string_bytes said) n (λ none. shown said (ap (text said) none))
       (λ none. prefix said (ap (text said) none)) well refused

@@ -26,6 +26,7 @@ use Rattle.epx_program.specs.Endings.{AddsAnswer, AddsPart, EndsWith, IsAnswerSt
 use Rattle.epx_program.specs.Endings.{answer_status}
 use Rattle.epx_program.specs.FollowEndings.{EndsFollow}
 use Rattle.epx_program.specs.Inputs.{AreTextsRead, IsInputAlone, TextRelation}
+use Rattle.epx_program.specs.Saving.{SaveRelation}
 
 -- the operating system's words are these texts; words that could not be read are no texts
 abbrev pub AreTakenFor : Result (IntoIter (String Global) Global) Error → List Text → Type 0
@@ -41,7 +42,7 @@ NamesFollow words = (texts : List Text) × AreTakenFor words texts
 abbrev pub IsFollow : Words → Type 0
 IsFollow (asked.Work task plan paths) = ⊥
 IsFollow (asked.WorkWith task plan paths flags) = ⊥
-IsFollow (asked.Follow plan paths each explain) = ⊤
+IsFollow (asked.Follow plan paths options) = ⊤
 IsFollow (asked.Text text status) = ⊥
 
 -- what the words ask for: the report of one log if they name no subcommand, otherwise what clap
@@ -91,21 +92,21 @@ abbrev pub paths_of : Option (Vec (String Global) Global) → Option (List (List
 paths_of paths = option_map (λ list. map string_bytes list.items) paths
 
 -- how the program ends, by what is wanted
-abbrev pub EndsAsAsked : Option (List ℕ) → Type 0 → TextRelation → Words → ℕ → Bool
+abbrev pub EndsAsAsked : Option (List ℕ) → Type 0 → TextRelation → SaveRelation → Words → ℕ → Bool
     → Option (List ℕ) → Option (List ℕ) → Type 0
-EndsAsAsked input Unread Is (asked.Work task plan paths) status failed old new =
+EndsAsAsked input Unread Is Saving (asked.Work task plan paths) status failed old new =
     EndsTask input Unread Is false task (paths_of paths) status failed old new
-EndsAsAsked input Unread Is (asked.WorkWith task plan paths flags) status failed old new =
+EndsAsAsked input Unread Is Saving (asked.WorkWith task plan paths flags) status failed old new =
     EndsTask input Unread Is flags.exit_code task (paths_of paths) status failed old new
-EndsAsAsked input Unread Is (asked.Follow plan paths each explain) status failed old new =
-    EndsFollow Is each (paths_of paths) status failed old new
-EndsAsAsked input Unread Is (asked.Text text n) status failed old new =
+EndsAsAsked input Unread Is Saving (asked.Follow plan paths options) status failed old new =
+    EndsFollow Is Saving options (paths_of paths) status failed old new
+EndsAsAsked input Unread Is Saving (asked.Text text n) status failed old new =
     EndsWithText (string_bytes text) n status failed old new
 
 -- the program does what its words ask for, or ends because memory ran out
-abbrev pub DoesAsAsked : Option (List ℕ) → Type 0 → TextRelation → List Text → ℕ → Bool
-    → Option (List ℕ) → Option (List ℕ) → Type 0
-DoesAsAsked input Unread Is words status failed old new =
+abbrev pub DoesAsAsked : Option (List ℕ) → Type 0 → TextRelation → SaveRelation → List Text → ℕ
+    → Bool → Option (List ℕ) → Option (List ℕ) → Type 0
+DoesAsAsked input Unread Is Saving words status failed old new =
     (status ≡ fault_status Memory)
     ⊎ ((wanted : Words) × Asks words wanted
-    × EndsAsAsked input Unread Is wanted status failed old new)
+    × EndsAsAsked input Unread Is Saving wanted status failed old new)

@@ -4,9 +4,8 @@ use Rattle.std.specs.Prelude.{slice_get}
 use Rattle.epx_types.specs.declared.fault.Fault.{Fault}
 use Rattle.epx_devices.specs.Deliveries.{DeliversAll, DeliversThenFails}
 use Rattle.epx_devices.specs.Models.{OpenerModel, SourceModel}
-use Rattle.epx_follow.specs.Following.{new_follower}
-use Rattle.epx_follow.specs.FollowingStops.{StopsFollowing}
-use Rattle.epx_program.specs.SourcesAt.{AreSourcesAt, SourceAt, model_at}
+use Rattle.epx_program.specs.FollowStops.{StopsAtPaths}
+use Rattle.epx_program.specs.PathsRead.{paths_read}
 
 -- only the input is read: there are no paths, or the only path is a hyphen, which means the input
 abbrev pub IsInputAlone : Option (List (List ℕ)) → Type 0
@@ -14,11 +13,13 @@ IsInputAlone None = ⊤
 IsInputAlone (Some paths) = paths ≡ codes "-" ∷ []
 
 -- which text is that of the file at a path, and which that of the program's input; and with which
--- faults following the logs at some paths stops, and what is written then
+-- faults following the logs at some paths stops, from the state at a path if there is one, and what
+-- is written then
 pub record TextRelation : Type 1 where
   pub OfFile : List ℕ → List ℕ → Type 0
   pub OfInput : List ℕ → Type 0
-  pub Stops : Bool → Option (List (List ℕ)) → Fault → Option (List ℕ) → Option (List ℕ) → Type 0
+  pub Stops : Option (List ℕ) → Bool → Option (List (List ℕ)) → Fault
+      → Option (List ℕ) → Option (List ℕ) → Type 0
 
 -- the same texts once the input is read: nothing is left of it, so its text is empty
 abbrev pub after_input : TextRelation → TextRelation
@@ -31,11 +32,6 @@ AreTextsAt Is (path ∷ paths) [] = ⊥
 AreTextsAt Is (path ∷ paths) (text ∷ texts) =
     ((path ≢ codes "-") × Is.OfFile path text × AreTextsAt Is paths texts)
     ⊎ ((path ≡ codes "-") × Is.OfInput text × AreTextsAt (after_input Is) paths texts)
-
--- the paths that are read: without paths, that of the input
-abbrev pub paths_read : Option (List (List ℕ)) → List (List ℕ)
-paths_read None = codes "-" ∷ []
-paths_read (Some paths) = paths
 
 -- the texts that are read there
 abbrev pub AreTextsRead : TextRelation → Option (List (List ℕ)) → List (List ℕ) → Type 0
@@ -50,16 +46,6 @@ abbrev pub IsFileText : {O F : Type 0} → OpenerModel O F → SourceModel F
     → O → List ℕ → List ℕ → Type 0
 IsFileText {O} {F} opening D opener path text =
     (file : F) × opening.opens opener path file × IsWholeText D file text
-
--- following the sources at the paths stops with this fault
-pub record StopsAtPaths {O F I : Type 0} (opening : OpenerModel O F) (D : SourceModel F)
-    (opener : O) (E : SourceModel I) (input : I) (each : Bool) (paths : Option (List (List ℕ)))
-    (fault : Fault) (old new : Option (List ℕ)) : Type 0 where
-  pub left : Option I
-  pub sources : List (SourceAt O F I)
-  pub after : List (SourceAt O F I)
-  pub at : AreSourcesAt opener (Some input) left (paths_read paths) sources
-  pub stopped : StopsFollowing (model_at opening D E) new_follower each sources after fault old new
 
 -- the text of a path is what the reads of a file delivered that the opener opened there, and the
 -- text of the input what the reads of the input delivered. Following stops by the same reads

@@ -1,6 +1,9 @@
 pub mod SourcesAt
+pub mod PathsRead
+pub mod FollowStops
 pub mod Inputs
 pub mod Endings
+pub mod Saving
 pub mod FollowEndings
 pub mod Calls
 pub mod inner

@@ -104,7 +104,7 @@ where
         sources.push(input).map_err(Memory::from)?;
         return write_answer(rt, alloc, task, plan, &mut sources, output);
     };
-    let Ok(mut sources) = sources_at(rt, opener, alloc, paths, keeps, input) else {
+    let Ok(mut sources) = sources_at(rt, opener, alloc, paths, keeps, Some(input)) else {
         return Err(Fault::Memory);
     };
     let done = write_answer(rt, alloc, task, plan, &mut sources, output);

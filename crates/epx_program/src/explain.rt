@@ -4,7 +4,8 @@ use epx_advice::explain_answer;
 use epx_explain::{Inputs, explain_fault};
 use epx_tool::{Answer, Task};
 use epx_types::{Fault, Plan};
-use std::alloc::AllocGlobal;
+use epx_words::FollowOptions;
+use std::alloc::{AllocError, AllocGlobal, Global};
 use std::io::Eprint;
 use std::rt::Files;
 use std::thread::Threads;
@@ -40,12 +41,43 @@ pub(crate) fn explain<'a, R: AllocGlobal + Eprint + Files + Threads + Sync>(
     }
 }
 
-/// Writes a line to standard error that explains why following the logs at the paths stopped. If
-/// memory runs out or standard error cannot be written, there is no such line.
+/// The paths of the logs behind that of the state, where a hyphen means the input.
+fn with_state(
+    alloc: Global,
+    state: &str,
+    paths: Option<Vec<String>>,
+) -> Result<Vec<String>, AllocError> {
+    let mut all = Vec::new(alloc);
+    all.push(String::from_str(alloc, state)?)?;
+    match paths {
+        Some(paths) => {
+            for path in paths {
+                all.push(path)?;
+            }
+        }
+        None => all.push(String::from_str(alloc, "-")?)?,
+    }
+    Ok(all)
+}
+
+/// Writes a line to standard error that explains why following the logs at the paths stopped, or
+/// why the state was not saved, if the output has not failed. If memory runs out or standard error
+/// cannot be written, there is no such line.
 pub(crate) fn explain_stop<R: AllocGlobal + Eprint + Files>(
     rt: &R,
     fault: Fault,
-    paths: &Option<Vec<String>>,
+    paths: Option<Vec<String>>,
+    options: &FollowOptions,
+    output_failed: bool,
 ) {
-    print_reason(rt, fault, &Inputs::of_task(Task::Run, paths, &[]));
+    let unsaved = match &options.save {
+        Some(path) if !output_failed => Some(path.as_str()),
+        _ => None,
+    };
+    let Some(state) = &options.state else {
+        return print_reason(rt, fault, &Inputs::of_follow(&paths, false, unsaved));
+    };
+    if let Ok(all) = with_state(rt.alloc(), state.as_str(), paths) {
+        print_reason(rt, fault, &Inputs::of_follow(&Some(all), true, unsaved));
+    }
 }

@@ -1,5 +1,5 @@
 //! The sources that the paths name: files, and the program's input.
-ghost use Rattle.std.specs.Prelude.{◌≡◌, All, IfOk, IfSome, Some, false, map, string_bytes};
+ghost use Rattle.std.specs.Prelude.{◌≡◌, All, IfOk, IfSome, false, map, string_bytes};
 ghost use Rattle.epx_program.specs.SourcesAt.{AreSourcesAt, IsSourceAt, model_at};
 
 use epx_devices::{EitherSource, KeptSource, MemorySource, Opener, PathSource, Source};
@@ -25,7 +25,7 @@ fn can_be_read_again<R: Files>(rt: &R, path: &str) -> bool {
 }
 
 /// The source at a path. The first hyphen takes the input.
-fn source_at<'a, O: Opener, I: Source>(
+pub(crate) fn source_at<'a, O: Opener, I: Source>(
     opener: &'a O,
     path: &'a str,
     input: &mut Option<I>,
@@ -52,16 +52,16 @@ pub(crate) fn sources_at<'a, R: Files, O: Opener, I: Source + Drop>(
     alloc: Global,
     paths: &'a [String],
     keeps: bool,
-    input: I,
+    input: Option<I>,
 ) -> Result<Vec<KeptSource<Input<'a, O, I>>>, AllocError>
-    requires { I.model.has_failed input ≡ false }
+    requires { IfSome input (λ i. I.model.has_failed i ≡ false) }
     ensures at { IfOk result (λ sources. (left : _)
-        × AreSourcesAt opener.now (Some input) left (map string_bytes paths.now) sources.items) }
+        × AreSourcesAt opener.now input left (map string_bytes paths.now) sources.items) }
     ensures failed { IfOk result
         (λ sources. All (λ s. (model_at O.model O.Opened.model I.model).has_failed s ≡ false)
         sources.items) }
 {
-    let mut input = Some(input);
+    let mut input = input;
     let mut sources = Vec::with_capacity(alloc, paths.len())?;
     for path in paths {
         let source = source_at(opener, path.as_str(), &mut input);

@@ -9,6 +9,7 @@ pub mod input_kind;
 mod inputs;
 mod program;
 mod read_args;
+mod read_state;
 
 pub use input_kind::InputKind;
 pub use program::{execute_words, start};

@@ -11,6 +11,7 @@ ghost use Rattle.epx_program.specs.Calls.{NamesFollow, paths_of};
 ghost use Rattle.epx_program.specs.Endings.{IsAnswerStatus, IsStatus};
 ghost use Rattle.epx_program.specs.FollowEndings.{EndsFollow};
 ghost use Rattle.epx_program.specs.Inputs.{HasFailedRead, text_relation};
+ghost use Rattle.epx_program.specs.Saving.{save_relation};
 
 use crate::do_follow::do_follow;
 use crate::do_task::do_task;
@@ -18,7 +19,7 @@ use crate::exit_report::{print_text, report_fault, report_task};
 use crate::explain::explain;
 use crate::input_kind::{InputKind, say_what_is_read};
 use crate::read_args::read_args;
-use epx_devices::Opener;
+use epx_devices::{Opener, Saver};
 use epx_tool::{Flags, Sink, Source, Task, Words};
 use epx_types::{Fault, Memory, Plan};
 use std::alloc::AllocGlobal;
@@ -84,13 +85,22 @@ where
     status
 }
 
-/// Does what the words say, and returns the exit status. The opener opens the files at their paths.
-pub fn execute_words<R, O, I, W>(rt: &R, opener: &O, words: Words, input: I, output: &mut W) -> u8
+/// Does what the words say, and returns the exit status. The opener opens the files at their paths,
+/// and the saver saves the state after following logs.
+pub fn execute_words<R, O, I, W, V>(
+    rt: &R,
+    opener: &O,
+    saver: &mut V,
+    words: Words,
+    input: I,
+    output: &mut W,
+) -> u8
 where
     R: AllocGlobal + Eprint + Files + Threads + RandomSource + Sync,
     O: Opener,
     I: Source + Drop,
     W: Sink,
+    V: Saver,
     requires input { I.model.has_failed input ≡ false }
     requires output { W.model.has_failed output.old ≡ false }
 
@@ -99,10 +109,12 @@ where
         (text_relation O.model O.Opened.model opener.now I.model input)
         (flags_of words).exit_code task paths result (W.model.has_failed output.new)
         (W.model.contents output.old) (W.model.contents output.new)) words }
-    ensures follow { IfFollow (λ _ paths each _. EndsFollow
-        (text_relation O.model O.Opened.model opener.now I.model input) each paths result
+    ensures follow { IfFollow (λ _ paths options. EndsFollow
+        (text_relation O.model O.Opened.model opener.now I.model input)
+        (save_relation V.model saver.old saver.new) options paths result
         (W.model.has_failed output.new) (W.model.contents output.old)
         (W.model.contents output.new)) words }
+    ensures unsaved { ¬ IsFollow words → saver.new ≡ saver.old }
 
     ensures shown { (text : _) → words ≡ Words.Text text 0 → result ≡ 0
         → Appends (W.model.contents output.old) (W.model.contents output.new) (string_bytes text) }
@@ -139,20 +151,20 @@ where
         Words::Follow {
             plan,
             paths,
-            each,
-            explain,
-        } => do_follow(rt, opener, plan, paths, each, explain, input, output),
+            options,
+        } => do_follow(rt, opener, saver, plan, paths, options, input, output),
         Words::Text { text, status } => print_text(rt, text.as_str(), status, output),
     }
 }
 
 /// Does what the operating system's words ask for, and returns the exit status. The opener opens
-/// the files at the paths among the words. The answer is written to the output. Faults and the text
-/// about refused words are written to standard error, and so is a line where a person may expect
-/// that something else is read.
-pub fn start<R, O, I, W>(
+/// the files at the paths among the words, and the saver saves the state after following logs. The
+/// answer is written to the output. Faults and the text about refused words are written to standard
+/// error, and so is a line where a person may expect that something else is read.
+pub fn start<R, O, I, W, V>(
     rt: &R,
     opener: &O,
+    saver: &mut V,
     words: io::Result<Args>,
     kind: InputKind,
     input: I,
@@ -163,14 +175,17 @@ where
     O: Opener,
     I: Source + Drop,
     W: Sink,
+    V: Saver,
     requires input { I.model.has_failed input ≡ false }
     requires output { W.model.has_failed output.old ≡ false }
 
     ensures read_args { (texts : _) → AreTakenFor words texts
         → DoesAsAsked (I.model.remaining input) (HasFailedRead I.model input)
-        (text_relation O.model O.Opened.model opener.now I.model input) texts
-        (exit_status result) (W.model.has_failed output.new) (W.model.contents output.old)
+        (text_relation O.model O.Opened.model opener.now I.model input)
+        (save_relation V.model saver.old saver.new) texts (exit_status result)
+        (W.model.has_failed output.new) (W.model.contents output.old)
         (W.model.contents output.new) }
+    ensures unsaved { ¬ NamesFollow words → saver.new ≡ saver.old }
     ensures status { IsStatus (exit_status result) ⊎ (exit_status result ≡ 2) }
 
     ensures no_text { IfErr words (λ error. error_kind error ≡ ErrorKind.InvalidData
@@ -189,7 +204,7 @@ where
     let status = match read_args(rt.alloc(), words) {
         Ok(words) => {
             say_what_is_read(rt, kind, &words);
-            execute_words(rt, opener, words, input, output)
+            execute_words(rt, opener, saver, words, input, output)
         }
         Err(Memory) => report_fault(rt, Fault::Memory),
     };

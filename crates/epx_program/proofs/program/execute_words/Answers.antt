@@ -20,6 +20,9 @@ returns-in-WorkWith-clause-found g c =
 pub returns-in-Follow-clause-follow : goal.returns-in-Follow-clause-follow
 returns-in-Follow-clause-follow g c = rw c.in-Follow.is c.do_follow.ensures.ends
 
+pub returns-in-Follow-clause-unsaved : goal.returns-in-Follow-clause-unsaved
+returns-in-Follow-clause-unsaved g c = rw c.in-Follow.is (λ other. absurd (other tt))
+
 pub returns-in-Follow-clause-nothing : goal.returns-in-Follow-clause-nothing
 returns-in-Follow-clause-nothing g c = rw c.in-Follow.is (λ other. absurd (other tt))
 

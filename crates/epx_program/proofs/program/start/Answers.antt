@@ -12,7 +12,7 @@ returns-clause-status g c = rw c.from.ensures (elim c.match-read_args.branch [
       let said = w.execute_words-status.ensures in
       let words = w.in-Ok.words in
       rw w.status-is (of-words _ _ words _ w.in-Ok.ensures.status
-      (work_status _ _ _ _ _ _ _ words said.do_task) (follow_status _ _ _ _ _ words said.follow)
+      (work_status _ _ _ _ _ _ _ words said.do_task) (follow_status _ _ _ _ _ _ words said.follow)
       said.text said.refused)
   | in-Err w ↦ rw (w.status-is, w.report_fault-status.ensures) (inl (inr (Memory, refl)))
 ])
@@ -24,7 +24,7 @@ returns-clause-flushed g c = rw c.from.ensures (elim c.match-read_args.branch [
       rw (w.status-is, w.output-is) (λ well. elim well [
         | inl zero ↦ said.flushed zero
         | inr five ↦ found_by_work _ _ _ w.in-Ok.words _ w.in-Ok.ensures.status said.found
-            (follow_status _ _ _ _ _ w.in-Ok.words said.follow) said.text said.refused five
+            (follow_status _ _ _ _ _ _ w.in-Ok.words said.follow) said.text said.refused five
       ])
   | in-Err w ↦ rw (w.status-is, w.report_fault-status.ensures) (λ well. elim well [
     | inl zero ↦ absurd (cc zero)
@@ -35,12 +35,12 @@ returns-clause-flushed g c = rw c.from.ensures (elim c.match-read_args.branch [
 pub returns-clause-read_args : goal.returns-clause-read_args
 returns-clause-read_args g c texts taken = rw c.from.ensures (elim c.match-read_args.branch [
   | in-Ok w ↦ let said = w.execute_words-status.ensures in
-      rw (w.status-is, w.output-is) (inr (
+      rw (w.status-is, w.output-is, w.saver-is) (inr (
         w.in-Ok.words,
         w.in-Ok.ensures.read_args texts taken,
-        ends_as_asked g.W.Sink.model.contents _ _ (g.I.Source.model.remaining c.args.input) _ _ _ _
-            w.in-Ok.words
-            said.do_task said.follow said.shown said.prefix said.text said.refused,
+        ends_as_asked g.W.Sink.model.contents _ _ (g.I.Source.model.remaining c.args.input) _ _ _
+            _ _ w.in-Ok.words said.do_task said.follow said.shown said.prefix said.text
+            said.refused,
       ))
   | in-Err w ↦ rw (w.status-is, w.report_fault-status.ensures) (inl refl)
 ])
@@ -52,3 +52,10 @@ returns-clause-nothing g c = rw c.from.ensures (elim c.match-read_args.branch [
   | in-Err w ↦ rw (w.status-is, w.output-is) (λ other well no.
       contents_unchanged g.W.Sink.model.contents c.args.output.now _ refl)
 ])
+
+pub returns-clause-unsaved : goal.returns-clause-unsaved
+returns-clause-unsaved g c = elim c.match-read_args.branch [
+  | in-Ok w ↦ rw w.saver-is (λ other. w.execute_words-status.ensures.unsaved
+      (λ follow. other (w.in-Ok.ensures.follow follow)))
+  | in-Err w ↦ rw w.saver-is (λ other. refl)
+]
