@@ -3,8 +3,6 @@
 //! states that it saves.
 #![tactic(auto)]
 
-ghost use Rattle.std.specs.Prelude.{◌≡◌, false};
-
 mod asked_task;
 mod case;
 mod case_input;
@@ -22,14 +20,11 @@ mod words;
 use crate::script::run_scripts;
 use crate::test_runtime::TestRuntime;
 use crate::word_lists::{calls_of, lists_with_input, words_of};
-use epx_devices::{MemorySaver, Sink, Source, StdSink, StdSource};
+use epx_devices::{MemorySaver, StdSink, StdSource};
 use epx_program::{InputKind, start};
-use std::alloc::{Alloc, AllocGlobal};
+use std::alloc::Alloc;
 use std::io::{self, ErrorKind, Print};
 use std::process::ExitCode;
-use std::random::RandomSource;
-use std::rt::Files;
-use std::thread::Threads;
 use std::{env, fs};
 
 /// The log that `epx` has as its input.
@@ -49,31 +44,6 @@ fn print_end<R: Alloc + Print>(rt: &R, status: ExitCode, saver: &MemorySaver) ->
     Ok(())
 }
 
-/// Calls `epx` with these words over an input and an output, where a state has room for so many
-/// bytes.
-fn call<R, I, W>(
-    rt: &R,
-    words: &[&str],
-    kind: InputKind,
-    room: usize,
-    input: I,
-    output: &mut W,
-) -> io::Result<()>
-where
-    R: AllocGlobal + Files + Print + Threads + RandomSource + Sync,
-    I: Source + Drop,
-    W: Sink,
-    requires input { I.model.has_failed input ≡ false }
-    requires output { W.model.has_failed output.old ≡ false }
-{
-    println!(rt; "== {words:?}")?;
-    let host = TestRuntime { rt, words };
-    let args = env::args(&host);
-    let mut saver = MemorySaver::new(rt.alloc(), room);
-    let status = start(&host, &host, &mut saver, args, kind, input, output);
-    print_end(rt, status, &saver)
-}
-
 fn main(rt: HostRuntime) -> io::Result<ExitCode> {
     if run_scripts(&rt)? {
         return Ok(ExitCode::SUCCESS);
@@ -81,38 +51,40 @@ fn main(rt: HostRuntime) -> io::Result<ExitCode> {
 
     let kind = InputKind::Other;
     let calls = calls_of(rt.alloc(), fs::read_to_string(&rt, "calls.txt")?.as_str())?;
-    for line in calls.as_str().lines() {
-        let words = words_of(rt.alloc(), line)?;
+    for call in calls.as_str().lines() {
+        let words = &words_of(rt.alloc(), call)?;
+        println!(rt; "== {words:?}")?;
+        let host = TestRuntime { rt: &rt, words };
+        let args = env::args(&host);
         let input = StdSource::new(rt.stdin());
-        call(
-            &rt,
-            &words,
-            kind,
-            ROOM,
-            input,
-            &mut StdSink::new(rt.stdout()),
-        )?;
+        let mut output = StdSink::new(rt.stdout());
+        let mut saver = MemorySaver::new(rt.alloc(), ROOM);
+        let status = start(&host, &host, &mut saver, args, kind, input, &mut output);
+        print_end(&rt, status, &saver)?;
     }
 
     println!(rt; "== with a log as input")?;
     for (words, kind) in lists_with_input() {
-        println!(rt; "== {kind:?}")?;
+        println!(rt; "== {kind:?}\n== {words:?}")?;
+        let host = TestRuntime { rt: &rt, words };
+        let args = env::args(&host);
         let input = StdSource::new(INPUT.as_bytes());
-        call(
-            &rt,
-            words,
-            kind,
-            ROOM,
-            input,
-            &mut StdSink::new(rt.stdout()),
-        )?;
+        let mut output = StdSink::new(rt.stdout());
+        let mut saver = MemorySaver::new(rt.alloc(), ROOM);
+        let status = start(&host, &host, &mut saver, args, kind, input, &mut output);
+        print_end(&rt, status, &saver)?;
     }
 
-    println!(rt; "== room for ten bytes of a state")?;
     let line = "epx follow --explain --save full.state follow/begun.jsonl";
-    let words = words_of(rt.alloc(), line)?;
+    let words = &words_of(rt.alloc(), line)?;
+    println!(rt; "== room for ten bytes of a state\n== {words:?}")?;
+    let host = TestRuntime { rt: &rt, words };
+    let args = env::args(&host);
     let input = StdSource::new(rt.stdin());
-    call(&rt, &words, kind, 10, input, &mut StdSink::new(rt.stdout()))?;
+    let mut output = StdSink::new(rt.stdout());
+    let mut saver = MemorySaver::new(rt.alloc(), 10);
+    let status = start(&host, &host, &mut saver, args, kind, input, &mut output);
+    print_end(&rt, status, &saver)?;
 
     println!(rt; "== words that could not be had as memory ran out")?;
     let words: &[&str] = &["epx", "run", "--explain"];
@@ -120,7 +92,6 @@ fn main(rt: HostRuntime) -> io::Result<ExitCode> {
     let failed = Err(io::Error::from(ErrorKind::OutOfMemory));
     let input = StdSource::new(rt.stdin());
     let mut output = StdSink::new(rt.stdout());
-    let mut saver = MemorySaver::new(rt.alloc(), ROOM);
     let status = start(&host, &host, &mut saver, failed, kind, input, &mut output);
     println!(rt; "== {status:?}")?;
 
