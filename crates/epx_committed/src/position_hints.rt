@@ -38,8 +38,9 @@ impl Block {
 #[derive(Debug, Drop)]
 pub struct PositionHints {
     blocks: Vec<Block>,
-    /// For each replica: add this to a number's block number to get the index of its block.
-    offsets: [Option<u64>; 256],
+    /// For each replica, up to the greatest noted one: add this to a number's block number to get
+    /// the index of its block.
+    offsets: Vec<Option<u64>>,
 }
 
 impl PositionHints {
@@ -47,7 +48,7 @@ impl PositionHints {
     pub fn new(alloc: Global) -> PositionHints {
         PositionHints {
             blocks: Vec::new(alloc),
-            offsets: [None; 256],
+            offsets: Vec::new(alloc),
         }
     }
 
@@ -74,12 +75,28 @@ impl PositionHints {
         Ok(())
     }
 
+    /// The offset of a replica, if one of its instances is noted.
+    fn offset(&self, replica: u8) -> Option<u64> {
+        *self.offsets.get(replica as usize)?
+    }
+
+    /// Sets the offset of a replica.
+    fn set_offset(&mut self, replica: u8, offset: u64) -> Result<(), Memory> {
+        for _ in self.offsets.len()..=replica as usize {
+            self.offsets.push(None)?;
+        }
+        if let Some(place) = self.offsets.get_mut(replica as usize) {
+            *place = Some(offset);
+        }
+        Ok(())
+    }
+
     /// Makes the block of this instance the last block. If a gap would take too many blocks, the
     /// replica's blocks start anew.
     fn open_block(&mut self, id: Id, position: usize) -> Result<(), Memory> {
         let len = self.blocks.len() as u64;
         let number = id.number / BLOCK_NUMBERS;
-        let mut more = match self.offsets[id.replica as usize] {
+        let mut more = match self.offset(id.replica) {
             Some(offset) => offset
                 .wrapping_add(number)
                 .wrapping_add(1)
@@ -91,7 +108,7 @@ impl PositionHints {
                 .saturating_add(SPARE_BLOCKS)
                 .saturating_sub(len)
         {
-            self.offsets[id.replica as usize] = Some(len.wrapping_sub(number));
+            self.set_offset(id.replica, len.wrapping_sub(number))?;
             more = 1;
         }
         for _ in 0..more {
@@ -102,7 +119,7 @@ impl PositionHints {
 
     /// A hint of the position of an instance, if it has one.
     pub fn hint(&self, id: Id) -> Option<usize> {
-        let offset = self.offsets[id.replica as usize]?;
+        let offset = self.offset(id.replica)?;
         let index = offset.wrapping_add(id.number / BLOCK_NUMBERS);
         self.blocks.get(index as usize)?.hint(id.number)
     }
