@@ -12,11 +12,11 @@ use Rattle.epx_executor.specs.Commits.{AllWait, ExecutorView}
 use Rattle.epx_executor.proofs.CallLineLemmas.{line_at, lines_from-more}
 use Rattle.epx_follow.specs.FollowerLaws.{FollowerAfterHoldsTheSame}
 use Rattle.epx_follow.specs.Following.{FollowerView, follower_after, instances_of}
-use Rattle.epx_follow.specs.inner.FirstPlaces.{HasFirstPlaces}
+use Rattle.epx_follow.specs.inner.FirstPlaces.{HasFirstPlaces, IsNoted}
 use Rattle.epx_follow.specs.inner.HeldLines.{AreHeld, no_place, pending_lines}
 use Rattle.epx_follow.proofs.BatchEndLemmas.{instances-pending}
 use Rattle.epx_follow.proofs.FirstLineLemmas.{first_line-rising}
-use Rattle.epx_follow.proofs.HeldLineLemmas.{IsNoted, first_places_next, place_of}
+use Rattle.epx_follow.proofs.HeldLineLemmas.{first_places_next, place_of}
 use Rattle.epx_follow.proofs.HoldLemmas.{shown}
 
 -- ---- places on consecutive lines

@@ -1,5 +1,5 @@
 -- The lines that a follower holds, after a line without an instance, and after one of an instance.
-use Rattle.std.proofs.Common.{◌≡◌, ◌≢◌, inl, inr, ◌∙◌, List, [], ◌∷◌, ◌++◌, Contains, Option, None}
+use Rattle.std.proofs.Common.{◌≡◌, inl, inr, ◌∙◌, List, [], ◌∷◌, ◌++◌, Contains, Option, None}
 use Rattle.std.proofs.Common.{Some, MatchOption, option_map, append_assoc, true, sym, ap, subst}
 use Rattle.epx_types.proofs.Common.{Contains-append_cases, Contains-cons_cases, Contains-nil}
 use Rattle.epx_types.proofs.Common.{Id-cases, Instance, Placed}
@@ -7,7 +7,7 @@ use Rattle.epx_types.specs.declared.id.Id.{Id}
 use Rattle.epx_types.specs.declared.place.Place.{Place}
 use Rattle.epx_follow.specs.BatchEnds.{first_line}
 use Rattle.epx_follow.specs.Following.{FollowerView, at_next_log, held_lines, next_line, passed}
-use Rattle.epx_follow.specs.inner.FirstPlaces.{HasFirstPlaces}
+use Rattle.epx_follow.specs.inner.FirstPlaces.{HasFirstPlaces, IsNoted}
 use Rattle.epx_follow.specs.inner.HeldLines.{AreHeld}
 use Rattle.epx_follow.proofs.FirstLineLemmas.{first_line-cases, first_line-earlier}
 use Rattle.epx_follow.proofs.FirstLineLemmas.{first_line-finds, first_line-later, first_line-one}
@@ -38,12 +38,6 @@ pub noted_of_line : (noted : Id → Option Place) (lines : List Placed)
 noted_of_line noted lines has p h =
     let q = first_line-finds lines p h in
     (q.0, q.1, has p.instance.id ∙ ap (option_map place_of) q.1)
-
--- the place is noted for the Id, unless one is noted
-abbrev pub IsNoted : (Id → Option Place) → Id → Place → (Id → Option Place) → Type 0
-IsNoted before id place after =
-    MatchOption (before id) (after id ≡ Some place) (λ p. after id ≡ Some p)
-    × ((x : Id) → x ≢ id → after x ≡ before x)
 
 -- ---- one more line
 

@@ -8,9 +8,10 @@ use Rattle.epx_types.proofs.remaining.RemainingLemmas.{is_among_cases}
 use Rattle.epx_types.specs.declared.id.Id.{Id}
 use Rattle.epx_types.specs.declared.place.Place.{Place}
 use Rattle.epx_follow.specs.Following.{FollowerView, held_lines, joined, next_line, passed}
+use Rattle.epx_follow.specs.inner.FirstPlaces.{IsNoted}
 use Rattle.epx_follow.specs.inner.HeldLines.{AreHeld, batch_lines, no_place, pending_lines}
 use Rattle.epx_follow.proofs.BatchEndLemmas.{batch_lines-push, pending_lines-same}
-use Rattle.epx_follow.proofs.HeldLineLemmas.{IsNoted, held_joined, noted_of_line, stays_noted}
+use Rattle.epx_follow.proofs.HeldLineLemmas.{held_joined, noted_of_line, stays_noted}
 use Rattle.epx_follow.proofs.HeldLineLemmas.{each_line, with_line}
 
 -- a line of an executed instance is passed over

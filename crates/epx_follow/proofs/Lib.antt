@@ -9,6 +9,7 @@ mod HoldLemmas
 mod BatchTextLemmas
 mod EndLemmas
 mod LogsTakenLemmas
+mod OpenBatchLemmas
 mod LogPartLemmas
 mod FollowLemmas
 mod InputEndLemmas

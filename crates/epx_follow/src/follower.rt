@@ -1,19 +1,22 @@
 //! Follows a log: takes its lines one after another, and executes it batch by batch.
-ghost use Rattle.std.specs.Prelude.{◌≡◌, ◌<◌, ◌+◌, ◌^◌, Contains, length, IfOk, IfErr};
-ghost use Rattle.std.specs.Prelude.{MatchResult};
+ghost use Rattle.std.specs.Prelude.{◌≡◌, ◌≢◌, ◌<◌, ◌≤◌, ◌+◌, ◌^◌, ℕ, List, [], length, IfOk};
+ghost use Rattle.std.specs.Prelude.{IfErr, MatchResult, Option};
+ghost use Rattle.epx_lines.specs.Lines.{lines_of};
 ghost use Rattle.epx_follow.specs.BatchEnds.{EndsBatch, RefusesBatch};
 ghost use Rattle.epx_follow.specs.Following.{at_next_log, follower_after, new_follower, next_line};
-ghost use Rattle.epx_follow.specs.Following.{passed, joined};
 ghost use Rattle.epx_follow.specs.FollowerLaws.{executor_of};
+ghost use Rattle.epx_follow.specs.FollowingStops.{StopsAmong};
 ghost use Rattle.epx_follow.specs.LinesTaken.{TakesLine, RefusesLine};
+ghost use Rattle.epx_follow.specs.inner.OpenBatches.{HoldsBytes};
 
 use crate::batch_text::{batch_text, count_came, parts_of};
-use crate::first_places::{forget_places, note_place, pending_places_from};
+use crate::first_places::{forget_places, pending_places_from};
+use crate::held_lines::HeldLines;
 use crate::line_places::fault_at_lines;
 use epx_executor::Executor;
 use epx_executor::laws::commit_leaves_none_ready;
-use epx_lines::{Line, LineFault, LineReader, is_blank_line};
-use epx_types::{Entry, Fault, Id, Memory, Place, Plan};
+use epx_lines::{LineReader, is_blank_line};
+use epx_types::{Fault, Memory, Place, Plan};
 use std::alloc::Global;
 use std::collections::BTreeMap;
 use std::marker::Model;
@@ -28,46 +31,26 @@ use std::thread::Threads;
 #[derive(Drop)]
 pub struct Follower {
     executor: Executor,
-    /// The place of the first line that came of each instance that waits or is in the open batch.
-    places: BTreeMap<Id, Place>,
-    /// The instances of the open batch that are not executed.
-    batch: Vec<Entry>,
-    /// The places of their lines.
-    batch_places: Vec<Place>,
-    next: Place,
-    is_open: bool,
+    held: HeldLines,
 }
 
 impl Model for Follower {
-    ghost use Rattle.std.specs.Prelude.{◌≡◌, length};
     ghost use Rattle.std.specs.Coded.{codes};
     ghost use Rattle.epx_executor.specs.Commits.{contents_code};
     ghost use Rattle.epx_follow.specs.Following.{FollowerView};
-    ghost use Rattle.epx_follow.specs.inner.FirstPlaces.{place_in};
-    ghost use Rattle.epx_follow.specs.inner.HeldLines.{AreHeld, batch_lines, pending_lines};
+    ghost use Rattle.epx_follow.specs.inner.HeldLines.{IsHeld, view_of};
 
     ghost Value = { FollowerView };
 
     ghost coded = { Prim.hlevel (codes, contents_code) };
 
-    ghost view = { λ f. record {
-      done = f.executor.done;
-      store = f.executor.store;
-      pending = pending_lines (place_in f.places) f.executor.pending;
-      batch = batch_lines f.batch_places.items f.batch.items;
-      next = f.next;
-      is_open = f.is_open;
-    } };
+    ghost view = { λ f. view_of f.executor f.held };
 
-    ghost invariant = { λ f. AreHeld (place_in f.places) (record {
-      done = f.executor.done;
-      store = f.executor.store;
-      pending = pending_lines (place_in f.places) f.executor.pending;
-      batch = batch_lines f.batch_places.items f.batch.items;
-      next = f.next;
-      is_open = f.is_open;
-    }) × (length f.batch_places.items ≡ length f.batch.items) };
+    ghost invariant = { λ f. IsHeld f.executor f.held };
 }
+
+/// The place of line 1 of log 0.
+const FIRST_PLACE: Place = Place { log: 0, line: 1 };
 
 impl Follower {
     /// Nothing is executed, and line 1 of log 0 is the next.
@@ -76,11 +59,7 @@ impl Follower {
     {
         Follower {
             executor: Executor::new(alloc),
-            places: BTreeMap::new(alloc),
-            batch: Vec::new(alloc),
-            batch_places: Vec::new(alloc),
-            next: Place { log: 0, line: 1 },
-            is_open: false,
+            held: HeldLines::new(alloc, BTreeMap::new(alloc), FIRST_PLACE),
         }
     }
 
@@ -96,55 +75,10 @@ impl Follower {
         ensures { IfOk result (λ follower. follower ≡ follower_after executor log line) }
     {
         let places = pending_places_from(alloc, &executor, log, line)?;
-        let follower = Follower {
+        Ok(Follower {
             executor,
-            places,
-            batch: Vec::new(alloc),
-            batch_places: Vec::new(alloc),
-            next: Place { log: 0, line: 1 },
-            is_open: false,
-        };
-        Ok(follower)
-    }
-
-    /// A line without an instance came.
-    fn pass_line(self) -> Follower
-        requires { self.next.line < 2 ^ 63 }
-        ensures { result ≡ passed self }
-    {
-        let mut follower = self;
-        follower.next.line += 1;
-        follower.is_open = true;
-        follower
-    }
-
-    /// A line of an instance that is not executed came.
-    fn hold_entry(self, entry: Entry) -> Result<Follower, Memory>
-        requires line { self.next.line < 2 ^ 63 }
-        requires left { ¬ Contains self.done entry.id }
-        ensures { IfOk result (λ follower. follower ≡ joined self entry) }
-    {
-        let mut follower = self;
-        let id = entry.id();
-        let place = follower.next;
-        follower.batch.push(entry)?;
-        follower.batch_places.push(place)?;
-        note_place(&mut follower.places, id, place)?;
-        follower.next.line += 1;
-        follower.is_open = true;
-        Ok(follower)
-    }
-
-    /// A line of an instance came.
-    fn join_entry(self, entry: Entry) -> Result<Follower, Memory>
-        requires { self.next.line < 2 ^ 63 }
-        ensures { IfOk result (λ follower. follower ≡ joined self entry) }
-    {
-        if self.executor.is_done(entry.id()) {
-            drop(entry);
-            return Ok(self.pass_line());
-        }
-        self.hold_entry(entry)
+            held: HeldLines::new(alloc, places, FIRST_PLACE),
+        })
     }
 
     /// Ends the batch: executes what is ready now. Returns the text of the batch, too.
@@ -156,14 +90,14 @@ impl Follower {
     ) -> Result<(Follower, Vec<u8>), Fault>
         ensures { MatchResult result (λ v. EndsBatch self v.0 v.1.items) (RefusesBatch self) }
     {
-        let Follower {
-            mut executor,
+        let Follower { mut executor, held } = self;
+        let HeldLines {
             mut places,
             batch,
             batch_places,
             next,
             is_open: _,
-        } = self;
+        } = held;
         let waited = executor.pending_len();
         let executed = match executor.commit(rt, alloc, batch, plan) {
             Ok(executed) => executed,
@@ -177,15 +111,8 @@ impl Follower {
         let came = count_came(waited, ids.len(), waiting);
         let text = batch_text(alloc, came, waiting, &ids, &replies)?;
         commit_leaves_none_ready();
-        let follower = Follower {
-            executor,
-            places,
-            batch: Vec::new(alloc),
-            batch_places: Vec::new(alloc),
-            next,
-            is_open: false,
-        };
-        Ok((follower, text))
+        let held = HeldLines::new(alloc, places, next);
+        Ok((Follower { executor, held }, text))
     }
 
     /// Takes a line, without its line feed. A blank one ends the batch, and with `each` every line
@@ -205,20 +132,43 @@ impl Follower {
         ensures counted { IfOk result (λ v. v.0.next ≡ next_line self.next) }
         ensures refused { IfErr result (RefusesLine each line.now self) }
     {
+        let Follower { executor, mut held } = self;
         if is_blank_line(line) {
-            return self.pass_line().end_batch(rt, alloc, plan);
+            held.pass_line();
+            let passed = Follower { executor, held };
+            return passed.end_batch(rt, alloc, plan);
         }
-        let place = self.next;
-        let follower = match reader.read(alloc, line) {
-            Ok(Line::Entry(entry)) => self.join_entry(entry)?,
-            Ok(Line::Blank) => self.pass_line(),
-            Err(LineFault::Memory) => return Err(Fault::Memory),
-            Err(LineFault::Bad(why)) => return Err(Fault::BadLine { place, why }),
-        };
+        held.take_line(alloc, reader, &executor, line)?;
+        let follower = Follower { executor, held };
         if each {
             return follower.end_batch(rt, alloc, plan);
         }
         Ok((follower, Vec::new(alloc)))
+    }
+
+    /// Takes the lines before the first one that ends a batch. Returns the bytes after them, too.
+    // The follower is moved in and out once for all of them: to move it costs as much as to read a
+    // line.
+    pub(crate) fn hold_lines<'a>(
+        self,
+        alloc: Global,
+        reader: &mut LineReader,
+        bytes: &'a [u8],
+        each: bool,
+    ) -> Result<(Follower, &'a [u8]), Fault>
+        requires { self.next.line + length bytes.now < 2 ^ 63 }
+        ensures held { IfOk result (λ v. HoldsBytes each self bytes.now v.0 v.1.now) }
+        ensures counted { IfOk result (λ v. v.0.next.line + length v.1.now
+            ≤ self.next.line + length bytes.now) }
+        ensures fewer { IfOk result (λ v. length v.1.now ≤ length bytes.now) }
+        ensures refused { IfErr result (λ fault. (was : Option (List ℕ))
+            → StopsAmong each self (lines_of bytes.now) fault [] was was) }
+        ensures unwritten { IfErr result (λ fault. fault ≢ Fault.Write) }
+    {
+        let Follower { executor, mut held } = self;
+        let rest = held.take_lines(alloc, reader, &executor, bytes, each)?;
+        let follower = Follower { executor, held };
+        Ok((follower, rest))
     }
 
     /// The log ended: the next line is the first one of the next log.
@@ -227,8 +177,8 @@ impl Follower {
         ensures { result ≡ at_next_log self }
     {
         let mut follower = self;
-        follower.next = Place {
-            log: follower.next.log + 1,
+        follower.held.next = Place {
+            log: follower.held.next.log + 1,
             line: 1,
         };
         follower
@@ -238,14 +188,14 @@ impl Follower {
     pub fn next(&self) -> Place
         ensures { result ≡ self.now.next }
     {
-        self.next
+        self.held.next
     }
 
     /// Whether a line came since the last batch ended.
     pub fn is_open(&self) -> bool
         ensures { result ≡ self.now.is_open }
     {
-        self.is_open
+        self.held.is_open
     }
 
     /// What is executed, stored and pending. The open batch is no part of it.

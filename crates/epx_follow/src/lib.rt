@@ -6,6 +6,7 @@ mod batch_text;
 mod first_places;
 mod follow_logs;
 mod follower;
+mod held_lines;
 pub mod laws;
 mod line_places;
 mod take_lines;

@@ -67,8 +67,12 @@ pub(crate) fn take_lines<R: Threads + RandomSource + Sync, W: Sink>(
     let mut follower = follower;
     let mut rest = bytes;
     while !rest.is_empty() {
-        let (line, more) = cut_line(rest);
-        follower = take_and_write(rt, alloc, reader, follower, line, each, plan, output)?;
+        let (held, others) = follower.hold_lines(alloc, reader, rest, each)?;
+        if others.is_empty() {
+            return Ok(held);
+        }
+        let (line, more) = cut_line(others);
+        follower = take_and_write(rt, alloc, reader, held, line, each, plan, output)?;
         rest = more;
     }
     Ok(follower)

@@ -1,5 +1,5 @@
 -- The place of the first line of each instance that is held.
-use Rattle.std.specs.Prelude.{◌≡◌, List, Option, option_map}
+use Rattle.std.specs.Prelude.{◌≡◌, ◌≢◌, List, Option, Some, MatchOption, option_map}
 use Rattle.std.specs.BTreeMap.{BTreeMap, get}
 use Rattle.epx_types.specs.declared.id.Id.{Id}
 use Rattle.epx_types.specs.declared.place.Place.{Place}
@@ -14,3 +14,9 @@ place_in places x = get id_cmp places x
 -- for each Id, the place of the first line that names it, if one does
 abbrev pub HasFirstPlaces : (Id → Option Place) → List Placed → Type 0
 HasFirstPlaces noted lines = (x : Id) → noted x ≡ option_map (λ p. p.place) (first_line lines x)
+
+-- the place is noted for the Id, unless one is noted
+abbrev pub IsNoted : (Id → Option Place) → Id → Place → (Id → Option Place) → Type 0
+IsNoted before id place after =
+    MatchOption (before id) (after id ≡ Some place) (λ p. after id ≡ Some p)
+    × ((x : Id) → x ≢ id → after x ≡ before x)

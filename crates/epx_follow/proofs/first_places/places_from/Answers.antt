@@ -5,7 +5,7 @@ use Rattle.epx_types.proofs.Common.{Instance, length-map}
 use Rattle.epx_types.specs.declared.id.Id.{Id}
 use Rattle.epx_follow.specs.inner.FirstPlaces.{place_in}
 use Rattle.epx_follow.proofs.AfterLemmas.{one_more_placed}
-use Rattle.epx_follow.proofs.HeldLineLemmas.{IsNoted}
+use Rattle.epx_follow.specs.inner.FirstPlaces.{IsNoted}
 use Rattle.epx_follow.proofs.first_places.places_from.Goals as goal
 
 pub loop-k-preserved : goal.loop-k-preserved

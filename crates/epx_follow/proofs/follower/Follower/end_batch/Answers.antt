@@ -1,47 +1,47 @@
-use Rattle.std.proofs.Common.{◌≡◌, ◌⊎◌, ◌∙◌, ◌+◌, List, ap, ap₂, arith}
-use Rattle.std.proofs.Common.{length, subst, subst₂, sym, zip, false}
+use Rattle.std.proofs.Common.{◌≡◌, ◌⊎◌, ◌∙◌, ◌+◌, List, ap₂, arith}
+use Rattle.std.proofs.Common.{length, subst, subst₂, sym, zip}
 use Rattle.epx_types.specs.declared.reply.Reply.{Reply}
 use Rattle.epx_types.specs.declared.fault.Fault.TheVariants.{Memory}
 use Rattle.epx_types.specs.declared.id.Id.{Id}
 use Rattle.epx_types.specs.declared.place.Place.{Place}
-use Rattle.epx_types.proofs.Common.{Instance}
 use Rattle.epx_executor.specs.Commits.{AllWait, ExecutorView}
 use Rattle.epx_follow.specs.BatchEnds.{EndsBatch, RefusesBatch, batch_text}
 use Rattle.epx_follow.specs.Following.{FollowerView}
 use Rattle.epx_follow.specs.CallPlaces.{at_lines, held_places}
 use Rattle.epx_follow.specs.inner.FirstPlaces.{place_in}
-use Rattle.epx_follow.specs.inner.HeldLines.{AreHeld, pending_lines}
+use Rattle.epx_follow.specs.inner.HeldLines.{pending_lines}
 use Rattle.epx_follow.proofs.BatchTextLemmas.{zip_parts}
 use Rattle.epx_follow.proofs.EndLemmas.{ends, few_wait, few_waited, held_now, refused}
 use Rattle.epx_follow.proofs.FirstPlaceLemmas.{AreForgotten}
-use Rattle.epx_follow.proofs.HoldLemmas.{shown}
+use Rattle.epx_follow.proofs.OpenBatchLemmas.{newly_held, newly_shown}
 use Rattle.epx_follow.proofs.follower.Follower.end_batch.Goals as goal
 
 pub returns-in-Err : goal.returns-in-Err
 returns-in-Err g c =
     let f = c.self.inside in
     subst (λ (v : FollowerView). RefusesBatch v c.fault_at_lines.result) c.self.view_is
-    (refused f.executor.done f.executor.store (place_in f.places) f.executor.pending
-    f.batch_places.items f.batch.items f.next f.is_open c.self.invariant.0 c.self.invariant.1
+    (refused f.executor.done f.executor.store (place_in f.held.places) f.executor.pending
+    f.held.batch_places.items f.held.batch.items f.held.next f.held.is_open c.self.invariant.0
+    c.self.invariant.1
     c.in-Err.fault c.fault_at_lines.result c.in-Err.ensures.refused
     (subst₂ (λ (e : ExecutorView) (ps : List Place). (c.fault_at_lines.result ≡ Memory)
-    ⊎ (c.fault_at_lines.result ≡ at_lines (held_places (pending_lines (place_in f.places)
+    ⊎ (c.fault_at_lines.result ≡ at_lines (held_places (pending_lines (place_in f.held.places)
     e.pending)) ps c.in-Err.fault)) c.in-Err.ensures.unchanged c.deref.ensures.value
     c.fault_at_lines.ensures))
 
 pub count_came-came-requires-clause-few : goal.count_came-came-requires-clause-few
 count_came-came-requires-clause-few g c =
-    let few = few_wait c.self.inside.executor c.commit.new.self c.self.inside.batch.items
+    let few = few_wait c.self.inside.executor c.commit.new.self c.self.inside.held.batch.items
     c.in-Ok.executed.items c.in-Ok.ensures.ok in
     omega (arith, few, c.pending_len-waiting.ensures, c.len.ensures, c.in_ok-ids.ids.small)
 
 pub count_came-came-requires-clause-some : goal.count_came-came-requires-clause-some
 count_came-came-requires-clause-some g c =
     let f = c.self.inside in
-    let some = few_waited f.executor.done f.executor.store (place_in f.places) f.executor.pending
-    f.batch_places.items f.batch.items f.next f.is_open c.self.invariant.0 c.self.invariant.1
-    c.commit.new.self c.in-Ok.executed.items c.in_ok-ids.ids.items c.in_ok-ids.ensures.ids
-    c.in-Ok.ensures.ok in
+    let some = few_waited f.executor.done f.executor.store (place_in f.held.places)
+    f.executor.pending f.held.batch_places.items f.held.batch.items f.held.next f.held.is_open
+    c.self.invariant.0 c.self.invariant.1 c.commit.new.self c.in-Ok.executed.items
+    c.in_ok-ids.ids.items c.in_ok-ids.ensures.ids c.in-Ok.ensures.ok in
     omega (
       arith,
       some,
@@ -50,25 +50,21 @@ count_came-came-requires-clause-some g c =
       c.len.ensures,
     )
 
-pub invariant_of-follower : goal.invariant_of-follower
-invariant_of-follower g c =
+pub invariant_of-result : goal.invariant_of-result
+invariant_of-result g c =
     let f = c.self.inside in
     let now = c.commit.new.self in
     let left = place_in c.forget_places.new.places in
-    let settled : AllWait now = c.commit_leaves_none_ready.ensures f.batch.items f.executor now
-    c.in-Ok.executed.items c.in-Ok.ensures.ok in
-    let forgotten : AreForgotten (place_in f.places) c.in_ok-ids.ids.items left =
-    subst (λ (ids : List Id). AreForgotten (place_in f.places) ids left) c.deref-2.ensures.value
-    (c.forget_places.ensures.gone, c.forget_places.ensures.apart) in (
-      subst₂ (λ (ps : List Place) (es : List Instance). AreHeld left
-          (shown now.done now.store left now.pending ps es f.next false))
-          (sym c.new-2.ensures.items) (sym c.new.ensures.items)
-          (held_now f.executor.done f.executor.store (place_in f.places) f.executor.pending
-          f.batch_places.items f.batch.items f.next f.is_open c.self.invariant.0
-          c.self.invariant.1 now c.in-Ok.executed.items c.in_ok-ids.ids.items
-          c.in_ok-ids.ensures.ids c.in-Ok.ensures.ok left settled forgotten),
-      ap length c.new-2.ensures.items ∙ sym (ap length c.new.ensures.items),
-    )
+    let settled : AllWait now = c.commit_leaves_none_ready.ensures f.held.batch.items f.executor
+    now c.in-Ok.executed.items c.in-Ok.ensures.ok in
+    let forgotten : AreForgotten (place_in f.held.places) c.in_ok-ids.ids.items left =
+    subst (λ (ids : List Id). AreForgotten (place_in f.held.places) ids left)
+    c.deref-2.ensures.value (c.forget_places.ensures.gone, c.forget_places.ensures.apart) in
+    newly_held now c.forget_places.new.places f.held.next c.new-held.result c.new-held.ensures
+    (held_now f.executor.done f.executor.store (place_in f.held.places) f.executor.pending
+    f.held.batch_places.items f.held.batch.items f.held.next f.held.is_open c.self.invariant.0
+    c.self.invariant.1 now c.in-Ok.executed.items c.in_ok-ids.ids.items
+    c.in_ok-ids.ensures.ids c.in-Ok.ensures.ok left settled forgotten)
 
 pub returns : goal.returns
 returns g c =
@@ -76,11 +72,11 @@ returns g c =
     let now = c.commit.new.self in
     let left = place_in c.forget_places.new.places in
     let executed = c.in-Ok.executed.items in
-    let settled : AllWait now = c.commit_leaves_none_ready.ensures f.batch.items f.executor now
+    let settled : AllWait now = c.commit_leaves_none_ready.ensures f.held.batch.items f.executor now
     executed c.in-Ok.ensures.ok in
-    let forgotten : AreForgotten (place_in f.places) c.in_ok-ids.ids.items left =
-    subst (λ (ids : List Id). AreForgotten (place_in f.places) ids left) c.deref-2.ensures.value
-    (c.forget_places.ensures.gone, c.forget_places.ensures.apart) in
+    let forgotten : AreForgotten (place_in f.held.places) c.in_ok-ids.ids.items left =
+    subst (λ (ids : List Id). AreForgotten (place_in f.held.places) ids left)
+    c.deref-2.ensures.value (c.forget_places.ensures.gone, c.forget_places.ensures.apart) in
     let pairs : zip c.deref-3.result.now c.deref-4.result.now ≡ executed =
     ap₂ (λ (xs : List Id) (rs : List Reply). zip xs rs)
     (c.deref-3.ensures.value ∙ c.in_ok-ids.ensures.ids)
@@ -98,10 +94,10 @@ returns g c =
     let text : c.in_ok-text.text.items ≡ batch_text came (length now.pending) executed =
     c.in_ok-text.ensures ∙ ap₂ (batch_text came) c.pending_len-waiting.ensures pairs in
     subst₂ (λ (v w : FollowerView). EndsBatch v w c.in_ok-text.text.items) c.self.view_is
-    (ap₂ (λ (ps : List Place) (es : List Instance).
-    shown now.done now.store left now.pending ps es f.next false)
-    (sym c.new-2.ensures.items) (sym c.new.ensures.items))
-    (ends f.executor.done f.executor.store (place_in f.places) f.executor.pending
-    f.batch_places.items f.batch.items f.next f.is_open c.self.invariant.0 c.self.invariant.1
+    (sym (newly_shown now c.forget_places.new.places f.held.next c.new-held.result
+    c.new-held.ensures))
+    (ends f.executor.done f.executor.store (place_in f.held.places) f.executor.pending
+    f.held.batch_places.items f.held.batch.items f.held.next f.held.is_open c.self.invariant.0
+    c.self.invariant.1
     now executed c.in_ok-ids.ids.items c.in_ok-ids.ensures.ids c.in-Ok.ensures.ok left settled
     forgotten came c.in_ok-text.text.items count text)

@@ -12,5 +12,5 @@ returns c =
       done = f.executor.done;
       store = f.executor.store;
       pending = m;
-    }) (sym (instances-pending (place_in f.places) f.executor.pending))
+    }) (sym (instances-pending (place_in f.held.places) f.executor.pending))
     ∙ ap executor_of c.self.view_is

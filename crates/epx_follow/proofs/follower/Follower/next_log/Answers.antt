@@ -6,8 +6,9 @@ use Rattle.epx_follow.proofs.follower.Follower.next_log.Goals as goal
 pub invariant_of-follower : goal.invariant_of-follower
 invariant_of-follower c =
     let f = c.follower.inside in (
-      held_next_log (place_in f.places)
-          (shown f.executor.done f.executor.store (place_in f.places) f.executor.pending
-          f.batch_places.items f.batch.items f.next f.is_open) c.follower.invariant.0,
+      held_next_log (place_in f.held.places)
+          (shown f.executor.done f.executor.store (place_in f.held.places) f.executor.pending
+          f.held.batch_places.items f.held.batch.items f.held.next f.held.is_open)
+          c.follower.invariant.0,
       c.follower.invariant.1,
     )
