@@ -9,8 +9,8 @@ use Rattle.epx_types.proofs.Common.{Contains-cons_cases}
 use Rattle.epx_types.specs.declared.op.Op.{Op}
 use Rattle.epx_apply.specs.declared.key_table.KeyLevels.{KeyLevels}
 use Rattle.epx_apply.specs.declared.key_table.TableAccess.{TableAccess}
-use Rattle.epx_apply.specs.inner.KeyTables.{no_levels, key_levels_at, IsLevelAbove, level_for}
-use Rattle.epx_apply.specs.inner.KeyTables.{raise}
+use Rattle.epx_apply.specs.KeyTables.{no_levels, key_levels_at, IsLevelAbove}
+use Rattle.epx_apply.specs.inner.LevelTables.{level_for, raise}
 
 -- ---- one more command
 

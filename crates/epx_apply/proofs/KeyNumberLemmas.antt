@@ -9,7 +9,7 @@ use Rattle.epx_types.specs.declared.op.Op.{Op}
 use Rattle.epx_types.proofs.lists.ListPositionLemmas.{slice_get-map}
 use Rattle.epx_apply.specs.declared.key_table.TableAccess.{TableAccess}
 use Rattle.epx_apply.specs.declared.key_table.KeyLevels.{KeyLevels}
-use Rattle.epx_apply.specs.inner.KeyTables.{key_at, no_levels, IsKeyTableOf}
+use Rattle.epx_apply.specs.KeyTables.{key_at, no_levels, IsKeyTableOf}
 use Rattle.epx_apply.proofs.KeyTableLemmas.{grow, access_known}
 
 abbrev pub texts_of : List (Bor (List ℕ)) → List (List ℕ)

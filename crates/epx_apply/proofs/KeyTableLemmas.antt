@@ -12,9 +12,11 @@ use Rattle.epx_types.proofs.Common.{Contains-from_rising_keys, accesses_of, touc
 use Rattle.epx_types.specs.declared.op.Op.{Op}
 use Rattle.epx_apply.specs.declared.key_table.KeyLevels.{KeyLevels}
 use Rattle.epx_apply.specs.declared.key_table.TableAccess.{TableAccess}
-use Rattle.epx_apply.specs.inner.KeyTables.{Table, no_levels, key_levels_at, key_at}
-use Rattle.epx_apply.specs.inner.KeyTables.{touched_in, written_in, IsLevelAbove, IsKeyTableOf}
-use Rattle.epx_apply.specs.inner.KeyTables.{AddsAccesses, level_for, raise, IsNextLevel}
+use Rattle.epx_apply.specs.KeyTables.{Table, no_levels, key_levels_at, key_at, touched_in}
+use Rattle.epx_apply.specs.KeyTables.{written_in, IsLevelAbove, IsKeyTableOf, IsLeastAbove}
+use Rattle.epx_apply.specs.KeyTables.{CollectsCommand, NotesCommand}
+use Rattle.epx_apply.specs.inner.LevelTables.{AddsAccesses, level_for, raise, IsLevelTableOf}
+use Rattle.epx_apply.specs.inner.LevelTables.{AddsCommand}
 use Rattle.epx_apply.proofs.AccessLemmas.{current-from_touched, touched-from_accesses}
 use Rattle.epx_apply.proofs.AccessLemmas.{current-from_written, written-from_accesses}
 use Rattle.epx_apply.proofs.AccessLemmas.{touched-from_written}
@@ -49,7 +51,6 @@ module _ (done : List (List Op × ℕ)) (current : List (List ℕ × Bool)) (t :
         accesses = t.accesses ++ record { key = x; writes = w } ∷ [];
       })
   access_known x k w low at = record {
-    small = is.small;
     known = is.known;
     no_repeats = is.no_repeats;
     key_levels = is.key_levels;
@@ -72,7 +73,6 @@ module _ (done : List (List Op × ℕ)) (current : List (List ℕ × Bool)) (t :
         accesses = t.accesses;
       })
   grow k fresh = record {
-    small = is.small;
     known = λ ops l q c h. Contains-append_left t.keys (k ∷ []) q (is.known ops l q c h);
     no_repeats = no_repeats;
     key_levels = length_push t.key_levels no_levels ∙ ap (λ n. n + 1) is.key_levels
@@ -304,7 +304,7 @@ module _ (done : List (List Op × ℕ)) (ops : List Op) (t : Table)
             ]
       ]
 
-  pub next : IsNextLevel done ops
+  pub next : IsLeastAbove done ops
       (fold (λ level a. max level (level_for t.key_levels a)) 0 t.accesses)
   next = record {
     above = above;
@@ -317,28 +317,13 @@ module _ (done : List (List Op × ℕ)) (ops : List Op) (t : Table)
     ];
   }
 
-  -- the level is at most the number of commands before
-  pub level_small : fold (λ level a. max level (level_for t.key_levels a)) 0 t.accesses
-      ≤ length done
-  level_small =
-      elim next.reached [
-        | inl none ↦ omega arith
-        | inr (o, l, d, meets, e) ↦ let low = is.small o l d in omega arith
-      ]
-
-  pub noted : (n : ℕ) (key_levels : List KeyLevels)
-      → n ≡ suc (fold (λ level a. max level (level_for t.key_levels a)) 0 t.accesses)
-      → key_levels ≡ fold (raise n) t.key_levels t.accesses
-      → IsKeyTableOf
-      (done ++ (ops, fold (λ level a. max level (level_for t.key_levels a)) 0 t.accesses) ∷ [])
-      [] (record { keys = t.keys; key_levels = key_levels; accesses = [] })
-  noted n key_levels is_n are_levels_above = record {
-    small = λ o l c. elim (Contains-push_cases done (ops, level') (o, l) c) [
-      | inl old ↦ let low = is.small o l old in omega (arith, length_push done (ops, level'))
-      | inr new ↦ let same : level' ≡ l = ap (λ (e : List Op × ℕ). e.1) new in
-          omega (arith, level_small, length_push done (ops, level'))
-    ];
-    known = λ o l k c h. elim (Contains-push_cases done (ops, level') (o, l) c) [
+  -- the command is done, with any number
+  pub noted : (number : ℕ) (key_levels : List KeyLevels)
+      → key_levels ≡ fold (raise (number + 1)) t.key_levels t.accesses
+      → IsKeyTableOf (done ++ (ops, number) ∷ []) []
+      (record { keys = t.keys; key_levels = key_levels; accesses = [] })
+  noted number key_levels are_levels_above = record {
+    known = λ o l k c h. elim (Contains-push_cases done (ops, number) (o, l) c) [
       | inl old ↦ is.known o l k old h
       | inr new ↦
           let adds_access = current-from_touched ops k
@@ -347,83 +332,102 @@ module _ (done : List (List Op × ℕ)) (ops : List Op) (t : Table)
           subst (Contains t.keys) a.2 (Contains-get_or t.keys a.0.key [] (is.within a.0 a.1))
     ];
     no_repeats = is.no_repeats;
-    key_levels = ap length are_levels_above ∙ length_raised n t.accesses t.key_levels
+    key_levels = ap length are_levels_above ∙ length_raised (number + 1) t.accesses t.key_levels
         ∙ is.key_levels;
     touchers = touchers;
     writers = writers;
     current_keys = refl;
     within = λ a h. absurd (Contains-nil a h);
   } where
-    level' : ℕ
-    level' = fold (λ level a. max level (level_for t.key_levels a)) 0 t.accesses
-
     touchers : (x : ℕ) → x < length t.keys
-        → IsLevelAbove touched_in (done ++ (ops, level') ∷ []) (key_at t.keys x)
+        → IsLevelAbove touched_in (done ++ (ops, number) ∷ []) (key_at t.keys x)
         (key_levels_at key_levels x).touchers
     touchers x low =
         let before = is.touchers x low in
         let at : (key_levels_at key_levels x).touchers
-        ≡ (key_levels_at (fold (raise n) t.key_levels t.accesses) x).touchers =
+        ≡ (key_levels_at (fold (raise (number + 1)) t.key_levels t.accesses) x).touchers =
         ap (λ (bs : List KeyLevels). (key_levels_at bs x).touchers) are_levels_above in
-        elim (touchers_raised n t.accesses t.key_levels x (omega (arith, is.key_levels))) [
+        elim (touchers_raised (number + 1) t.accesses t.key_levels x
+        (omega (arith, is.key_levels))) [
           | inl ((w, c), e) ↦
               let now : (key_levels_at key_levels x).touchers
-              ≡ max (key_levels_at t.key_levels x).touchers (suc level') =
-              at ∙ e ∙ ap (max (key_levels_at t.key_levels x).touchers) is_n in
-              subst (IsLevelAbove touched_in (done ++ (ops, level') ∷ []) (key_at t.keys x))
+              ≡ max (key_levels_at t.key_levels x).touchers (suc number) =
+              at ∙ e ∙ ap (max (key_levels_at t.key_levels x).touchers) (omega arith) in
+              subst (IsLevelAbove touched_in (done ++ (ops, number) ∷ []) (key_at t.keys x))
               (sym now)
-              (IsLevelAbove-raised touched_in done ops level' (key_at t.keys x)
+              (IsLevelAbove-raised touched_in done ops number (key_at t.keys x)
               (key_levels_at t.key_levels x).touchers before
               (touched-from_accesses ops (key_at t.keys x) w
               (current_of (record { key = x; writes = w }) c)))
           | inr (none, e) ↦
-              subst (IsLevelAbove touched_in (done ++ (ops, level') ∷ []) (key_at t.keys x))
+              subst (IsLevelAbove touched_in (done ++ (ops, number) ∷ []) (key_at t.keys x))
               (sym (at ∙ e))
-              (IsLevelAbove-kept touched_in done ops level' (key_at t.keys x)
+              (IsLevelAbove-kept touched_in done ops number (key_at t.keys x)
               (key_levels_at t.key_levels x).touchers before
               (λ h. let adds_access = current-from_touched ops (key_at t.keys x) h in
               none adds_access.0 (access_at x low adds_access.0 adds_access.1)))
         ]
 
     writers : (x : ℕ) → x < length t.keys
-        → IsLevelAbove written_in (done ++ (ops, level') ∷ []) (key_at t.keys x)
+        → IsLevelAbove written_in (done ++ (ops, number) ∷ []) (key_at t.keys x)
         (key_levels_at key_levels x).writers
     writers x low =
         let before = is.writers x low in
         let at : (key_levels_at key_levels x).writers
-        ≡ (key_levels_at (fold (raise n) t.key_levels t.accesses) x).writers =
+        ≡ (key_levels_at (fold (raise (number + 1)) t.key_levels t.accesses) x).writers =
         ap (λ (bs : List KeyLevels). (key_levels_at bs x).writers) are_levels_above in
-        elim (writers_raised n t.accesses t.key_levels x (omega (arith, is.key_levels))) [
+        elim (writers_raised (number + 1) t.accesses t.key_levels x
+        (omega (arith, is.key_levels))) [
           | inl (c, e) ↦
               let now : (key_levels_at key_levels x).writers
-              ≡ max (key_levels_at t.key_levels x).writers (suc level') =
-              at ∙ e ∙ ap (max (key_levels_at t.key_levels x).writers) is_n in
-              subst (IsLevelAbove written_in (done ++ (ops, level') ∷ []) (key_at t.keys x))
+              ≡ max (key_levels_at t.key_levels x).writers (suc number) =
+              at ∙ e ∙ ap (max (key_levels_at t.key_levels x).writers) (omega arith) in
+              subst (IsLevelAbove written_in (done ++ (ops, number) ∷ []) (key_at t.keys x))
               (sym now)
-              (IsLevelAbove-raised written_in done ops level' (key_at t.keys x)
+              (IsLevelAbove-raised written_in done ops number (key_at t.keys x)
               (key_levels_at t.key_levels x).writers before
               (written-from_accesses ops (key_at t.keys x)
               (current_of (record { key = x; writes = true }) c)))
           | inr (none, e) ↦
-              subst (IsLevelAbove written_in (done ++ (ops, level') ∷ []) (key_at t.keys x))
+              subst (IsLevelAbove written_in (done ++ (ops, number) ∷ []) (key_at t.keys x))
               (sym (at ∙ e))
-              (IsLevelAbove-kept written_in done ops level' (key_at t.keys x)
+              (IsLevelAbove-kept written_in done ops number (key_at t.keys x)
               (key_levels_at t.key_levels x).writers before
               (λ h. none
               (access_at x low true (current-from_written ops (key_at t.keys x) h))))
         ]
 
-  pub added_by : (level : ℕ) (key_levels : List KeyLevels)
-      → level ≡ fold (λ level a. max level (level_for t.key_levels a)) 0 t.accesses
-      → key_levels ≡ fold (raise (level + 1)) t.key_levels t.accesses
-      → IsNextLevel done ops level × IsKeyTableOf (done ++ (ops, level) ∷ []) []
-      (record { keys = t.keys; key_levels = key_levels; accesses = [] })
-  added_by level key_levels is_level are_levels_above = (
-    subst (IsNextLevel done ops) (sym is_level) next,
-    subst (λ (l : ℕ). IsKeyTableOf (done ++ (ops, l) ∷ []) []
-        (record { keys = t.keys; key_levels = key_levels; accesses = [] })) (sym is_level)
-        (noted (level + 1) key_levels (omega (arith, is_level)) are_levels_above),
-  )
+-- ---- levels, which are below the number of commands
+
+pub none_small : (t : Table) → IsKeyTableOf [] [] t → IsLevelTableOf [] t
+none_small t is = record { small = λ ops l c. absurd (Contains-nil (ops, l) c); table = is }
+
+pub level_small : (done : List (List Op × ℕ)) (ops : List Op) (t : Table) (level : ℕ)
+    → IsLevelTableOf done t → IsLeastAbove done ops level → level ≤ length done
+level_small done ops t level is next =
+    elim next.reached [
+      | inl none ↦ omega arith
+      | inr (o, l, d, meets, e) ↦ let low = is.small o l d in omega arith
+    ]
+
+pub added_by : (ops : List Op) (level : ℕ) (a b c : Table) → CollectsCommand ops level a b
+    → NotesCommand level b c → AddsCommand ops level a c
+added_by ops level a b c collects notes done is =
+    let found = collects done is.table in (
+      found.0,
+      record {
+        small = λ o l h. elim (Contains-push_cases done (ops, level) (o, l) h) [
+          | inl old ↦ let low = is.small o l old in omega (arith, length_push done (ops, level))
+          | inr new ↦ let same : level ≡ l = ap (λ (e : List Op × ℕ). e.1) new in
+              omega (
+                arith,
+                level_small done ops a level is found.0,
+                length_push done (ops, level),
+              )
+        ];
+        table = notes done ops found.1;
+      },
+    )
 
 -- ---- adding the keys of a command, operation by operation
 

@@ -1,1 +1,2 @@
+pub mod KeyTables
 pub mod inner

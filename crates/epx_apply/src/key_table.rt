@@ -1,9 +1,11 @@
-//! For each key, the levels of the commands so far that touch it and that write it.
+//! For each key, the levels of the commands so far that touch it and that write it. Callers may
+//! note other numbers in place of levels.
 ghost use Rattle.std.specs.Prelude.{◌≡◌, ◌<◌, ◌^◌, ◌+◌, ℕ, List, [], ◌∷◌, length, max, flat_map};
 ghost use Rattle.std.specs.Prelude.{fold, All, IfOk, OnOk};
 ghost use Rattle.epx_types.specs.declared.op.Op.{Op};
-ghost use Rattle.epx_apply.specs.inner.KeyTables.{IsKeyTableOf, AddsAccesses, AddsCommand};
-ghost use Rattle.epx_apply.specs.inner.KeyTables.{level_for, raise};
+ghost use Rattle.epx_apply.specs.KeyTables.{IsKeyTableOf, CollectsCommand, NotesCommand};
+ghost use Rattle.epx_apply.specs.inner.LevelTables.{IsLevelTableOf, AddsAccesses, AddsCommand};
+ghost use Rattle.epx_apply.specs.inner.LevelTables.{level_for, raise};
 ghost use Rattle.epx_types.specs.CommandKeys.{accesses_of};
 
 use epx_seed::Seed;
@@ -32,7 +34,7 @@ pub(crate) struct TableAccess {
 /// The keys of the commands so far, numbered in the order in which they came, with the levels of
 /// each.
 #[derive(Debug, Drop)]
-pub(crate) struct KeyTable<'a> {
+pub struct KeyTable<'a> {
     keys: IndexSet<&'a str, Seed>,
     key_levels: Vec<KeyLevels>,
     /// The keys of the current command.
@@ -41,7 +43,7 @@ pub(crate) struct KeyTable<'a> {
 
 impl<'a> Model for KeyTable<'a> {
     ghost use Rattle.std.specs.Prelude.{map};
-    ghost use Rattle.epx_apply.specs.inner.KeyTables.{Table};
+    ghost use Rattle.epx_apply.specs.KeyTables.{Table};
 
     ghost Value = { Table };
 
@@ -90,7 +92,7 @@ fn raise_levels(key_levels: &mut [KeyLevels], accesses: &[TableAccess], least: u
 
 impl<'a> KeyTable<'a> {
     /// Returns a table without keys that hashes with the seed.
-    pub(crate) fn new(alloc: Global, seed: Seed) -> KeyTable<'a>
+    pub fn new(alloc: Global, seed: Seed) -> KeyTable<'a>
         ensures { IsKeyTableOf [] [] result }
     {
         KeyTable {
@@ -130,19 +132,38 @@ impl<'a> KeyTable<'a> {
         }
     }
 
-    /// Returns the level of the next command and adds the command to the table. All its keys are
-    /// looked up before any level is raised, so it does not conflict with itself.
-    pub(crate) fn push_command(&mut self, ops: &'a [Op]) -> Result<usize, Memory>
-        requires { (done : List (List Op × ℕ)) × IsKeyTableOf done [] self.old
-            × (length done + 1 < 2 ^ 64) }
-        ensures { IfOk result (λ level. AddsCommand ops.now level self.old self.new) }
+    /// Collects the keys of the next command. Returns one above the greatest number of an earlier
+    /// command that conflicts with it, or 0 if there is none. `note` notes the command.
+    pub fn least_above(&mut self, ops: &'a [Op]) -> Result<usize, Memory>
+        requires { (done : List (List Op × ℕ)) × IsKeyTableOf done [] self.old }
+        ensures { IfOk result (λ n. CollectsCommand ops.now n self.old self.new) }
     {
         for op in ops {
             self.add_accesses(op)?;
         }
-        let level = least_level(&self.key_levels, &self.accesses);
-        raise_levels(&mut self.key_levels, &self.accesses, level + 1);
+        Ok(least_level(&self.key_levels, &self.accesses))
+    }
+
+    /// Adds the command whose keys are collected to the table, with this number.
+    pub fn note(&mut self, number: usize)
+        requires collected { (done : List (List Op × ℕ)) × (ops : List Op)
+            × IsKeyTableOf done (flat_map accesses_of ops) self.old }
+        requires fits { number + 1 < 2 ^ 64 }
+        ensures { NotesCommand number self.old self.new }
+    {
+        raise_levels(&mut self.key_levels, &self.accesses, number + 1);
         self.accesses.clear();
+    }
+
+    /// Returns the level of the next command and adds the command to the table. All its keys are
+    /// looked up before any level is raised, so it does not conflict with itself.
+    pub(crate) fn push_command(&mut self, ops: &'a [Op]) -> Result<usize, Memory>
+        requires { (done : List (List Op × ℕ)) × IsLevelTableOf done self.old
+            × (length done + 1 < 2 ^ 64) }
+        ensures { IfOk result (λ level. AddsCommand ops.now level self.old self.new) }
+    {
+        let level = self.least_above(ops)?;
+        self.note(level);
         Ok(level)
     }
 }

@@ -2,10 +2,11 @@
 #![tactic(auto)]
 
 mod key_seed;
-mod key_table;
+pub mod key_table;
 pub mod level_map;
 mod one_by_one;
 pub mod run;
 
+pub use key_table::KeyTable;
 pub use level_map::{LevelMap, levels};
 pub use run::{run_from, run_order};

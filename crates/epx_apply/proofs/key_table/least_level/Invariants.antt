@@ -1,5 +1,5 @@
 use Rattle.std.proofs.Common.{◌≡◌, max, take, fold}
-use Rattle.epx_apply.specs.inner.KeyTables.{level_for}
+use Rattle.epx_apply.specs.inner.LevelTables.{level_for}
 use Rattle.epx_apply.proofs.key_table.least_level.Given as goal
 
 abbrev pub invariant-loop-access : goal.invariant-loop-access

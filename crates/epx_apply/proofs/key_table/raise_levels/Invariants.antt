@@ -1,5 +1,5 @@
 use Rattle.std.proofs.Common.{◌≡◌, length, take, fold}
-use Rattle.epx_apply.specs.inner.KeyTables.{raise}
+use Rattle.epx_apply.specs.inner.LevelTables.{raise}
 use Rattle.epx_apply.proofs.key_table.raise_levels.Given as goal
 
 abbrev pub invariant-loop-access : goal.invariant-loop-access

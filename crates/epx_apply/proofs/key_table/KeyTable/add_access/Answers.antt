@@ -1,6 +1,6 @@
 use Rattle.std.proofs.Common.{◌≡◌, ◌++◌, ◌∷◌, [], true, false, sym, subst, ◌∙◌}
 use Rattle.epx_types.proofs.Common.{list_any}
-use Rattle.epx_apply.specs.inner.KeyTables.{Table, IsKeyTableOf}
+use Rattle.epx_apply.specs.KeyTables.{Table, IsKeyTableOf}
 use Rattle.epx_apply.proofs.KeyNumberLemmas.{texts_of, same_text, not_is, current_new}
 use Rattle.epx_apply.proofs.KeyNumberLemmas.{current_known}
 use Rattle.epx_apply.proofs.key_table.KeyTable.add_access.Goals as goal

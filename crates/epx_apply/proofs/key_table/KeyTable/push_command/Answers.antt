@@ -1,83 +1,21 @@
-use Rattle.std.proofs.Common.{◌∙◌, ◌+◌, max, List, map, fold, sym, ap₂, subst, flat_map, arith}
-use Rattle.epx_types.proofs.Common.{with_items_is, accesses_of}
-use Rattle.epx_apply.specs.declared.key_table.TableAccess.{TableAccess}
-use Rattle.epx_apply.specs.declared.key_table.KeyLevels.{KeyLevels}
-use Rattle.epx_apply.specs.inner.KeyTables.{Table, IsKeyTableOf, level_for, raise}
-use Rattle.epx_apply.proofs.KeyTableLemmas.{AddsAccesses-nil, adds_more_accesses}
-use Rattle.epx_apply.proofs.KeyTableLemmas.{adds_all_accesses, keys_within, level_small, added_by}
+use Rattle.std.proofs.Common.{arith}
+use Rattle.epx_apply.proofs.KeyTableLemmas.{level_small, added_by}
 use Rattle.epx_apply.proofs.key_table.KeyTable.push_command.Goals as goal
 
-pub loop-op-init : goal.loop-op-init
-loop-op-init c = AddsAccesses-nil c.args.self.now
+pub note-requires-clause-collected : goal.note-requires-clause-collected
+note-requires-clause-collected c = (
+  c.requires.0,
+  c.args.ops.now,
+  (c.in_ok-level.ensures c.requires.0 c.requires.1.table).1,
+)
 
-pub loop-op-preserved : goal.loop-op-preserved
-loop-op-preserved c =
-    adds_more_accesses c.args.ops.now c.loop-op.op-index c.op-item.result c.args.self.now
-    c.loop-op.self c.add_accesses.new.self c.loop-op-test.true c.op-item.is c.loop-op.invariant
-    c.in_ok-add_accesses.ensures
-
-pub least_level-level-requires : goal.least_level-level-requires
-least_level-level-requires c =
-    let t : Table = record {
-      keys = map (λ k. k.now) c.self.inside.keys.keys;
-      key_levels = c.self.inside.key_levels.items;
-      accesses = c.self.inside.accesses.items;
-    } in
-    let is = subst (IsKeyTableOf c.requires.0 (flat_map accesses_of c.args.ops.now))
-    (sym c.self.view_is) (adds_all_accesses c.args.ops.now c.loop-op.op-index c.args.self.now
-    c.loop-op.self c.loop-op-test.false c.loop-op.invariant c.requires.0 c.requires.1) in
-    rw (c.deref.ensures.value, c.deref-2.ensures.value)
-    (keys_within c.requires.0 (flat_map accesses_of c.args.ops.now) t is)
-
-pub overflow_add-level : goal.overflow_add-level
-overflow_add-level c =
-    let t : Table = record {
-      keys = map (λ k. k.now) c.self.inside.keys.keys;
-      key_levels = c.self.inside.key_levels.items;
-      accesses = c.self.inside.accesses.items;
-    } in
-    let is = subst (IsKeyTableOf c.requires.0 (flat_map accesses_of c.args.ops.now))
-    (sym c.self.view_is) (adds_all_accesses c.args.ops.now c.loop-op.op-index c.args.self.now
-    c.loop-op.self c.loop-op-test.false c.loop-op.invariant c.requires.0 c.requires.1) in
-    let level = c.least_level-level.ensures ∙ ap₂
-    (λ (key_levels : List KeyLevels) (accesses : List TableAccess).
-    fold (λ level a. max level (level_for key_levels a)) 0 accesses) c.deref.ensures.value
-    c.deref-2.ensures.value in
-    omega (arith, level, level_small c.requires.0 c.args.ops.now t is, c.requires.2)
-
-pub raise_levels-requires : goal.raise_levels-requires
-raise_levels-requires c =
-    let t : Table = record {
-      keys = map (λ k. k.now) c.self.inside.keys.keys;
-      key_levels = c.self.inside.key_levels.items;
-      accesses = c.self.inside.accesses.items;
-    } in
-    let is = subst (IsKeyTableOf c.requires.0 (flat_map accesses_of c.args.ops.now))
-    (sym c.self.view_is) (adds_all_accesses c.args.ops.now c.loop-op.op-index c.args.self.now
-    c.loop-op.self c.loop-op-test.false c.loop-op.invariant c.requires.0 c.requires.1) in
-    rw (c.deref_mut.ensures.value, c.deref-3.ensures.value)
-    (keys_within c.requires.0 (flat_map accesses_of c.args.ops.now) t is)
+pub note-requires-clause-fits : goal.note-requires-clause-fits
+note-requires-clause-fits c =
+    let next = (c.in_ok-level.ensures c.requires.0 c.requires.1.table).0 in
+    let low = level_small c.requires.0 c.args.ops.now c.args.self.now c.in_ok-level.level
+    c.requires.1 next in
+    omega (arith, low, c.requires.2)
 
 pub returns : goal.returns
-returns c done before =
-    let t : Table = record {
-      keys = map (λ k. k.now) c.self.inside.keys.keys;
-      key_levels = c.self.inside.key_levels.items;
-      accesses = c.self.inside.accesses.items;
-    } in
-    let is = subst (IsKeyTableOf done (flat_map accesses_of c.args.ops.now)) (sym c.self.view_is)
-    (adds_all_accesses c.args.ops.now c.loop-op.op-index c.args.self.now c.loop-op.self
-    c.loop-op-test.false c.loop-op.invariant done before) in
-    let level = c.least_level-level.ensures ∙ ap₂
-    (λ (key_levels : List KeyLevels) (accesses : List TableAccess).
-    fold (λ level a. max level (level_for key_levels a)) 0 accesses) c.deref.ensures.value
-    c.deref-2.ensures.value in
-    let key_levels = c.raise_levels.ensures ∙ ap₂
-    (λ (key_levels : List KeyLevels) (accesses : List TableAccess).
-    fold (raise (c.least_level-level.result + 1)) key_levels accesses)
-    c.deref_mut.ensures.value c.deref-3.ensures.value in
-    let written = with_items_is c.self.inside.key_levels c.raise_levels.new.key_levels
-    (omega (arith, c.raise_levels.auto.key_levels, c.deref_mut.ensures.len)) in
-    rw (written, c.clear.ensures.items)
-    (added_by done c.args.ops.now t is c.least_level-level.result c.raise_levels.new.key_levels
-    level key_levels)
+returns c = added_by c.args.ops.now c.in_ok-level.level c.args.self.now c.least_above.new.self
+    c.note.new.self c.in_ok-level.ensures c.note.ensures

@@ -1,7 +1,7 @@
 use Rattle.std.proofs.Common.{take, flat_map}
 use Rattle.epx_types.proofs.Common.{accesses_of}
-use Rattle.epx_apply.specs.inner.KeyTables.{AddsAccesses}
-use Rattle.epx_apply.proofs.key_table.KeyTable.push_command.Given as goal
+use Rattle.epx_apply.specs.inner.LevelTables.{AddsAccesses}
+use Rattle.epx_apply.proofs.key_table.KeyTable.least_above.Given as goal
 
 -- the keys of the operations so far are added
 abbrev pub invariant-loop-op : goal.invariant-loop-op

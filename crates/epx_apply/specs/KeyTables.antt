@@ -1,8 +1,9 @@
--- Tables with the levels of the commands so far that touch each key and that write it.
-use Rattle.std.specs.Prelude.{◌≡◌, ◌⊎◌, ℕ, suc, max, ◌<◌, Bool, List, [], ◌∷◌, ◌++◌, if◌then◌else◌}
-use Rattle.std.specs.Prelude.{length, map, flat_map, slice_index_or, slice_set, Contains}
+-- Tables with the numbers of the commands so far that touch each key and that write it. A number
+-- is a level, or any other that the caller notes.
+use Rattle.std.specs.Prelude.{◌≡◌, ◌⊎◌, ℕ, suc, ◌<◌, Bool, List, [], ◌∷◌, ◌++◌, length, map}
+use Rattle.std.specs.Prelude.{flat_map, slice_index_or, Contains}
 use Rattle.epx_types.specs.declared.op.Op.{Op}
-use Rattle.epx_types.specs.CommandKeys.{touched_by, written_by}
+use Rattle.epx_types.specs.CommandKeys.{accesses_of, touched_by, written_by}
 use Rattle.epx_types.specs.Conflicts.{Conflict}
 use Rattle.epx_apply.specs.declared.key_table.KeyLevels.{KeyLevels}
 use Rattle.epx_apply.specs.declared.key_table.TableAccess.{TableAccess}
@@ -28,18 +29,17 @@ touched_in ops = flat_map touched_by ops
 abbrev pub written_in : List Op → List (List ℕ)
 written_in ops = flat_map written_by ops
 
--- n is one above the greatest level of the commands that have the key k, or 0 if none has it
+-- n is one above the greatest number of the commands that have the key k, or 0 if none has it
 pub record IsLevelAbove (keys_of : List Op → List (List ℕ)) (done : List (List Op × ℕ))
     (k : List ℕ) (n : ℕ) : Type 0 where
   pub above : (ops : List Op) (l : ℕ) → Contains done (ops, l) → Contains (keys_of ops) k → l < n
   pub reached : (n ≡ 0) ⊎ ((ops : List Op) × (l : ℕ) × Contains done (ops, l)
       × Contains (keys_of ops) k × (n ≡ suc l))
 
--- t is the table of the done commands with their levels, and of the keys of the current command so
--- far
+-- t is the table of the done commands with their numbers, and of the keys of the current command
+-- so far
 pub record IsKeyTableOf (done : List (List Op × ℕ)) (current : List (List ℕ × Bool))
     (t : Table) : Type 0 where
-  pub small : (ops : List Op) (l : ℕ) → Contains done (ops, l) → l < length done
   pub known : (ops : List Op) (l : ℕ) (k : List ℕ) → Contains done (ops, l)
       → Contains (touched_in ops) k → Contains t.keys k
   pub no_repeats : (x y : ℕ) → x < length t.keys → y < length t.keys
@@ -52,34 +52,22 @@ pub record IsKeyTableOf (done : List (List Op × ℕ)) (current : List (List ℕ
   pub current_keys : map (λ a. (key_at t.keys a.key, a.writes)) t.accesses ≡ current
   pub within : (a : TableAccess) → Contains t.accesses a → a.key < length t.keys
 
--- the new table has these further accesses of the current command
-abbrev pub AddsAccesses : List (List ℕ × Bool) → Table → Table → Type 0
-AddsAccesses more old new = (done : List (List Op × ℕ)) (current : List (List ℕ × Bool))
-    → IsKeyTableOf done current old → IsKeyTableOf done (current ++ more) new
-
--- the least level that one access allows
-abbrev pub level_for : List KeyLevels → TableAccess → ℕ
-level_for key_levels a = if a.writes then (key_levels_at key_levels a.key).touchers else
-    (key_levels_at key_levels a.key).writers
-
--- the levels of the key of an access, raised to at least n
-abbrev pub raise : ℕ → List KeyLevels → TableAccess → List KeyLevels
-raise n key_levels a = slice_set key_levels a.key (record {
-  writers = if a.writes then max (key_levels_at key_levels a.key).writers n else
-      (key_levels_at key_levels a.key).writers;
-  touchers = max (key_levels_at key_levels a.key).touchers n;
-})
-
--- the level of the command after those done: the least one above each command that conflicts with
--- it
-pub record IsNextLevel (done : List (List Op × ℕ)) (ops : List Op) (level : ℕ) : Type 0 where
+-- n is one above the greatest number of the done commands that conflict with this one, or 0 if
+-- there is none
+pub record IsLeastAbove (done : List (List Op × ℕ)) (ops : List Op) (n : ℕ) : Type 0 where
   pub above : (earlier : List Op) (l : ℕ) → Contains done (earlier, l) → Conflict earlier ops
-      → l < level
-  pub reached : (level ≡ 0)
+      → l < n
+  pub reached : (n ≡ 0)
       ⊎ ((earlier : List Op) × (l : ℕ) × Contains done (earlier, l) × Conflict earlier ops
-      × (level ≡ suc l))
+      × (n ≡ suc l))
 
--- one more command, with its level
-abbrev pub AddsCommand : List Op → ℕ → Table → Table → Type 0
-AddsCommand ops level old new = (done : List (List Op × ℕ)) → IsKeyTableOf done [] old
-    → IsNextLevel done ops level × IsKeyTableOf (done ++ (ops, level) ∷ []) [] new
+-- the new table has the keys of this command as the current one, for which n is the least number
+abbrev pub CollectsCommand : List Op → ℕ → Table → Table → Type 0
+CollectsCommand ops n old new = (done : List (List Op × ℕ)) → IsKeyTableOf done [] old
+    → IsLeastAbove done ops n × IsKeyTableOf done (flat_map accesses_of ops) new
+
+-- the current command is done in the new table, with this number
+abbrev pub NotesCommand : ℕ → Table → Table → Type 0
+NotesCommand number old new = (done : List (List Op × ℕ)) (ops : List Op)
+    → IsKeyTableOf done (flat_map accesses_of ops) old
+    → IsKeyTableOf (done ++ (ops, number) ∷ []) [] new
