@@ -100,10 +100,3 @@ pub ends_with : {T : Type 0} (P : T → Type 0) (Q : Fault → Type 0) (done : R
 ends_with P Q (Ok x) fault is why = absurd (cc is)
 ends_with P Q (Err other) fault is why =
     let same : other ≡ fault = cc is in subst Q (sym same) why
-
--- a call that ends as another one, of which more is known
-pub ends_as : {T : Type 0} {P P2 : T → Type 0} {Q Q2 : Fault → Type 0} (done : Result T Fault)
-    → ((x : T) → P x → P2 x) → ((fault : Fault) → Q fault → Q2 fault)
-    → MatchResult done P Q → MatchResult done P2 Q2
-ends_as (Ok x) well ill h = well x h
-ends_as (Err fault) well ill h = ill fault h

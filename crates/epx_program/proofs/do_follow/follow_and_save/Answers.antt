@@ -1,11 +1,12 @@
 use Rattle.std.proofs.Common.{◌∙◌, inl, inr, Err, Some, ap, refl, rules}
+use Rattle.epx_types.proofs.Common.{MatchResult-weaker}
 use Rattle.epx_program.specs.Calls.{paths_of}
 use Rattle.epx_program.specs.FollowEndings.{FollowsToEnds, StopsBefore, state_of}
 use Rattle.epx_program.specs.FollowStops.{state_number}
 use Rattle.epx_program.specs.Inputs.{text_relation}
 use Rattle.epx_program.specs.Saving.{save_relation}
 use Rattle.epx_program.specs.inner.Follows.{RefusesStart, StartsAt}
-use Rattle.epx_program.proofs.FollowEndingLemmas.{ends_as, ends_with, follows_to_ends}
+use Rattle.epx_program.proofs.FollowEndingLemmas.{ends_with, follows_to_ends}
 use Rattle.epx_program.proofs.FollowEndingLemmas.{refused_at_paths, stops_at_paths}
 use Rattle.epx_program.proofs.OutputLemmas.{contents_unchanged}
 use Rattle.epx_program.proofs.StartLemmas.{refused_unwritten}
@@ -87,5 +88,5 @@ returns-clause-ends g c =
     let ends : FollowsToEnds (text_relation opening D opener E c.args.input) options paths last was
     now = follows_to_ends opening D opener E c.args.input options paths was now left start last
     starts c.in_ok-last.ensures.followed in
-    ends_as c.save_state-saved.result (λ _ saved. (last, ends, saved))
-    (λ fault lost. inr (last, ends, lost)) c.save_state-saved.ensures
+    MatchResult-weaker c.save_state-saved.result c.save_state-saved.ensures
+    (λ _ saved. (last, ends, saved)) (λ fault lost. inr (last, ends, lost))
