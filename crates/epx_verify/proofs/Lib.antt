@@ -1,0 +1,6 @@
+mod SaidValueLemmas
+mod SaidReadingLemmas
+mod WrittenSaidLemmas
+mod DifferenceLemmas
+mod DifferenceLineLemmas
+mod RoundTripLemmas
