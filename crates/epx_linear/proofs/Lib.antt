@@ -1,0 +1,9 @@
+pub mod LatestLemmas
+pub mod PositionLemmas
+pub mod RealTimeLemmas
+pub mod SpanLemmas
+pub mod RankLemmas
+pub mod PassLemmas
+pub mod FoundLemmas
+pub mod AnswerLemmas
+pub mod LinearLemmas

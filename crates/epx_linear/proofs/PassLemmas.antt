@@ -1,0 +1,193 @@
+-- The pass over the commands: what is found at each position.
+use Rattle.std.proofs.Common.{◌≡◌, ◌⊎◌, inl, inr, ℕ, zero, suc, max, ◌+◌, ◌-◌, ◌<◌, ◌≤◌, List, []}
+use Rattle.std.proofs.Common.{◌∷◌, ◌++◌, length, Option, Some, None, slice_get}
+use Rattle.std.proofs.Common.{slice_index_or, refl, sym, ap, subst, ◌∙◌, arith, MatchOption}
+use Rattle.epx_types.proofs.Common.{cases_lt, length_push, get_or_append_left, get_or_push}
+use Rattle.epx_types.specs.declared.id.Id.{Id}
+use Rattle.epx_types.specs.declared.op.Op.{Op}
+use Rattle.epx_apply.specs.KeyTables.{Table, IsKeyTableOf, IsLeastAbove}
+use Rattle.epx_linear.specs.declared.client_call.ClientCall.{ClientCall}
+use Rattle.epx_linear.specs.declared.spans.Span.{Span}
+use Rattle.epx_linear.specs.ClientCalls.{IsHistory, IsInvokedUpTo, calls_in}
+use Rattle.epx_linear.specs.LateCalls.{IsFoundLate, AreFoundLate}
+use Rattle.epx_linear.specs.inner.Spans.{id_of_span, times_of_call, times_of_span}
+use Rattle.epx_linear.specs.inner.Spans.{AreSpansOf, IsLateRank}
+use Rattle.epx_linear.proofs.LatestLemmas.{IsGreatest, HaveGreatest, next_greatest}
+use Rattle.epx_linear.proofs.LatestLemmas.{one_more_greatest}
+use Rattle.epx_linear.proofs.RankLemmas.{own_rank, rank_of_call, call_of_rank, rank_up_to}
+use Rattle.epx_linear.proofs.RankLemmas.{calls_up_to}
+
+one_span : (spans : List Span) (r q : ℕ) (a b : Span) → suc r ≡ suc q
+    → slice_get spans r ≡ Some a → slice_get spans q ≡ Some b → a ≡ b
+one_span spans r q a b e at to =
+    let place : r ≡ q = omega (arith, e) in
+    let one : Some a ≡ Some b = sym at ∙ ap (slice_get spans) place ∙ to in
+    cc one
+
+module _ (commands : List (List Op)) (ids : List Id) (h : List ClientCall)
+    (history : IsHistory h) (spans : List Span) (are : AreSpansOf h spans) (j m : ℕ)
+    (is : IsGreatest commands (own_rank spans ids) j m) where
+  abbrev calls : List (Option ClientCall)
+  calls = calls_in h ids
+
+  abbrev own : ℕ → ℕ
+  own i = own_rank spans ids i
+
+  late_found : (x : Id) → IsLateRank spans (own j) m x → IsFoundLate commands calls j (Some x)
+  late_found x (a', b', (r, at_r, this), (q, at_q, last), (t, returned, less), named) =
+      let a = call_of_rank h history spans are ids j r at_r in
+      let from = is.reached in
+      let b = call_of_rank h history spans are ids from.0 q (from.2 ∙ at_q) in
+      let same_a : a.1 ≡ a' = one_span spans r r a.1 a' refl a.3 this in
+      let same_b : b.1 ≡ b' = one_span spans q q b.1 b' refl b.3 last in
+      let times_a : times_of_call a.0 ≡ times_of_span a' = a.4 ∙ ap times_of_span same_a in
+      let times_b : times_of_call b.0 ≡ times_of_span b' = b.4 ∙ ap times_of_span same_b in
+      let invoked : b.0.invoked ≡ b'.invoked =
+      ap (λ (u : ℕ × (Id × Option ℕ)). u.0) times_b in (
+        a.0,
+        b.0,
+        a.2,
+        record {
+          among = (from.0, from.1, b.2);
+          latest = λ k c up has.
+              let s = rank_of_call h history spans are ids k c has in
+              let low = is.above k up in
+              calls_up_to c b.0 s.0 b' s.2 times_b
+              (rank_up_to h history spans are ids s.1.0 q s.0 b'
+              (omega (arith, low, s.1.1, at_q)) s.1.2 last);
+        },
+        (
+          t,
+          ap (λ (u : ℕ × (Id × Option ℕ)). u.1.1) times_a ∙ returned,
+          omega (arith, less, invoked),
+        ),
+        ap (λ (u : ℕ × (Id × Option ℕ)). u.1.0) times_b ∙ named,
+      )
+
+  none_found : ((x : Id) → ¬ IsLateRank spans (own j) m x) → IsFoundLate commands calls j None
+  none_found none i (a, b, at_j, at_i, up, (t, returned, less)) =
+      let s = rank_of_call h history spans are ids j a at_j in
+      let p = rank_of_call h history spans are ids i b at_i in
+      let from = is.reached in
+      let low = is.above i up in
+      let q : (q : ℕ) × (m ≡ suc q) = above_zero m (omega (arith, low, p.1.1)) in
+      let last = call_of_rank h history spans are ids from.0 q.0 (from.2 ∙ q.1) in
+      let up_to : IsInvokedUpTo b last.0 =
+      calls_up_to b last.0 p.0 last.1 p.2 last.4
+      (rank_up_to h history spans are ids p.1.0 q.0 p.0 last.1
+      (omega (arith, low, p.1.1, q.1)) p.1.2 last.3) in
+      let invoked : last.0.invoked ≡ last.1.invoked =
+      ap (λ (u : ℕ × (Id × Option ℕ)). u.0) last.4 in
+      let later : b.invoked ≤ last.0.invoked = elim up_to [
+        | inl more ↦ omega (arith, more)
+        | inr tied ↦ omega (arith, tied.0)
+      ] in
+      none (id_of_span last.1) (
+        s.0,
+        last.1,
+        s.1,
+        (q.0, q.1, last.3),
+        (
+          t,
+          sym (ap (λ (u : ℕ × (Id × Option ℕ)). u.1.1) s.2) ∙ returned,
+          omega (arith, less, later, invoked),
+        ),
+        refl,
+      )
+    where
+      above_zero : (k : ℕ) → 0 < k → (q : ℕ) × (k ≡ suc q)
+      above_zero zero less = absurd (omega (arith, less))
+      above_zero (suc q) less = (q, refl)
+
+  pub found_at : (o : Option Id) → MatchOption o ((x : Id) → ¬ IsLateRank spans (own j) m x)
+      (IsLateRank spans (own j) m) → IsFoundLate commands calls j o
+  found_at None none = none_found none
+  found_at (Some x) late = late_found x late
+
+-- ---- the positions so far
+
+pub record HaveFound (commands : List (List Op)) (ids : List Id) (spans : List Span) (i : ℕ)
+    (table : Table) (found : List (Option Id)) : Type 0 where
+  pub done : List (List Op × ℕ)
+  pub count : length done ≡ i
+  pub table_of : IsKeyTableOf done [] table
+  pub greatest : HaveGreatest commands (own_rank spans ids) done
+  pub whole : length found ≡ i
+  pub each : (h : List ClientCall) → IsHistory h → AreSpansOf h spans → (j : ℕ) → j < i
+      → IsFoundLate commands (calls_in h ids) j (slice_index_or found j None)
+
+pub none_yet : (commands : List (List Op)) (ids : List Id) (spans : List Span) (table : Table)
+    (found : List (Option Id)) → IsKeyTableOf [] [] table → found ≡ []
+    → HaveFound commands ids spans 0 table found
+none_yet commands ids spans table found is none = record {
+  done = [];
+  count = refl;
+  table_of = is;
+  greatest = λ j ops m e. absurd (cc e);
+  whole = ap length none;
+  each = λ h history are j low. absurd (omega (arith, low));
+}
+
+module _ (commands : List (List Op)) (ids : List Id) (spans : List Span) (i : ℕ) (table : Table)
+    (found : List (Option Id)) (is : HaveFound commands ids spans i table found) (ops : List Op)
+    (at : ops ≡ slice_index_or commands i []) (above own m : ℕ)
+    (least : IsLeastAbove is.done ops above) (is_own : own ≡ own_rank spans ids i)
+    (is_m : m ≡ max own (above - 1)) where
+  abbrev n : ℕ
+  n = length is.done
+
+  here : ops ≡ slice_index_or commands n []
+  here = at ∙ ap (λ k. slice_index_or commands k []) (sym is.count)
+
+  own_here : own ≡ own_rank spans ids n
+  own_here = is_own ∙ ap (own_rank spans ids) (sym is.count)
+
+  either : (m ≡ own_rank spans ids n) ⊎ (suc m ≡ above)
+  either =
+      elim (cases_lt own (above - 1)) [
+        | inl high ↦ inr (omega (arith, high, is_m))
+        | inr low ↦ inl (omega (arith, low, is_m, own_here))
+      ]
+
+  pub greatest_here : IsGreatest commands (own_rank spans ids) n m
+  greatest_here = next_greatest commands (own_rank spans ids) is.done is.greatest ops above m here
+      least (omega (arith, is_m, own_here)) (omega (arith, is_m)) either
+
+  pub one_more_found : (table' : Table) (o : Option Id) (found' : List (Option Id))
+      → IsKeyTableOf (is.done ++ (ops, m) ∷ []) [] table'
+      → MatchOption o ((x : Id) → ¬ IsLateRank spans own m x) (IsLateRank spans own m)
+      → found' ≡ found ++ o ∷ [] → HaveFound commands ids spans (i + 1) table' found'
+  one_more_found table' o found' noted late more = record {
+    done = is.done ++ (ops, m) ∷ [];
+    count = omega (arith, length_push is.done (ops, m), is.count);
+    table_of = noted;
+    greatest = one_more_greatest commands (own_rank spans ids) is.done is.greatest ops above m here
+        least greatest_here;
+    whole = ap length more ∙ omega (arith, length_push found o, is.whole);
+    each = λ h history are j low. elim (cases_lt j i) [
+      | inl old ↦
+          subst (IsFoundLate commands (calls_in h ids) j)
+          (sym (ap (λ (l : List (Option Id)). slice_index_or l j None) more
+          ∙ get_or_append_left found (o ∷ []) None j (omega (arith, old, is.whole))))
+          (is.each h history are j old)
+      | inr new ↦
+          let place : i ≡ j = omega (arith, low, new) in
+          let this : IsFoundLate commands (calls_in h ids) n o =
+          found_at commands ids h history spans are n m greatest_here o
+          (subst (λ k. MatchOption o ((x : Id) → ¬ IsLateRank spans k m x)
+          (IsLateRank spans k m)) own_here late) in
+          subst (IsFoundLate commands (calls_in h ids) j)
+          (sym (ap (λ (l : List (Option Id)). slice_index_or l j None) more
+          ∙ get_or_push found o None j (is.whole ∙ place)))
+          (subst (λ k. IsFoundLate commands (calls_in h ids) k o) (is.count ∙ place) this)
+    ];
+  }
+
+pub all_found : (commands : List (List Op)) (ids : List Id) (spans : List Span) (i : ℕ)
+    (table : Table) (found : List (Option Id)) → HaveFound commands ids spans i table found
+    → i ≡ length commands → (h : List ClientCall) → IsHistory h → AreSpansOf h spans
+    → AreFoundLate commands (calls_in h ids) found
+all_found commands ids spans i table found is all h history are = record {
+  whole = is.whole ∙ all;
+  each = λ j low. is.each h history are j (omega (arith, low, all));
+}

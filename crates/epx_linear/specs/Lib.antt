@@ -1,0 +1,6 @@
+pub mod ClientCalls
+pub mod CallAnswers
+pub mod LateCalls
+pub mod RealTime
+pub mod LinearLaws
+pub mod inner
