@@ -4,6 +4,7 @@ mod FindingLawLemmas
 mod InputAnswerLemmas
 mod LawfulPrefixLemmas
 mod ResumptionLemmas
+mod SaidAnswerLemmas
 mod SameLineLemmas
 mod TraceLineLemmas
 mod TraceReportLemmas

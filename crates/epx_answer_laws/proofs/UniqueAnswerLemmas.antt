@@ -18,15 +18,18 @@ use Rattle.epx_compare.proofs.ComparisonAnswerLemmas.{compares_unique}
 use Rattle.epx_names.specs.declared.task.Task.{Task}
 use Rattle.epx_names.specs.declared.task.Task.TheVariants.{Run, Order, Levels, Graph, Resume}
 use Rattle.epx_names.specs.declared.task.Task.TheVariants.{Audit, Check, CheckPrefix, Compare}
-use Rattle.epx_names.specs.declared.task.Task.TheVariants.{Why, Path, Trace}
+use Rattle.epx_names.specs.declared.task.Task.TheVariants.{Replay, Verify, Why, Path, Trace}
 use Rattle.epx_why.proofs.UniqueTextLemmas.{why_text_is_unique, path_text_is_unique}
 use Rattle.epx_trace.proofs.TraceLemmas.{trace_text_is_unique}
 use Rattle.epx_tool.specs.Answer.{Answers}
 use Rattle.epx_tool.specs.TaskAnswers.{AnswersLogs}
 use Rattle.epx_tool.specs.TaskTexts.{IsTaskText}
 use Rattle.epx_tool.specs.Verdicts.{IsPrefixVerdict, IsVerdict}
+use Rattle.epx_verify.specs.VerifyLaws.{TextSaysOneThing}
 use Rattle.epx_tool.proofs.CheckLemmas.{one_text}
 use Rattle.epx_answer_laws.proofs.ResumptionLemmas.{resumed_one}
+use Rattle.epx_answer_laws.proofs.SaidAnswerLemmas.{IsReplayOf, one_verdict_on_said}
+use Rattle.epx_answer_laws.proofs.SaidAnswerLemmas.{replay_is_unique}
 use Rattle.epx_tool.proofs.VerdictLemmas.{prefix_verdict_is_unique, verdict_is_unique}
 
 pub IsReport-unique : (m : List Instance) (text other : List ℕ) → IsReport m text
@@ -66,20 +69,24 @@ IsAuditText-unique m text other (inr p) (inr q) =
     let same = least_uncovered_is_unique m p.0 p.1 q.0 q.1 p.2 q.2 in
     p.3 ∙ ap₂ uncovered_line same.0 same.1 ∙ sym q.3
 
-pub IsTaskText-unique : (task : Task) (input : List ℕ) (m : List Instance) (text other : List ℕ)
+-- a text of a replica says one thing, which is a law of `epx_verify`
+pub IsTaskText-unique : TextSaysOneThing → (task : Task) (input : List ℕ) (m : List Instance)
+    (text other : List ℕ)
     → IsTaskText task input m text → IsTaskText task input m other → text ≡ other
-IsTaskText-unique Run input = IsReport-unique
-IsTaskText-unique Order input = IsOrderText-unique
-IsTaskText-unique Levels input = IsLevelText-unique
-IsTaskText-unique Graph input = picture_is_unique
-IsTaskText-unique Audit input = IsAuditText-unique
-IsTaskText-unique Resume base = resumed_one base
-IsTaskText-unique Check list = one_text IsVerdict list verdict_is_unique
-IsTaskText-unique CheckPrefix list = one_text IsPrefixVerdict list prefix_verdict_is_unique
-IsTaskText-unique Compare input = λ m text other none. absurd none
-IsTaskText-unique (Why x) input = λ m. why_text_is_unique m x
-IsTaskText-unique (Path x y) input = λ m. path_text_is_unique m x y
-IsTaskText-unique (Trace key reads) input = λ m. trace_text_is_unique m key.text.bytes reads
+IsTaskText-unique one Run input = IsReport-unique
+IsTaskText-unique one Order input = IsOrderText-unique
+IsTaskText-unique one Levels input = IsLevelText-unique
+IsTaskText-unique one Graph input = picture_is_unique
+IsTaskText-unique one Audit input = IsAuditText-unique
+IsTaskText-unique one Resume base = resumed_one base
+IsTaskText-unique one Check list = one_text IsVerdict list verdict_is_unique
+IsTaskText-unique one CheckPrefix list = one_text IsPrefixVerdict list prefix_verdict_is_unique
+IsTaskText-unique one Replay list = one_text IsReplayOf list replay_is_unique
+IsTaskText-unique one Verify said = one_verdict_on_said one said
+IsTaskText-unique one Compare input = λ m text other none. absurd none
+IsTaskText-unique one (Why x) input = λ m. why_text_is_unique m x
+IsTaskText-unique one (Path x y) input = λ m. path_text_is_unique m x y
+IsTaskText-unique one (Trace key reads) input = λ m. trace_text_is_unique m key.text.bytes reads
 
 -- if each committed map has at most one text, logs have at most one answer, except for out of
 -- memory
@@ -97,8 +104,9 @@ module _ (Is : List Instance → List ℕ → Type 0)
   Answers-unique logs (Err fault) (Err other) s t p q =
       ap Err (refusal_unique logs fault other (λ e. s (ap Err e)) (λ e. t (ap Err e)) p q)
 
-pub AnswersLogs-unique : (task : Task) (logs : List (List ℕ))
+pub AnswersLogs-unique : TextSaysOneThing → (task : Task) (logs : List (List ℕ))
     (a b : Result (List ℕ) Fault) → a ≢ Err Memory → b ≢ Err Memory → AnswersLogs task logs a
     → AnswersLogs task logs b → a ≡ b
-AnswersLogs-unique Compare = compares_unique
-AnswersLogs-unique task = Answers-unique (IsTaskText task []) (IsTaskText-unique task [])
+AnswersLogs-unique one Compare = compares_unique
+AnswersLogs-unique one task =
+    Answers-unique (IsTaskText task []) (IsTaskText-unique one task [])

@@ -1,8 +1,10 @@
--- Laws of checking a list.
-use Rattle.std.specs.Prelude.{◌≡◌, ◌↔◌, ℕ, List, slice_get, Some, Result, Ok}
+-- Laws of checking a list, and what a replica said.
+use Rattle.std.specs.Prelude.{◌≡◌, ◌↔◌, ℕ, List, map, slice_get, Some, Result, Ok}
 use Rattle.std.specs.FinMap as contents
 use Rattle.epx_types.specs.declared.id.Id.{Id}
 use Rattle.epx_types.specs.declared.fault.Fault.{Fault}
+use Rattle.epx_types.specs.declared.reply.Reply.{Reply}
+use Rattle.epx_types.specs.Contents.{Contents}
 use Rattle.epx_types.specs.Instances.{Instance}
 use Rattle.epx_types.specs.Execution.{execute}
 use Rattle.epx_types.specs.ExecutionOrder.{Ranked, IsExecutionOrder, ranked_ids}
@@ -14,11 +16,14 @@ use Rattle.epx_report.specs.Lists.{IsList}
 use Rattle.epx_report.specs.ViewLines.{covered_line, lawful_line}
 use Rattle.epx_ranking.specs.OrderFaults.{HasAllReady}
 use Rattle.epx_tool.specs.declared.ask.Ask.TheVariants.{Audit}
-use Rattle.epx_names.specs.declared.task.Task.TheVariants.{CheckPrefix}
+use Rattle.epx_names.specs.declared.task.Task.TheVariants.{CheckPrefix, Verify}
 use Rattle.epx_tool.specs.CheckAnswers.{Checks}
 use Rattle.epx_tool.specs.TaskAnswers.{AnswersTask, AnswersView}
 use Rattle.epx_answer_laws.specs.SameLineLaws.{HaveLinesOf}
 use Rattle.epx_tool.specs.WithInput.{IsShort}
+use Rattle.epx_report.specs.ReportReadings.{replied_ids}
+use Rattle.epx_verify.specs.ListExecutions.{list_execution}
+use Rattle.epx_verify.specs.SaidTexts.{IsSaid}
 
 -- a list is reported as lawful exactly if it is a lawful order of what the logs commit
 abbrev pub LawfulTextMeansLawful : Type 0
@@ -59,3 +64,19 @@ LawfulPrefixesStay = (list : List ℕ) (logs more : List (List ℕ)) → HaveLin
     → (m : List Instance) → IsAccepted more m
     → AnswersTask CheckPrefix list logs (Ok lawful_line)
     → AnswersTask CheckPrefix list more (Ok lawful_line)
+
+-- ---- what a replica said
+
+-- the replies and the store are those of executing the instances in the order of the replies
+abbrev pub IsRight : List Instance → List (Id × Reply) → Contents → Type 0
+IsRight m replies stored = let e = list_execution m (replied_ids replies) in
+    (map (λ p. p.1) replies ≡ e.replies) × (stored ≡ e.final)
+
+-- what a replica said is reported as lawful, and as nothing else, exactly if a lawful order of what
+-- the logs commit begins with its instances, and its replies and its store are right
+abbrev pub LawfulTextMeansRight : Type 0
+LawfulTextMeansRight = (said : List ℕ) (logs : List (List ℕ)) (replies : List (Id × Reply))
+    (stored : Contents) (m : List Instance)
+    → IsShort said → IsSaid said replies stored → IsAccepted logs m →
+    AnswersTask Verify said logs (Ok lawful_line)
+    ↔ IsLawfulPrefix m (replied_ids replies) × IsRight m replies stored

@@ -7,6 +7,10 @@ ghost use Rattle.epx_answer_laws.specs.InputAnswerLaws.{InputAnswerExists, Input
 ghost use Rattle.epx_answer_laws.specs.SameLineLaws.{SameLinesAreAcceptedAlike};
 ghost use Rattle.epx_answer_laws.specs.SameLineLaws.{SameLinesAreAnsweredAlike};
 
+use epx_verify::laws::{
+    bad_said_is_bad_at_one_line, said_is_no_bad_said, said_or_bad_said, text_says_one_thing,
+};
+
 /// A committed map has a report.
 pub fn report_exists()
     ensures { ReportExists }
@@ -57,17 +61,25 @@ pub fn answer_is_unique()
 /// Logs have at most one answer to each view, except for out of memory.
 pub fn view_is_unique()
     ensures { ViewIsUnique }
-{}
+{
+    text_says_one_thing();
+}
 
 /// An input and logs have an answer to each question about both, other than out of memory.
 pub fn input_answer_exists()
     ensures { InputAnswerExists }
-{}
+{
+    said_or_bad_said();
+}
 
 /// An input and logs have at most one answer to each question about both, except for out of memory.
 pub fn input_answer_is_unique()
     ensures { InputAnswerIsUnique }
-{}
+{
+    text_says_one_thing();
+    said_is_no_bad_said();
+    bad_said_is_bad_at_one_line();
+}
 
 /// Neither the order of logs and lines nor repeated lines change whether logs are accepted, and
 /// what they commit.

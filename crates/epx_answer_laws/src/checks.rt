@@ -1,11 +1,12 @@
 //! Laws of what `lawful` and `covered` say in an answer, and of what answers find.
 ghost use Rattle.epx_answer_laws.specs.AnswerLaws.{CoveredTextMeansCovered};
 ghost use Rattle.epx_answer_laws.specs.CheckLaws.{LawfulTextMeansLawful, LawfulTextMeansPrefix};
-ghost use Rattle.epx_answer_laws.specs.CheckLaws.{LawfulPrefixRepliesAlike};
+ghost use Rattle.epx_answer_laws.specs.CheckLaws.{LawfulPrefixRepliesAlike, LawfulTextMeansRight};
 ghost use Rattle.epx_answer_laws.specs.CheckLaws.{WholeListsAreAnsweredAlike, LawfulPrefixesStay};
 ghost use Rattle.epx_answer_laws.specs.FindingLaws.{AuditFindsNotCovered, CheckFindsNotLawful};
 
 use epx_laws::replicas::prefixes_stay;
+use epx_verify::laws::{no_difference_if_right, text_says_one_thing};
 
 /// The audit of logs says that they are covered exactly if they are.
 pub fn covered_text_means_covered()
@@ -28,6 +29,15 @@ pub fn lawful_text_means_prefix()
 pub fn lawful_prefix_replies_alike()
     ensures { LawfulPrefixRepliesAlike }
 {}
+
+/// What a replica said is reported as lawful, and as nothing else, exactly if a lawful order begins
+/// with its instances, and its replies and its store are right.
+pub fn lawful_text_means_right()
+    ensures { LawfulTextMeansRight }
+{
+    text_says_one_thing();
+    no_difference_if_right();
+}
 
 /// A list of all ready instances has the same answer as a prefix and as an order.
 pub fn whole_lists_are_answered_alike()

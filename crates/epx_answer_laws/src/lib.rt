@@ -1,5 +1,5 @@
-//! Laws of answers: the definitions of `epx_tool` mean what they should. Each function has an empty
-//! body, and its contract is the law.
+//! Laws of answers: the definitions of `epx_tool` mean what they should. Each contract is a law,
+//! and the functions call the laws that theirs rest on.
 #![tactic(auto)]
 
 pub mod answers;

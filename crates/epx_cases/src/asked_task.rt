@@ -14,6 +14,8 @@ pub(crate) fn asked_task(command: &str, rest: &str) -> Option<Task> {
         "audit" => Some(Task::Audit),
         "check" => Some(Task::Check),
         "check-prefix" => Some(Task::CheckPrefix),
+        "replay" => Some(Task::Replay),
+        "verify" => Some(Task::Verify),
         "compare" => Some(Task::Compare),
         "why" => Some(Task::Why(read_id(words.next()?)?)),
         "path" => Some(Task::Path(read_id(words.next()?)?, read_id(words.next()?)?)),

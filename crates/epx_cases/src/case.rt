@@ -111,7 +111,13 @@ impl<'a> Case<'a> {
             (Directive::Base, Some(Subject::Answer(Task::Resume))) => {
                 self.case_input.begin_first();
             }
-            (Directive::List, Some(Subject::Answer(Task::Check | Task::CheckPrefix))) => {
+            (
+                Directive::List,
+                Some(Subject::Answer(Task::Check | Task::CheckPrefix | Task::Replay)),
+            ) => {
+                self.case_input.begin_first();
+            }
+            (Directive::Said, Some(Subject::Answer(Task::Verify))) => {
                 self.case_input.begin_first();
             }
             (Directive::Gives(flow), Some(Subject::Answer(_))) => return Ok(

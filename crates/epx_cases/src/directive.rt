@@ -6,8 +6,10 @@ use crate::flow::Flow;
 pub(crate) enum Directive {
     /// Begins the base that the report resumes from.
     Base,
-    /// Begins the list to check.
+    /// Begins the list to check or to replay.
     List,
+    /// Begins what a replica said.
+    Said,
     /// Begins this number of equal logs.
     Logs(usize),
     /// Sets the flow of the source of the last text.
@@ -48,6 +50,7 @@ impl Directive {
         match (word, numbers_in(rest)?) {
             ("base", (None, None)) => Some(Directive::Base),
             ("list", (None, None)) => Some(Directive::List),
+            ("said", (None, None)) => Some(Directive::Said),
             ("log", (None, None)) => Some(Directive::Logs(1)),
             ("logs", (Some(count), None)) => Some(Directive::Logs(count)),
             ("gives", (Some(at_once), fuse)) => Some(Directive::Gives(Flow::new(at_once, fuse)?)),

@@ -13,7 +13,7 @@ use std::io;
 use std::random::RandomSource;
 use std::thread::Threads;
 
-/// The view that a task asks for, or None if it asks for a report or the verdict on a list.
+/// The view that a task asks for, or None if it asks for a report, or has an input.
 fn ask_of(task: &Task) -> Option<Ask> {
     match task {
         Task::Order => Some(Ask::Order),
@@ -28,6 +28,7 @@ fn ask_of(task: &Task) -> Option<Ask> {
             reads: *reads,
         }),
         Task::Run | Task::Resume | Task::Check | Task::CheckPrefix => None,
+        Task::Replay | Task::Verify => None,
     }
 }
 
@@ -51,7 +52,7 @@ pub(crate) fn answer_input<R: Threads + RandomSource + Sync>(
         (_, Some(ask)) => view(rt, alloc, ask, logs, plan),
         (Task::Resume, None) => resume(rt, alloc, &case_input.first, logs, plan),
         (Task::Check, None) => check(rt, alloc, &case_input.first, logs, plan),
-        (Task::CheckPrefix, None) => {
+        (Task::CheckPrefix | Task::Replay | Task::Verify, None) => {
             answer_texts(rt, alloc, *task, &case_input.first, logs, plan)
         }
         (_, None) => answer(rt, alloc, logs, plan),
@@ -96,7 +97,7 @@ pub(crate) fn deliver_input<R: Threads + RandomSource + Sync>(
         (_, Some(ask)) => show(rt, alloc, ask, &mut sources, plan, &mut sink),
         (Task::Resume, None) => { run_resume(rt, alloc, &mut first, &mut sources, plan, &mut sink) }
         (Task::Check, None) => { run_check(rt, alloc, &mut first, &mut sources, plan, &mut sink) }
-        (Task::CheckPrefix, None) => {
+        (Task::CheckPrefix | Task::Replay | Task::Verify, None) => {
             run_task(rt, alloc, *task, &mut first, &mut sources, plan, &mut sink).map(|_| ())
         }
         (_, None) => run(rt, alloc, &mut sources, plan, &mut sink),

@@ -1,4 +1,4 @@
-//! Explains which line of a state, a base or a list is bad.
+//! Explains which line of a state, a base, a list or of what a replica said is bad.
 use crate::contents::read_again;
 use crate::file_kind::explain_file_kind;
 use crate::inputs::{Input, Role};
@@ -25,10 +25,14 @@ const LINE_OF_STATE: &str =
     "after the first line of a state come R lines of runs, W instances that \
 wait for others, and S lines of the store, all rising: docs/FORMAT.md has the lines of a state";
 
+const LINE_OF_SAID: &str =
+    "SAID has reply lines in the order of execution, and then store lines by rising key, as a \
+report has them, and no other lines";
+
 const OUT_OF_PLACE: &str = "it may not follow the lines before it, or a part of it is wrong: \
 docs/FORMAT.md has the lines of a base";
 
-/// What an input is in place of a state, a base or a list.
+/// What an input is in place of a state, a base, a list or what a replica said.
 fn explain_looks(role: Role, looks: Looks) -> Option<&'static str> {
     match (role, looks) {
         (Role::List, Looks::Log) => {
@@ -43,7 +47,13 @@ fn explain_looks(role: Role, looks: Looks) -> Option<&'static str> {
         (Role::State, Looks::Log) => {
             Some("it looks like a log: STATE is what --save saved, or a report")
         }
+        (Role::Said, Looks::Log) => {
+            Some("it looks like a log: SAID comes first, as in epx verify SAID LOG..")
+        }
         (Role::Base, Looks::List) => Some("it looks like a list: BASE must be a report"),
+        (Role::Said, Looks::List) => {
+            Some("it looks like a list: SAID has replies, and epx check and replay read lists")
+        }
         (Role::State, Looks::List) => {
             Some("it looks like a list: STATE is what --save saved, or a report")
         }
@@ -51,36 +61,45 @@ fn explain_looks(role: Role, looks: Looks) -> Option<&'static str> {
     }
 }
 
-/// Whether an input is read as a state, and not as a report.
-fn is_state(role: Role, looks: Looks) -> bool {
+/// What the lines of an input are to be.
+#[derive(Clone, Copy)]
+enum Form {
+    State,
+    Report,
+    Said,
+}
+
+/// A state may be a report.
+fn form_of(role: Role, looks: Looks) -> Form {
     match (role, looks) {
-        (Role::State, Looks::Report) => false,
-        (Role::State, _) => true,
-        _ => false,
+        (Role::State, Looks::Report) => Form::Report,
+        (Role::State, _) => Form::State,
+        (Role::Said, _) => Form::Said,
+        _ => Form::Report,
     }
 }
 
-/// What is wrong with a line of a state or of a base. `is_known` says whether it begins as one of a
-/// report.
-fn explain_place(is_state: bool, number: usize, is_known: bool) -> &'static str {
-    match (is_state, number, is_known) {
-        (true, 0 | 1, _) => FIRST_OF_STATE,
-        (true, _, _) => LINE_OF_STATE,
-        (false, 0 | 1, _) => FIRST_LINE,
-        (false, _, true) => OUT_OF_PLACE,
-        (false, _, false) => FURTHER_LINE,
+/// What is wrong with a line. `is_known` says whether it begins as one of a report.
+fn explain_place(form: Form, number: usize, is_known: bool) -> &'static str {
+    match (form, number, is_known) {
+        (Form::State, 0 | 1, _) => FIRST_OF_STATE,
+        (Form::State, _, _) => LINE_OF_STATE,
+        (Form::Said, _, _) => LINE_OF_SAID,
+        (Form::Report, 0 | 1, _) => FIRST_LINE,
+        (Form::Report, _, true) => OUT_OF_PLACE,
+        (Form::Report, _, false) => FURTHER_LINE,
     }
 }
 
-/// What is wrong with a line of a state or of a base.
+/// What is wrong with a line of an input of this form.
 fn explain_form(
     alloc: Global,
-    is_state: bool,
+    form: Form,
     line: LogLine<'_>,
     number: usize,
 ) -> Result<String, Memory> {
     if let Some(value) = read_json(alloc, line.bytes)? {
-        let text = explain_place(is_state, number, is_report_line(&value));
+        let text = explain_place(form, number, is_report_line(&value));
         return Ok(String::from_str(alloc, text)?);
     }
     if is_array_begun(line.bytes) {
@@ -88,13 +107,13 @@ fn explain_form(
             return Ok(text);
         }
     }
-    Ok(String::from_str(alloc, explain_place(is_state, number, false))?)
+    Ok(String::from_str(alloc, explain_place(form, number, false))?)
 }
 
-/// Explains a line of a state or of a base.
+/// Explains a line of an input of this form.
 fn explain_report_line(
     alloc: Global,
-    is_state: bool,
+    form: Form,
     line: LogLine<'_>,
     number: usize,
 ) -> Result<String, Memory> {
@@ -107,7 +126,7 @@ fn explain_report_line(
             "line {number} has {length} bytes, and at most {MAX_LINE_BYTES} are allowed"
         )?);
     }
-    let text = explain_form(alloc, is_state, line, number)?;
+    let text = explain_form(alloc, form, line, number)?;
     if is_blank_line(line.bytes) {
         return Ok(format!(in alloc; "line {number} is blank: {text}")?);
     }
@@ -115,7 +134,7 @@ fn explain_report_line(
     Ok(format!(in alloc; "line {number} is {shown}: {text}")?)
 }
 
-/// Explains a line of a state, a base or a list.
+/// Explains a line of a state, a base, a list or of what a replica said.
 fn explain_input_line(
     alloc: Global,
     role: Role,
@@ -134,7 +153,7 @@ fn explain_input_line(
     };
     match role {
         Role::List => explain_list_line(alloc, line, number),
-        _ => explain_report_line(alloc, is_state(role, looks), line, number),
+        _ => explain_report_line(alloc, form_of(role, looks), line, number),
     }
 }
 

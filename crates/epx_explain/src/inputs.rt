@@ -16,6 +16,8 @@ pub(crate) enum FirstInput {
     Base,
     /// The list of executed instances.
     List,
+    /// What a replica said.
+    Said,
 }
 
 /// What an input is read as.
@@ -25,6 +27,7 @@ pub(crate) enum Role {
     State,
     Base,
     List,
+    Said,
 }
 
 impl fmt::Display for Role {
@@ -34,6 +37,7 @@ impl fmt::Display for Role {
             Role::State => write!(f, "STATE"),
             Role::Base => write!(f, "BASE"),
             Role::List => write!(f, "LIST"),
+            Role::Said => write!(f, "SAID"),
         }
     }
 }
@@ -105,7 +109,8 @@ fn paths_of(paths: &Option<Vec<String>>) -> Option<&[String]> {
 fn first_of(task: Task) -> FirstInput {
     match task {
         Task::Resume => FirstInput::Base,
-        Task::Check | Task::CheckPrefix => FirstInput::List,
+        Task::Check | Task::CheckPrefix | Task::Replay => FirstInput::List,
+        Task::Verify => FirstInput::Said,
         _ => FirstInput::None,
     }
 }
@@ -175,13 +180,14 @@ impl<'a> Inputs<'a> {
         }
     }
 
-    /// STATE, BASE or LIST, if the command has one.
+    /// STATE, BASE, LIST or SAID, if the command has one.
     pub(crate) fn first_input(&self) -> Option<Input<'a>> {
         match self.first {
             FirstInput::None => None,
             FirstInput::State => Some(self.at(Role::State, 0)),
             FirstInput::Base => Some(self.at(Role::Base, 0)),
             FirstInput::List => Some(self.at(Role::List, 0)),
+            FirstInput::Said => Some(self.at(Role::Said, 0)),
         }
     }
 
@@ -194,8 +200,8 @@ impl<'a> Inputs<'a> {
         self.at(Role::Log(log), index)
     }
 
-    /// The input with this number in a fault of reading: STATE, BASE and LIST have the number after
-    /// the last log.
+    /// The input with this number in a fault of reading: STATE, BASE, LIST and SAID have the number
+    /// after the last log.
     pub(crate) fn numbered(&self, number: usize) -> Input<'a> {
         match self.first_input() {
             Some(input) if number >= self.count_logs() => input,

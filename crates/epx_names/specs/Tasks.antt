@@ -1,11 +1,14 @@
 -- Tasks and what they are over.
 use Rattle.std.specs.Prelude.{⊤}
 use Rattle.epx_names.specs.declared.task.Task.{Task}
-use Rattle.epx_names.specs.declared.task.Task.TheVariants.{Resume, Check, CheckPrefix}
+use Rattle.epx_names.specs.declared.task.Task.TheVariants.{Resume, Check, CheckPrefix, Verify}
+use Rattle.epx_names.specs.declared.task.Task.TheVariants.{Replay}
 
--- the task has an input besides the logs: a base or a list
+-- the task has an input besides the logs: a base, a list, or what a replica said
 abbrev pub HasInput : Task → Type 0
 HasInput Resume = ⊤
 HasInput Check = ⊤
 HasInput CheckPrefix = ⊤
+HasInput Verify = ⊤
+HasInput Replay = ⊤
 HasInput _ = ⊥

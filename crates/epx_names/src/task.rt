@@ -24,6 +24,10 @@ pub enum Task {
     Check,
     /// Say whether a list of instances is a prefix of a lawful order.
     CheckPrefix,
+    /// Say whether the order, the replies and the store that a replica said are right.
+    Verify,
+    /// Execute a list of instances in its order, and write their replies and the store.
+    Replay,
     /// Say what the logs say against each other.
     Compare,
     /// Say why an instance is executed where it is, or why it is not.
@@ -35,10 +39,13 @@ pub enum Task {
 }
 
 impl Task {
-    /// Whether the task has an input besides the logs, as a base or a list is.
+    /// Whether the task has an input besides the logs: a base, a list, or what a replica said.
     pub fn has_input(self) -> bool
         ensures { (result ≡ true) ↔ HasInput self }
     {
-        matches!(self, Task::Resume | Task::Check | Task::CheckPrefix)
+        matches!(
+            self,
+            Task::Resume | Task::Check | Task::CheckPrefix | Task::Verify | Task::Replay
+        )
     }
 }

@@ -94,3 +94,17 @@ module _ (m : List Instance) (ids : List Id) where
       → IsLawfulPrefix m ids → text ≡ lawful_line
   lawful_line-from_prefix = lawful_line-from_good (IsLawfulPrefix m ids)
       (IsPrefixFault m ids) (prefix_has_no_fault m ids)
+
+  -- one that finds something is a fault
+  pub prefix_fault-from_verdict : (text : List ℕ) → IsPrefixVerdict m ids text
+      → text ≢ lawful_line → (fault : OrderFault) × (fault ≢ Memory) × IsPrefixFault m ids fault
+      × (text ≡ order_fault_text fault)
+  prefix_fault-from_verdict text (inl good) other = absurd (other good.1)
+  prefix_fault-from_verdict text (inr bad) other = bad
+
+  -- and one that finds nothing is none
+  pub lawful_prefix-if_none : (text : List ℕ) → IsPrefixVerdict m ids text
+      → ¬ (text ≢ lawful_line) → IsLawfulPrefix m ids × (text ≡ lawful_line)
+  lawful_prefix-if_none text (inl good) same = good
+  lawful_prefix-if_none text (inr bad) same =
+      absurd (same (λ e. lawful_line-apart bad.0 (sym e ∙ bad.3)))

@@ -1,11 +1,16 @@
--- Checking a list of instances: the answer to a list and logs.
-use Rattle.std.specs.Prelude.{ℕ, List, Result}
+-- Checking and replaying a list of instances, and checking what a replica said: the answers to an
+-- input and logs.
+use Rattle.std.specs.Prelude.{◌≡◌, ℕ, List, Result}
 use Rattle.epx_types.specs.declared.id.Id.{Id}
+use Rattle.epx_types.specs.declared.reply.Reply.{Reply}
+use Rattle.epx_types.specs.Contents.{Contents}
 use Rattle.epx_types.specs.declared.fault.Fault.{Fault}
 use Rattle.epx_types.specs.Instances.{Instance}
 use Rattle.epx_report.specs.Lists.{IsList, IsBadList}
 use Rattle.epx_tool.specs.WithInput.{AnswersWithInput}
-use Rattle.epx_tool.specs.Verdicts.{IsPrefixVerdict, IsVerdict}
+use Rattle.epx_tool.specs.Verdicts.{IsPrefixVerdict, IsSaidVerdict, IsVerdict}
+use Rattle.epx_verify.specs.ListExecutions.{replay_text}
+use Rattle.epx_verify.specs.SaidTexts.{IsSaid}
 
 -- the verdict on the instances that the list names
 abbrev pub IsCheckText : List ℕ → List Instance → List ℕ → Type 0
@@ -14,6 +19,15 @@ IsCheckText list m text = (ids : List Id) × IsList list ids × IsVerdict m ids 
 -- the verdict on the instances that the list names, as a prefix
 abbrev pub IsPrefixCheckText : List ℕ → List Instance → List ℕ → Type 0
 IsPrefixCheckText list m text = (ids : List Id) × IsList list ids × IsPrefixVerdict m ids text
+
+-- the replies of the instances that the list names, and the store after them
+abbrev pub IsReplayText : List ℕ → List Instance → List ℕ → Type 0
+IsReplayText list m text = (ids : List Id) × IsList list ids × (text ≡ replay_text m ids)
+
+-- the verdict on what the replica said
+abbrev pub IsVerifyText : List ℕ → List Instance → List ℕ → Type 0
+IsVerifyText said m text = (replies : List (Id × Reply)) × (stored : Contents)
+    × IsSaid said replies stored × IsSaidVerdict m replies stored text
 
 -- the verdict, or the first refusal
 abbrev pub Checks : List ℕ → List (List ℕ) → Result (List ℕ) Fault → Type 0

@@ -12,6 +12,7 @@ use Rattle.epx_tool.specs.declared.ask.Ask.TheVariants.{Path, Trace, Compare}
 use Rattle.epx_tool.specs.Answer.{Answers}
 use Rattle.epx_tool.specs.TaskTexts.{IsTaskText}
 use Rattle.epx_tool.specs.WithInput.{AnswersWithInput}
+use Rattle.epx_verify.specs.SaidTexts.{IsBadSaid}
 
 -- the task that shows a view
 abbrev pub task_of : Ask → Task
@@ -33,9 +34,11 @@ AnswersLogs task = Answers (IsTaskText task [])
 abbrev pub AnswersView : Ask → List (List ℕ) → Result (List ℕ) Fault → Type 0
 AnswersView ask = AnswersLogs (task_of ask)
 
--- the input of the task, a base or a list, has a bad line, and this is the first
+-- the input of the task, a base, a list or what a replica said, has a bad line, and this is the
+-- first
 abbrev pub IsBadInput : Task → List ℕ → ℕ → Type 0
 IsBadInput task.Resume = IsBadBase
+IsBadInput task.Verify = IsBadSaid
 IsBadInput _ = IsBadList
 
 -- the answer to a task over an input and logs; a task without an input ignores it
@@ -43,4 +46,6 @@ abbrev pub AnswersTask : Task → List ℕ → List (List ℕ) → Result (List 
 AnswersTask task.Resume = AnswersWithInput IsBadBase (IsTaskText task.Resume)
 AnswersTask task.Check = AnswersWithInput IsBadList (IsTaskText task.Check)
 AnswersTask task.CheckPrefix = AnswersWithInput IsBadList (IsTaskText task.CheckPrefix)
+AnswersTask task.Replay = AnswersWithInput IsBadList (IsTaskText task.Replay)
+AnswersTask task.Verify = AnswersWithInput IsBadSaid (IsTaskText task.Verify)
 AnswersTask task = λ input. AnswersLogs task

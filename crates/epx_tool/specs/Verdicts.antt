@@ -1,17 +1,22 @@
--- The text of a verdict on a list of instances that is checked against a committed map.
-use Rattle.std.specs.Prelude.{◌≡◌, ◌≢◌, ◌⊎◌, ℕ, List, [], codes}
+-- The text of a verdict on a list of instances, or on what a replica said, that is checked against
+-- a committed map.
+use Rattle.std.specs.Prelude.{◌≡◌, ◌≢◌, ◌⊎◌, ◌++◌, ℕ, List, [], codes}
 use Rattle.serde_json.specs.Data.{Data}
 use Rattle.epx_types.specs.declared.id.Id.{Id}
+use Rattle.epx_types.specs.declared.reply.Reply.{Reply}
+use Rattle.epx_types.specs.Contents.{Contents}
 use Rattle.epx_types.specs.Instances.{Instance}
 use Rattle.epx_types.specs.LawfulPrefixes.{IsLawfulPrefix}
 use Rattle.epx_types.specs.LawfulOrders.{IsLawful}
 use Rattle.epx_report.specs.ReportLines.{line_of}
+use Rattle.epx_report.specs.ReportReadings.{replied_ids}
 use Rattle.epx_report.specs.ViewLines.{lawful_line, position_data, missing_data}
 use Rattle.epx_ranking.specs.declared.order_fault.OrderFault.{OrderFault}
 use Rattle.epx_ranking.specs.declared.order_fault.OrderFault.TheVariants.{Memory, Stranger, Repeat}
 use Rattle.epx_ranking.specs.declared.order_fault.OrderFault.TheVariants.{Missing, Early, Sequence}
 use Rattle.epx_ranking.specs.PrefixFaults.{IsPrefixFault}
 use Rattle.epx_ranking.specs.OrderFaults.{IsOrderFault}
+use Rattle.epx_verify.specs.Differences.{differences_text}
 
 -- the line of a fault; out of memory has no verdict
 abbrev pub fault_data : OrderFault → List Data
@@ -35,4 +40,13 @@ IsVerdict m ids text = (IsLawful m ids × (text ≡ lawful_line))
 abbrev pub IsPrefixVerdict : List Instance → List Id → List ℕ → Type 0
 IsPrefixVerdict m ids text = (IsLawfulPrefix m ids × (text ≡ lawful_line))
     ⊎ ((fault : OrderFault) × (fault ≢ Memory) × IsPrefixFault m ids fault
+    × (text ≡ order_fault_text fault))
+
+-- the verdict is that the order of a replica's replies is a prefix of a lawful order, and then come
+-- the lines of the replies and the values that are wrong; or it is the fault of the order
+abbrev pub IsSaidVerdict : List Instance → List (Id × Reply) → Contents → List ℕ → Type 0
+IsSaidVerdict m replies stored text =
+    (IsLawfulPrefix m (replied_ids replies)
+    × (text ≡ lawful_line ++ differences_text m replies stored))
+    ⊎ ((fault : OrderFault) × (fault ≢ Memory) × IsPrefixFault m (replied_ids replies) fault
     × (text ≡ order_fault_text fault))

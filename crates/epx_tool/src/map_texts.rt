@@ -16,7 +16,7 @@ ghost use Rattle.epx_trace.specs.TraceTexts.{IsTraceText};
 
 use crate::findings::{Answer, is_other, some_wait};
 use crate::question::MapQuestion;
-use crate::verdict::{prefix_verdict_of, verdict_of};
+use crate::verdict::{prefix_verdict_of, said_verdict_of, verdict_of};
 use epx_audit::audit;
 use epx_graph::{build, build_after, waiting};
 use epx_merge::Merged;
@@ -27,6 +27,7 @@ use epx_replay::{append_store_lines, replay};
 use epx_trace::trace_text;
 use epx_txn::Store;
 use epx_types::{Id, Memory, Plan};
+use epx_verify::replay_text;
 use epx_views::{append_waiting, audit_line, begin_report, level_report, order_report};
 use epx_why::{path_text, why_text};
 use std::alloc::Global;
@@ -190,5 +191,7 @@ pub(crate) fn text_of<R: Threads + RandomSource + Sync>(
         }
         MapQuestion::Check(ids) => verdict_of(rt, alloc, merged, &ids, plan),
         MapQuestion::CheckPrefix(ids) => prefix_verdict_of(rt, alloc, merged, &ids, plan),
+        MapQuestion::Replay(ids) => Ok(Answer::new(replay_text(alloc, merged, &ids)?, false)),
+        MapQuestion::Verify(said) => said_verdict_of(rt, alloc, merged, &said, plan),
     }
 }

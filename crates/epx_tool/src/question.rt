@@ -7,6 +7,7 @@ ghost use Rattle.epx_tool.specs.inner.MapQuestions.{TaskAsks, IsInputFault};
 use epx_names::{KeyName, Task};
 use epx_report::{Base, BaseFault, read_base_by, read_list};
 use epx_types::{Id, Plan};
+use epx_verify::{Said, read_said};
 use std::alloc::Global;
 use std::thread::Threads;
 
@@ -27,6 +28,10 @@ pub(crate) enum MapQuestion {
     Check(Vec<Id>),
     /// The verdict on a list that may lack ready instances at its end.
     CheckPrefix(Vec<Id>),
+    /// The replies of a list and the store after them.
+    Replay(Vec<Id>),
+    /// What is wrong with what a replica said.
+    Verify(Said),
 }
 
 /// What a task without an input asks of the map that the logs commit. A comparison asks nothing of
@@ -45,7 +50,8 @@ pub(crate) fn question_of(task: Task) -> Option<MapQuestion>
         Task::Why(id) => Some(MapQuestion::Why(id)),
         Task::Path(from, to) => Some(MapQuestion::Path(from, to)),
         Task::Trace { key, reads } => Some(MapQuestion::Trace { key, reads }),
-        Task::Compare | Task::Resume | Task::Check | Task::CheckPrefix => None,
+        Task::Compare => None,
+        Task::Resume | Task::Check | Task::CheckPrefix | Task::Replay | Task::Verify => None,
     }
 }
 
@@ -64,6 +70,8 @@ pub(crate) fn read_question<R: Threads + Sync>(
     match task {
         Task::Resume => Ok(MapQuestion::Resume(read_base_by(rt, alloc, input, plan)?)),
         Task::CheckPrefix => Ok(MapQuestion::CheckPrefix(read_list(alloc, input)?)),
+        Task::Replay => Ok(MapQuestion::Replay(read_list(alloc, input)?)),
+        Task::Verify => Ok(MapQuestion::Verify(read_said(alloc, input)?)),
         _ => Ok(MapQuestion::Check(read_list(alloc, input)?)),
     }
 }

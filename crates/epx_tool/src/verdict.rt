@@ -1,7 +1,8 @@
 //! The text of the verdict on a checked list. It is one line.
 ghost use Rattle.std.specs.Prelude.{◌≡◌, ◌≢◌, ◌↔◌, true, IfOk, MatchResult};
 ghost use Rattle.epx_report.specs.ViewLines.{lawful_line};
-ghost use Rattle.epx_tool.specs.Verdicts.{IsPrefixVerdict, IsVerdict, order_fault_text};
+ghost use Rattle.epx_tool.specs.Verdicts.{IsPrefixVerdict, IsSaidVerdict, IsVerdict};
+ghost use Rattle.epx_tool.specs.Verdicts.{order_fault_text};
 
 use crate::findings::{Answer, is_other};
 use epx_graph::build;
@@ -9,6 +10,7 @@ use epx_merge::Merged;
 use epx_ranking::{OrderFault, check_order, check_prefix};
 use epx_report::{missing_line, name_line, position_line};
 use epx_types::{Id, Memory, Plan};
+use epx_verify::{Said, differences_text};
 use std::alloc::Global;
 use std::thread::Threads;
 
@@ -73,6 +75,31 @@ pub(crate) fn prefix_verdict_of<R: Threads + Sync>(
     let graph = build(rt, alloc, merged, plan)?;
     let found = check_prefix(alloc, merged, &graph, ids);
     let text = verdict_line(alloc, found)?;
+    let has_findings = is_other(alloc, &text, "lawful")?;
+    Ok(Answer::new(text, has_findings))
+}
+
+/// The verdict on what a replica said, over a committed map: that on the order of its replies as a
+/// prefix. If the order is lawful, a line follows for each reply and each value that is wrong.
+pub(crate) fn said_verdict_of<R: Threads + Sync>(
+    rt: &R,
+    alloc: Global,
+    merged: &Merged,
+    said: &Said,
+    plan: Plan,
+) -> Result<Answer, Memory>
+    ensures text { IfOk result (λ answer. IsSaidVerdict merged.now said.now.replies.items
+        said.now.store answer.text.items) }
+    ensures found { IfOk result (λ answer. (answer.has_findings ≡ true)
+        ↔ (answer.text.items ≢ lawful_line)) }
+{
+    let ids = said.ids(alloc)?;
+    let verdict = prefix_verdict_of(rt, alloc, merged, &ids, plan)?;
+    if verdict.has_findings {
+        return Ok(verdict);
+    }
+    let mut text = verdict.text;
+    text.extend_from_slice(&differences_text(alloc, merged, said)?)?;
     let has_findings = is_other(alloc, &text, "lawful")?;
     Ok(Answer::new(text, has_findings))
 }

@@ -1,7 +1,7 @@
 -- Words in which clap finds no fault name a subcommand that asks for work, with both numbers in
 -- their ranges and with its required first argument.
-use Rattle.std.proofs.Common.{◌≡◌, ◌∙◌, Bool, true, false, codes, List, [], ◌∷◌, Option, Some, None}
-use Rattle.std.proofs.Common.{refl, sym, subst, inl, inr, is_some, true≢false}
+use Rattle.std.proofs.Common.{◌≡◌, ◌∙◌, Bool, cond, true, false, codes, List, [], ◌∷◌, Option}
+use Rattle.std.proofs.Common.{Some, None, refl, sym, subst, inl, inr, is_some, true≢false}
 use Rattle.epx_types.proofs.Common.{bytes_eq-Decides, AllByRecursion, bytes_eq}
 use Rattle.clap.specs.Faults.{check_fault, defaults_fault, entered_fault, fault_of}
 use Rattle.clap.specs.Faults.{is_simple_and_free, level_fault, settle_fault, walk_fault}
@@ -10,10 +10,10 @@ use Rattle.clap.specs.Simple.{is_simple, marked_built, names_of, subcommand_of, 
 use Rattle.clap.specs.Walk.{Row, Text, finished, nothing_held, rows_after, settled, stop_after}
 use Rattle.clap.specs.Walk.{walk, walk_from}
 use Rattle.clap.proofs.OnLiterals.{clap_on_literals}
-use Rattle.epx_words.specs.App.{base_app, epx_app, finding_app, follow_app, list_app, trace_app}
-use Rattle.epx_words.specs.App.{why_app, work_app}
+use Rattle.epx_words.specs.App.{base_app, epx_app, finding_app, follow_app, input_app, list_app}
+use Rattle.epx_words.specs.App.{trace_app, why_app, work_app}
 use Rattle.epx_words.specs.SubcommandRows.{AsksForWork, IsOneOf, IsTaskName, IsWorkName, NeedsFirst}
-use Rattle.epx_words.specs.SubcommandRows.{task_names}
+use Rattle.epx_words.specs.SubcommandRows.{first_names, task_names}
 use Rattle.epx_words.proofs.AbsentRowLemmas.{no_flag}
 use Rattle.epx_words.proofs.KindLemmas.{none_after, none_first}
 use Rattle.epx_words.proofs.StopLemmas.{IsKnownName, StopsAtWork, walk_work}
@@ -24,7 +24,7 @@ use Rattle.epx_words.proofs.SoundArgumentLemmas.{first_has_row, level_numbers}
 use Rattle.epx_words.proofs.SoundArgumentLemmas.{prefix_to_first, prefix_to_first_keep}
 use Rattle.epx_words.proofs.SoundArgumentLemmas.{reaches_to_first, reaches_to_first_keep}
 use Rattle.epx_words.proofs.SoundArgumentLemmas.{reads_to_first, reads_to_first_keep}
-use Rattle.epx_words.proofs.SoundArgumentLemmas.{to_logs, to_logs_keep}
+use Rattle.epx_words.proofs.SoundArgumentLemmas.{to_first, to_first_keep, to_logs, to_logs_keep}
 
 pub epx_is_simple : is_simple epx_app ≡ true
 unfolding clap_on_literals
@@ -68,6 +68,11 @@ module _ (name : Text) (rest : List Text) where
       level_numbers (leaf_of (list_app name)) prefix_to_first refl refl prefix_to_first_keep rest
       none
 
+  input_numbers : IsFaultless (leaf_of (input_app name)) rest
+      → HasNumbers (rows_after (leaf_of (input_app name)).rules [] rest)
+  input_numbers none =
+      level_numbers (leaf_of (input_app name)) to_first refl refl to_first_keep rest none
+
   why_numbers : IsFaultless (leaf_of (why_app name)) rest
       → HasNumbers (rows_after (leaf_of (why_app name)).rules [] rest)
   why_numbers none =
@@ -96,18 +101,24 @@ nothing_missing shape rest none =
     let defaults = defaults_fault (settled shape.rules end).rows shape.rules in
     none_after defaults _ (none_after settles _ (none_after walked _ none))
 
-not_one_of : (name : Text) (texts : List Text)
-    → AllByRecursion (λ t. bytes_eq name t ≡ false) texts → ¬ IsOneOf name texts
-not_one_of name [] differ is = is
-not_one_of name (t ∷ ts) differ (inl is) =
-    true≢false (sym ((bytes_eq-Decides name t).1 is) ∙ differ.0)
-not_one_of name (t ∷ ts) differ (inr later) = not_one_of name ts differ.1 later
+-- the text is none of these
+abbrev is_none_of : Text → List Text → Bool
+is_none_of name [] = true
+is_none_of name (t ∷ ts) = cond (bytes_eq name t) false (is_none_of name ts)
+
+not_one_of : (name : Text) (texts : List Text) → is_none_of name texts ≡ true → ¬ IsOneOf name texts
+not_one_of name [] none is = is
+not_one_of name (t ∷ ts) none is = go (bytes_eq name t) refl (not_one_of name ts) none is
+  where
+    go : (b : Bool) → bytes_eq name t ≡ b → (is_none_of name ts ≡ true → ¬ IsOneOf name ts)
+        → cond b false (is_none_of name ts) ≡ true → ¬ IsOneOf name (t ∷ ts)
+    go true e rest none is = true≢false (sym none)
+    go false e rest none (inl same) = true≢false (sym ((bytes_eq-Decides name t).1 same) ∙ e)
+    go false e rest none (inr later) = rest none later
 
 -- the subcommand `follow` is no task
 no_follow : (name : Text) → IsTaskName name → ¬ (name ≡ codes "follow")
-no_follow name is e = not_one_of (codes "follow") task_names
-    (refl, (refl, (refl, (refl, (refl, (refl, (refl, (refl, (refl, (refl, tt))))))))))
-    (subst IsTaskName e is)
+no_follow name is e = not_one_of (codes "follow") task_names refl (subst IsTaskName e is)
 
 -- the subcommand of a task asks for work if it has both numbers and, where it needs one, a first
 -- argument
@@ -165,35 +176,37 @@ is_audit = inr (inr (inr (inr (inr (inl refl)))))
 is_check : IsTaskName (codes "check")
 is_check = inr (inr (inr (inr (inr (inr (inl refl))))))
 
+is_verify : IsTaskName (codes "verify")
+is_verify = inr (inr (inr (inr (inr (inr (inr (inl refl)))))))
+
+is_replay : IsTaskName (codes "replay")
+is_replay = inr (inr (inr (inr (inr (inr (inr (inr (inl refl))))))))
+
 is_compare : IsTaskName (codes "compare")
-is_compare = inr (inr (inr (inr (inr (inr (inr (inl refl)))))))
+is_compare = inr (inr (inr (inr (inr (inr (inr (inr (inr (inl refl)))))))))
 
 is_why : IsTaskName (codes "why")
-is_why = inr (inr (inr (inr (inr (inr (inr (inr (inl refl))))))))
+is_why = inr (inr (inr (inr (inr (inr (inr (inr (inr (inr (inl refl))))))))))
 
 is_trace : IsTaskName (codes "trace")
-is_trace = inr (inr (inr (inr (inr (inr (inr (inr (inr (inl refl)))))))))
+is_trace = inr (inr (inr (inr (inr (inr (inr (inr (inr (inr (inr (inl refl)))))))))))
 
-no_first : (name : Text) → AllByRecursion (λ t. bytes_eq name t ≡ false)
-    (codes "resume" ∷ codes "check" ∷ codes "why" ∷ codes "trace" ∷ []) → ¬ NeedsFirst name
-no_first name differ =
-    not_one_of name (codes "resume" ∷ codes "check" ∷ codes "why" ∷ codes "trace" ∷ []) differ
+no_first : (name : Text) → is_none_of name first_names ≡ true → ¬ NeedsFirst name
+no_first name none = not_one_of name first_names none
 
 -- the work of each subcommand
 module _ (rest : List Text) where
-  over_logs : (name : Text) → IsTaskName name → AllByRecursion (λ t. bytes_eq name t ≡ false)
-      (codes "resume" ∷ codes "check" ∷ codes "why" ∷ codes "trace" ∷ [])
+  over_logs : (name : Text) → IsTaskName name → is_none_of name first_names ≡ true
       → IsFaultless (leaf_of (work_app name)) rest
       → AsksForWork (Some (name, rows_after (leaf_of (work_app name)).rules [] rest))
-  over_logs name is differ none = logs_work (leaf_of (work_app name)) name rest is
-      (logs_numbers name rest none) (no_first name differ)
+  over_logs name is no_input none = logs_work (leaf_of (work_app name)) name rest is
+      (logs_numbers name rest none) (no_first name no_input)
 
-  over_findings : (name : Text) → IsTaskName name → AllByRecursion (λ t. bytes_eq name t ≡ false)
-      (codes "resume" ∷ codes "check" ∷ codes "why" ∷ codes "trace" ∷ [])
+  over_findings : (name : Text) → IsTaskName name → is_none_of name first_names ≡ true
       → IsFaultless (leaf_of (finding_app name)) rest
       → AsksForWork (Some (name, rows_after (leaf_of (finding_app name)).rules [] rest))
-  over_findings name is differ none = logs_work (leaf_of (finding_app name)) name rest is
-      (finding_numbers name rest none) (no_first name differ)
+  over_findings name is no_input none = logs_work (leaf_of (finding_app name)) name rest is
+      (finding_numbers name rest none) (no_first name no_input)
 
   abbrev follow_leaf : Shape
   follow_leaf = leaf_of (follow_app (codes "follow"))
@@ -205,42 +218,57 @@ module _ (rest : List Text) where
         inr refl,
         numbers.workers,
         numbers.cut,
-        λ has. absurd (no_first (codes "follow") (refl, (refl, (refl, (refl, tt)))) has),
+        λ has. absurd (no_first (codes "follow") refl has),
         λ e. no_flag (codes "exit-code") follow_leaf
             (refl, (refl, (refl, (refl, (refl, (refl, (refl, (refl, tt)))))))) rest none,
       )
 
 task_works : (name : Text) (rest : List Text) → IsTaskName name
     → entered_fault app (Some (name, rest)) ≡ [] → AsksForWork (entered app (Some (name, rest)))
-task_works name rest (inl is) = named name (codes "run") rest is
-    (over_findings rest (codes "run") is_run (refl, (refl, (refl, (refl, tt)))))
-task_works name rest (inr (inl is)) = named name (codes "order") rest is
-    (over_findings rest (codes "order") is_order (refl, (refl, (refl, (refl, tt)))))
-task_works name rest (inr (inr (inl is))) = named name (codes "levels") rest is
-    (over_findings rest (codes "levels") is_levels (refl, (refl, (refl, (refl, tt)))))
-task_works name rest (inr (inr (inr (inl is)))) = named name (codes "graph") rest is
-    (over_logs rest (codes "graph") is_graph (refl, (refl, (refl, (refl, tt)))))
-task_works name rest (inr (inr (inr (inr (inl is))))) = named name (codes "resume") rest is
+task_works name rest (inl is) =
+    named name (codes "run") rest is
+    (over_findings rest (codes "run") is_run refl)
+task_works name rest (inr (inl is)) =
+    named name (codes "order") rest is
+    (over_findings rest (codes "order") is_order refl)
+task_works name rest (inr (inr (inl is))) =
+    named name (codes "levels") rest is
+    (over_findings rest (codes "levels") is_levels refl)
+task_works name rest (inr (inr (inr (inl is)))) =
+    named name (codes "graph") rest is
+    (over_logs rest (codes "graph") is_graph refl)
+task_works name rest (inr (inr (inr (inr (inl is))))) =
+    named name (codes "resume") rest is
     (λ none. first_work (leaf_of (base_app (codes "resume"))) (codes "resume") rest is_resume
     (base_numbers (codes "resume") rest none) (λ e. e) none)
-task_works name rest (inr (inr (inr (inr (inr (inl is)))))) = named name (codes "audit") rest is
-    (over_findings rest (codes "audit") is_audit (refl, (refl, (refl, (refl, tt)))))
+task_works name rest (inr (inr (inr (inr (inr (inl is)))))) =
+    named name (codes "audit") rest is
+    (over_findings rest (codes "audit") is_audit refl)
 task_works name rest (inr (inr (inr (inr (inr (inr (inl is))))))) =
     named name (codes "check") rest is
     (λ none. first_work (leaf_of (list_app (codes "check"))) (codes "check") rest is_check
     (list_numbers (codes "check") rest none) (λ e. e) none)
 task_works name rest (inr (inr (inr (inr (inr (inr (inr (inl is)))))))) =
-    named name (codes "compare") rest is
-    (over_findings rest (codes "compare") is_compare (refl, (refl, (refl, (refl, tt)))))
+    named name (codes "verify") rest is
+    (λ none. first_work (leaf_of (base_app (codes "verify"))) (codes "verify") rest is_verify
+    (base_numbers (codes "verify") rest none) (λ e. e) none)
 task_works name rest (inr (inr (inr (inr (inr (inr (inr (inr (inl is))))))))) =
+    named name (codes "replay") rest is
+    (λ none. first_work (leaf_of (input_app (codes "replay"))) (codes "replay") rest is_replay
+    (input_numbers (codes "replay") rest none) (λ e. e) none)
+task_works name rest (inr (inr (inr (inr (inr (inr (inr (inr (inr (inl is)))))))))) =
+    named name (codes "compare") rest is
+    (over_findings rest (codes "compare") is_compare refl)
+task_works name rest (inr (inr (inr (inr (inr (inr (inr (inr (inr (inr (inl is))))))))))) =
     named name (codes "why") rest is
     (λ none. first_work (leaf_of (why_app (codes "why"))) (codes "why") rest is_why
     (why_numbers (codes "why") rest none) (λ e. e) none)
-task_works name rest (inr (inr (inr (inr (inr (inr (inr (inr (inr (inl is)))))))))) =
+task_works name rest (inr (inr (inr (inr (inr (inr (inr (inr (inr (inr (inr (inl is)))))))))))) =
     named name (codes "trace") rest is
     (λ none. first_work (leaf_of (trace_app (codes "trace"))) (codes "trace") rest is_trace
     (trace_numbers (codes "trace") rest none) (λ e. e) none)
-task_works name rest (inr (inr (inr (inr (inr (inr (inr (inr (inr (inr none)))))))))) = absurd none
+task_works name rest (inr (inr (inr (inr (inr (inr (inr (inr (inr (inr (inr (inr none)))))))))))) =
+    absurd none
 
 name_works : (name : Text) (rest : List Text) → IsWorkName name
     → entered_fault app (Some (name, rest)) ≡ [] → AsksForWork (entered app (Some (name, rest)))
@@ -269,8 +297,14 @@ known = (
             (
               inl (inl is_check),
               (
-                inl (inl is_compare),
-                (inl (inl is_why), (inl (inl is_trace), (inl (inr refl), (inr refl, tt)))),
+                inl (inl is_verify),
+                (
+                  inl (inl is_replay),
+                  (
+                    inl (inl is_compare),
+                    (inl (inl is_why), (inl (inl is_trace), (inl (inr refl), (inr refl, tt)))),
+                  ),
+                ),
               ),
             ),
           ),

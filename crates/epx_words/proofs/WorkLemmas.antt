@@ -55,6 +55,8 @@ subject_of task.Resume p is fits = no_subject p (codes "resume") is refl refl
 subject_of task.Audit p is fits = no_subject p (codes "audit") is refl refl
 subject_of task.Check p is fits = no_subject p (codes "check") is refl refl
 subject_of task.CheckPrefix p is fits = no_subject p (codes "check") is refl refl
+subject_of task.Verify p is fits = no_subject p (codes "verify") is refl refl
+subject_of task.Replay p is fits = no_subject p (codes "replay") is refl refl
 subject_of task.Compare p is fits = no_subject p (codes "compare") is refl refl
 subject_of (task.Why x) p is fits = ids_subject p is (
   id_named x p.1 fits.named,

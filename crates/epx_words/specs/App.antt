@@ -1,6 +1,6 @@
 -- The program as clap knows it. Each subcommand has two options with numbers, the flag `--explain`
--- and any number of logs. Four subcommands have a required argument before the logs. Some have
--- further flags, or options whose values are texts: the end of a path, or where states are.
+-- and any number of logs. Some have a required argument before the logs, further flags, or options
+-- whose values are texts: the end of a path, or where states are.
 use Rattle.std.specs.Prelude.{ℕ, true, Some, [], ◌∷◌, codes}
 use Rattle.clap.specs.Simple.{on_top}
 use Rattle.clap.specs.Words.{App, Rule, Text, new_app, new_rule, with_rule, with_subcommand}
@@ -58,7 +58,7 @@ abbrev pub finding_app : Text → App
 finding_app name =
     with_rule (with_rule (numbers_app name) (flag_rule (codes "exit-code"))) logs_rule
 
--- a subcommand over a base and logs, which can find something
+-- a subcommand over logs and an input, a base or what a replica said, which can find something
 abbrev pub base_app : Text → App
 base_app name =
     with_rule
@@ -74,6 +74,10 @@ list_app name =
     (flag_rule (codes "prefix")))
     first_rule)
     logs_rule
+
+-- a subcommand over a list and logs, which finds nothing
+abbrev pub input_app : Text → App
+input_app name = with_rule (with_rule (numbers_app name) first_rule) logs_rule
 
 -- a subcommand about an instance, over logs
 abbrev pub why_app : Text → App
@@ -115,13 +119,16 @@ runs_app =
     (finding_app (codes "order")).top) (finding_app (codes "levels")).top)
     (work_app (codes "graph")).top
 
--- and `resume`, `audit`, `check` and `compare`
+-- and `resume`, `audit`, `check`, `verify`, `replay` and `compare`
 abbrev pub checks_app : App
 checks_app =
     with_subcommand
     (with_subcommand
+    (with_subcommand
+    (with_subcommand
     (with_subcommand (with_subcommand runs_app (base_app (codes "resume")).top)
     (finding_app (codes "audit")).top) (list_app (codes "check")).top)
+    (base_app (codes "verify")).top) (input_app (codes "replay")).top)
     (finding_app (codes "compare")).top
 
 -- the program with all subcommands

@@ -30,6 +30,8 @@ task_name task.Resume = codes "resume"
 task_name task.Audit = codes "audit"
 task_name task.Check = codes "check"
 task_name task.CheckPrefix = codes "check"
+task_name task.Verify = codes "verify"
+task_name task.Replay = codes "replay"
 task_name task.Compare = codes "compare"
 task_name (task.Why x) = codes "why"
 task_name (task.Path x y) = codes "why"
@@ -40,11 +42,13 @@ abbrev pub AreFirstAndLogs : List Row → Option (List Text) → Type 0
 AreFirstAndLogs rows paths = (first : Text) × (first_in rows ≡ Some first)
     × (paths ≡ Some (first ∷ logs_in rows))
 
--- the paths of a task: of its base or its list, if it has one, and then of its logs
+-- the paths of a task: of its input besides the logs, if it has one, and then of its logs
 abbrev pub ArePathsOf : Task → List Row → Option (List Text) → Type 0
 ArePathsOf task.Resume rows paths = AreFirstAndLogs rows paths
 ArePathsOf task.Check rows paths = AreFirstAndLogs rows paths
 ArePathsOf task.CheckPrefix rows paths = AreFirstAndLogs rows paths
+ArePathsOf task.Verify rows paths = AreFirstAndLogs rows paths
+ArePathsOf task.Replay rows paths = AreFirstAndLogs rows paths
 ArePathsOf _ rows paths = paths ≡ Some (logs_in rows)
 
 -- x is named by the first argument, and y is the end of the path

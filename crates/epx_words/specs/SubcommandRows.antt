@@ -77,7 +77,8 @@ IsOneOf text (t ∷ ts) = (text ≡ t) ⊎ IsOneOf text ts
 -- the names of the subcommands of tasks
 abbrev pub task_names : List Text
 task_names = codes "run" ∷ codes "order" ∷ codes "levels" ∷ codes "graph" ∷ codes "resume"
-    ∷ codes "audit" ∷ codes "check" ∷ codes "compare" ∷ codes "why" ∷ codes "trace" ∷ []
+    ∷ codes "audit" ∷ codes "check" ∷ codes "verify" ∷ codes "replay" ∷ codes "compare"
+    ∷ codes "why" ∷ codes "trace" ∷ []
 
 abbrev pub IsTaskName : Text → Type 0
 IsTaskName name = IsOneOf name task_names
@@ -86,11 +87,15 @@ IsTaskName name = IsOneOf name task_names
 abbrev pub IsWorkName : Text → Type 0
 IsWorkName name = IsTaskName name ⊎ (name ≡ codes "follow")
 
--- the name of a subcommand with an argument before the logs: a base, a list, the name of an
--- instance, or a key
+-- the names of the subcommands with an argument before the logs: a base, a list, what a replica
+-- said, the name of an instance, or a key
+abbrev pub first_names : List Text
+first_names = codes "resume" ∷ codes "check" ∷ codes "verify" ∷ codes "replay" ∷ codes "why"
+    ∷ codes "trace" ∷ []
+
+-- the name of a subcommand with such an argument
 abbrev pub NeedsFirst : Text → Type 0
-NeedsFirst name =
-    IsOneOf name (codes "resume" ∷ codes "check" ∷ codes "why" ∷ codes "trace" ∷ [])
+NeedsFirst name = IsOneOf name first_names
 
 -- a subcommand that asks for work, a task or `follow`, with both numbers in their ranges and with
 -- its required first argument; `follow` has no `--exit-code`

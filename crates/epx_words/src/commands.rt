@@ -2,9 +2,9 @@
 ghost use Rattle.std.specs.Prelude.{◌≡◌, IfOk, codes};
 ghost use Rattle.clap.specs.Words.{app_of, new_app, rule_of};
 ghost use Rattle.epx_words.specs.App.{base_app, checks_app, epx_app, epx_top, finding_app};
-ghost use Rattle.epx_words.specs.App.{first_rule, flag_rule, follow_app, list_app, logs_rule};
-ghost use Rattle.epx_words.specs.App.{number_rule, numbers_app, runs_app, text_rule, trace_app};
-ghost use Rattle.epx_words.specs.App.{why_app, work_app};
+ghost use Rattle.epx_words.specs.App.{first_rule, flag_rule, follow_app, input_app, list_app};
+ghost use Rattle.epx_words.specs.App.{logs_rule, number_rule, numbers_app, runs_app, text_rule};
+ghost use Rattle.epx_words.specs.App.{trace_app, why_app, work_app};
 
 use clap::builder::ValueParser;
 use clap::{Arg, ArgAction, Command};
@@ -39,7 +39,7 @@ logs from 0, in the order of the words, and the lines of each from 1.
 Example:
   epx run examples/replicas/*.jsonl";
 
-/// The help texts of the program itself. They fit on one screen.
+/// The help texts of the program itself, around the lines of the subcommands.
 const EPX: &str = "Executes the committed instances of EPaxos from their logs";
 
 const EPX_AFTER: &str =
@@ -161,6 +161,53 @@ With --prefix the list is that of a live replica, and may lack ready instances:
 
 Example:
   epx check executed.list examples/replicas/*.jsonl",
+};
+
+const VERIFY: Help = Help {
+    about: "Says whether what a replica said is right",
+    long_about: "Says whether what a replica said is right: whether a lawful order begins with
+the order in which it executed, and whether its replies and its store are those
+of what the logs commit, executed in that order.",
+    after: "Example:
+  epx verify replica.said examples/replicas/*.jsonl",
+    long_after: "SAID has the reply lines that the replica gave, in the order in which it
+executed, and then its store lines, as a report has them. A report without its
+first line and without its waiting lines is one.
+
+What comes out is first the line that check --prefix prints for that order. If
+it is lawful, a line follows for each reply and each key that is wrong: what was
+said, and what is right, null where a side has none. The values are examples:
+
+  [\"lawful\"]                              a lawful order begins with that order
+  [\"reply\",r,i,[\"ok\",[70]],[\"abort\",0]]  the reply of the instance r.i is wrong
+  [\"store\",k,121,105]                     the value of the key k is wrong
+
+Example:
+  epx verify replica.said examples/replicas/*.jsonl",
+};
+
+const REPLAY: Help = Help {
+    about: "Executes a list of instances in its order: replies, the final store",
+    long_about: "Executes the instances of a list in the order of the list, over what the logs
+commit, and prints their replies and then the final store, as a report has them.
+Any order is executed: whether the protocol allows it is what check says. An
+instance that no log commits is executed as a command without operations.",
+    after: "Example:
+  epx replay executed.list examples/replicas/*.jsonl",
+    long_after: "A list has one instance a line, as replica and number; blank lines are passed
+over:
+
+  [0,7]
+
+What comes out is a line for each instance of the list, in its order, and then a
+line for each key, by its name:
+
+  [\"reply\",r,i,\"ok\",[..]]   the values that its command reads
+  [\"reply\",r,i,\"abort\",j]   its command aborts at operation j, counted from 0
+  [\"store\",k,v]            the value of a key in the final store
+
+Example:
+  epx replay executed.list examples/replicas/*.jsonl",
 };
 
 const COMPARE: Help = Help {
@@ -350,7 +397,7 @@ fn logs<'a>(alloc: Global) -> Arg<'a>
         .help("The logs to read, - for standard input; faults count them from 0")
 }
 
-/// The required argument before the logs: BASE, LIST, R.I or KEY.
+/// The required argument before the logs: BASE, LIST, SAID, R.I or KEY.
 fn first<'a>(alloc: Global, value: &'a str, help: &'a str) -> Arg<'a>
     ensures { rule_of result ≡ first_rule }
 {
@@ -404,6 +451,29 @@ fn check<'a>(alloc: Global) -> Result<Command<'a>, AllocError>
     let flagged = subcommand(alloc, "check", CHECK)?.arg(exit_code(alloc, IF_FOUND))?;
     let check = flagged.arg(prefix)?;
     check.arg(list)?.arg(logs(alloc))
+}
+
+/// The subcommand `verify`, whose arguments are SAID and logs.
+fn verify<'a>(alloc: Global) -> Result<Command<'a>, AllocError>
+    ensures { IfOk result (λ c. app_of c ≡ base_app (codes "verify")) }
+{
+    let said = first(
+        alloc,
+        "SAID",
+        "What the replica said: its replies and its store",
+    );
+    let verify = subcommand(alloc, "verify", VERIFY)?.arg(exit_code(alloc, IF_FOUND))?;
+    verify.arg(said)?.arg(logs(alloc))
+}
+
+/// The subcommand `replay`, whose arguments are LIST and logs.
+fn replay<'a>(alloc: Global) -> Result<Command<'a>, AllocError>
+    ensures { IfOk result (λ c. app_of c ≡ input_app (codes "replay")) }
+{
+    let list = first(alloc, "LIST", "The list to execute");
+    subcommand(alloc, "replay", REPLAY)?
+        .arg(list)?
+        .arg(logs(alloc))
 }
 
 /// The subcommand `why`, whose arguments are the name of an instance and logs.
@@ -490,11 +560,15 @@ fn with_checks<'a>(alloc: Global) -> Result<Command<'a>, AllocError>
     let resume = resume(alloc)?;
     let audit = finding_subcommand(alloc, "audit", AUDIT, IF_FOUND)?;
     let check = check(alloc)?;
+    let verify = verify(alloc)?;
+    let replay = replay(alloc)?;
     let compare = finding_subcommand(alloc, "compare", COMPARE, IF_FOUND)?;
     with_runs(alloc)?
         .subcommand(resume)?
         .subcommand(audit)?
         .subcommand(check)?
+        .subcommand(verify)?
+        .subcommand(replay)?
         .subcommand(compare)
 }
 

@@ -56,7 +56,7 @@ fn some_logs(alloc: Global, matches: &ArgMatches<'_>) -> Result<Option<Vec<Strin
     Ok(Some(logs_of(alloc, matches)?))
 }
 
-/// The path of the base or the list, and then the paths of the logs.
+/// The path of the input besides the logs, and then the paths of the logs.
 fn first_and_logs(alloc: Global, matches: &ArgMatches<'_>) -> Result<Vec<String>, AllocError>
     requires { IsSome (first_in (rows_of (found_of matches.now))) }
     ensures { IfOk result (λ paths.
@@ -75,7 +75,9 @@ fn paths_of(alloc: Global, task: Task, matches: &ArgMatches<'_>) -> Result<Vec<S
         ArePathsOf task (rows_of (found_of matches.now)) (Some (map string_bytes paths.items))) }
 {
     match task {
-        Task::Resume | Task::Check | Task::CheckPrefix => first_and_logs(alloc, matches),
+        Task::Resume | Task::Check | Task::CheckPrefix | Task::Verify | Task::Replay => {
+            first_and_logs(alloc, matches)
+        },
         Task::Run | Task::Order | Task::Levels | Task::Graph | Task::Audit | Task::Compare => {
             logs_of(alloc, matches)
         },

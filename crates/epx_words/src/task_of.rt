@@ -76,6 +76,10 @@ fn plain_task(name: &str, matches: &ArgMatches<'_>) -> Task
         Task::Audit
     } else if name == "check" {
         check_task(matches)
+    } else if name == "verify" {
+        Task::Verify
+    } else if name == "replay" {
+        Task::Replay
     } else if name == "compare" {
         Task::Compare
     } else {

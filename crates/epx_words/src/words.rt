@@ -28,8 +28,8 @@ pub struct FollowOptions {
 /// What a command line means: work to do, or a text to print.
 #[derive(Debug, Drop)]
 pub enum Words {
-    /// A task over the logs at these paths. For `Resume` the first path is that of the base, and
-    /// for `Check` and `CheckPrefix` that of the list. `None` means one log, standard input.
+    /// A task over the logs at these paths. Where the task has an input besides the logs, as a base
+    /// or a list, the first path is that of the input. `None` means one log, standard input.
     Work {
         task: Task,
         plan: Plan,

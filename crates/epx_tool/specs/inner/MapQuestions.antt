@@ -17,6 +17,7 @@ use Rattle.epx_tool.specs.declared.question.MapQuestion.{MapQuestion}
 use Rattle.epx_tool.specs.declared.question.MapQuestion.TheVariants.{Report, Resume, Order, Levels}
 use Rattle.epx_tool.specs.declared.question.MapQuestion.TheVariants.{Audit, Graph, Why, Path, Trace}
 use Rattle.epx_tool.specs.declared.question.MapQuestion.TheVariants.{Check, CheckPrefix}
+use Rattle.epx_tool.specs.declared.question.MapQuestion.TheVariants.{Replay, Verify}
 use Rattle.epx_tool.specs.AuditText.{IsAuditText}
 use Rattle.epx_tool.specs.Findings.{FindsIn, SomeWaits}
 use Rattle.epx_views.specs.LevelText.{IsLevelText}
@@ -25,8 +26,10 @@ use Rattle.epx_tool.specs.Report.{IsReport}
 use Rattle.epx_tool.specs.ResumedReport.{IsReportAfter}
 use Rattle.epx_tool.specs.TaskAnswers.{IsBadInput}
 use Rattle.epx_tool.specs.TaskTexts.{IsTaskText}
-use Rattle.epx_tool.specs.Verdicts.{IsPrefixVerdict, IsVerdict}
+use Rattle.epx_tool.specs.Verdicts.{IsPrefixVerdict, IsSaidVerdict, IsVerdict}
 use Rattle.epx_tool.specs.WithInput.{IsShort, IsRefusalWithInput}
+use Rattle.epx_verify.specs.ListExecutions.{replay_text}
+use Rattle.epx_verify.specs.SaidTexts.{IsSaidFault}
 
 -- the text that answers a question about a committed map
 abbrev pub IsTextOf : MapQuestion → List Instance → List ℕ → Type 0
@@ -41,6 +44,8 @@ IsTextOf (Path x y) = λ m. IsPathText m x y
 IsTextOf (Trace key reads) = λ m. IsTraceText m key.text.bytes reads
 IsTextOf (Check ids) = λ m. IsVerdict m ids.items
 IsTextOf (CheckPrefix ids) = λ m. IsPrefixVerdict m ids.items
+IsTextOf (Replay ids) = λ m text. text ≡ replay_text m ids.items
+IsTextOf (Verify said) = λ m. IsSaidVerdict m said.replies.items said.store
 
 -- it finds something
 abbrev pub FindsOf : MapQuestion → List Instance → List ℕ → Type 0
@@ -51,6 +56,7 @@ FindsOf Levels m text = SomeWaits m
 FindsOf Audit m text = text ≢ covered_line
 FindsOf (Check ids) m text = text ≢ lawful_line
 FindsOf (CheckPrefix ids) m text = text ≢ lawful_line
+FindsOf (Verify said) m text = text ≢ lawful_line
 FindsOf _ m text = ⊥
 
 -- the text, and whether it finds something
@@ -69,6 +75,7 @@ pub record TaskAsks (task : Task) (input : List ℕ) (question : MapQuestion) : 
 -- why the input of the task is not read
 abbrev pub IsInputFault : Task → List ℕ → BaseFault → Type 0
 IsInputFault about.Resume = IsBaseFault
+IsInputFault about.Verify = IsSaidFault
 IsInputFault _ = IsListFault
 
 -- the logs are accepted and the input is read, or they are refused

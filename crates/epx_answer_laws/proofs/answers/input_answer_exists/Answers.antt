@@ -2,4 +2,4 @@ use Rattle.epx_answer_laws.proofs.InputAnswerLemmas.{input_answer_exists}
 use Rattle.epx_answer_laws.proofs.answers.input_answer_exists.Goals as goal
 
 pub returns : goal.returns
-returns c = input_answer_exists
+returns c = input_answer_exists c.said_or_bad_said.ensures

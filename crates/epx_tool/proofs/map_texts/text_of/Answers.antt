@@ -111,3 +111,9 @@ returns-in-CheckPrefix-clause-found g c = subst
     (λ question. IfOk c.prefix_verdict_of.result
     (λ a. (a.has_findings ≡ true) ↔ FindsOf question c.args.merged.now a.text.items))
     (sym c.in-CheckPrefix.is) c.prefix_verdict_of.ensures.found
+
+pub returns-in-Verify-clause-found : goal.returns-in-Verify-clause-found
+returns-in-Verify-clause-found g c = subst
+    (λ question. IfOk c.said_verdict_of.result
+    (λ a. (a.has_findings ≡ true) ↔ FindsOf question c.args.merged.now a.text.items))
+    (sym c.in-Verify.is) c.said_verdict_of.ensures.found

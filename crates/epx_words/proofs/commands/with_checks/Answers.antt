@@ -1,7 +1,7 @@
 use Rattle.std.proofs.Common.{codes, refl}
 use Rattle.epx_types.proofs.Common.{IfOk-weaker}
 use Rattle.clap.specs.Words.{App, with_subcommand}
-use Rattle.epx_words.specs.App.{base_app, finding_app, list_app, runs_app}
+use Rattle.epx_words.specs.App.{base_app, finding_app, input_app, list_app, runs_app}
 use Rattle.epx_words.proofs.CommandLemmas.{with_command}
 use Rattle.epx_words.proofs.commands.with_checks.Goals as goal
 
@@ -14,6 +14,12 @@ to_audit = with_subcommand to_resume (finding_app (codes "audit")).top
 abbrev to_check : App
 to_check = with_subcommand to_audit (list_app (codes "check")).top
 
+abbrev to_verify : App
+to_verify = with_subcommand to_check (base_app (codes "verify")).top
+
+abbrev to_replay : App
+to_replay = with_subcommand to_verify (input_app (codes "replay")).top
+
 pub returns : goal.returns
 returns c =
     let one = with_command c.in_ok-with_runs.field-0 c.in_ok-resume.resume
@@ -25,7 +31,13 @@ returns c =
     let three = with_command c.in_ok-subcommand-2.field-0 c.in_ok-check.check
     c.in_ok-subcommand-3.field-0 to_audit (list_app (codes "check"))
     c.in_ok-subcommand-3.ensures two c.in_ok-check.ensures refl in
-    IfOk-weaker c.subcommand-4.result _ _ (λ made added.
-    with_command c.in_ok-subcommand-3.field-0 c.in_ok-compare.compare made to_check
-    (finding_app (codes "compare")) added three c.in_ok-compare.ensures refl)
-    c.subcommand-4.ensures
+    let four = with_command c.in_ok-subcommand-3.field-0 c.in_ok-verify.verify
+    c.in_ok-subcommand-4.field-0 to_check (base_app (codes "verify"))
+    c.in_ok-subcommand-4.ensures three c.in_ok-verify.ensures refl in
+    let five = with_command c.in_ok-subcommand-4.field-0 c.in_ok-replay.replay
+    c.in_ok-subcommand-5.field-0 to_verify (input_app (codes "replay"))
+    c.in_ok-subcommand-5.ensures four c.in_ok-replay.ensures refl in
+    IfOk-weaker c.subcommand-6.result _ _ (λ made added.
+    with_command c.in_ok-subcommand-5.field-0 c.in_ok-compare.compare made to_replay
+    (finding_app (codes "compare")) added five c.in_ok-compare.ensures refl)
+    c.subcommand-6.ensures
