@@ -109,6 +109,21 @@ class Report:
     text: bytes
 
 
+@dataclasses.dataclass
+class Said:
+    """What a replica says of itself: its replies in the order in which it executed, and its store.
+    `text` has it as lines."""
+
+    replies: list
+    store: dict
+
+    @property
+    def text(self):
+        rows = [("reply", it.id.replica, it.id.number, *outcome_of(it)) for it in self.replies]
+        rows += [("store", key, self.store[key]) for key in sorted(self.store, key=str.encode)]
+        return b"".join(json.dumps(row).encode() + b"\n" for row in rows)
+
+
 @dataclasses.dataclass(frozen=True)
 class Ordered:
     """An instance of the execution order, with its depth and its component's leader."""
@@ -164,9 +179,22 @@ def audit(logs, workers=4, exit_code=False):
 def check(instances, logs, workers=4, prefix=False, exit_code=False):
     """What is wrong with a list of instances as an order, or as the beginning of one, as a row of
     the answer, or None: lawful. With `exit_code` all but lawful is a finding."""
-    lines = "".join(f"[{one.replica},{one.number}]\n" for one in instances)
     options = ["--prefix"] if prefix else []
-    return ask("check", [lines.encode(), *logs], workers, exit_code, read_verdict, options)
+    lines = list_of(instances)
+    return ask("check", [lines, *logs], workers, exit_code, read_verdict, options)
+
+
+def replay(instances, logs, workers=4):
+    """The replies of instances that are executed in this order, and the store after them."""
+    return ask("replay", [list_of(instances), *logs], workers, False, read_said)
+
+
+def verify(said, logs, workers=4, exit_code=False):
+    """What is wrong with what a replica says, a path, its bytes, a `Said` or a `Report`, as the
+    rows of the answer: none if all is right. With `exit_code` a row is a finding."""
+    said = Said(said.replies, said.store) if isinstance(said, Report) else said
+    text = said.text if isinstance(said, Said) else said
+    return ask("verify", [text, *logs], workers, exit_code, read_wrong)
 
 
 def compare(logs, workers=4, exit_code=False):
@@ -307,6 +335,11 @@ class Follower:
                 pipe.close()
 
 
+def list_of(instances):
+    """The text of a list of instances."""
+    return "".join(f"[{one.replica},{one.number}]\n" for one in instances).encode()
+
+
 def lines_of(lines):
     """The lines of a batch as bytes, without line feeds and blank ones."""
     texts = [lines] if isinstance(lines, (str, bytes, dict)) else lines
@@ -348,6 +381,22 @@ def read_verdict(text):
     return None if row == ["lawful"] else tuple(row)
 
 
+def read_wrong(text):
+    """The rows of what is wrong with what a replica says."""
+    return [row for row in read_rows(text) if row != ("lawful",)]
+
+
+def read_said(text):
+    """What a replay prints."""
+    found = Said([], {})
+    for kind, *row in map(json.loads, text.splitlines()):
+        if kind == "reply":
+            found.replies.append(reply_of(*row))
+        else:
+            found.store[row[0]] = row[1]
+    return found
+
+
 def read_path(text):
     """The instances of a path, or None."""
     row = json.loads(text)
@@ -358,6 +407,13 @@ def reply_of(replica, number, how, rest):
     """The reply of a row."""
     values, place = (tuple(rest), None) if how == "ok" else ((), rest)
     return Reply(Id(replica, number), values, place)
+
+
+def outcome_of(reply):
+    """The end of the row of a reply."""
+    if reply.aborted_at is None:
+        return "ok", reply.values
+    return "abort", reply.aborted_at
 
 
 def waiting_of(replica, number, *missing):
@@ -430,6 +486,11 @@ def test_answers(examples, logs):
     assert graph(logs) == (examples / "replicas/all.dot").read_text()
     assert audit(logs) is None and check([one.id for one in order(logs)], logs) is None
     assert check([], logs)[0] == "missing" and check([], logs, prefix=True) is None
+    right = replay([one.id for one in found.replies], logs)
+    assert right == Said(found.replies, found.store)
+    assert verify(right, logs) == verify(found, logs) == verify(right.text, logs) == []
+    right.store["bob"] = 51
+    assert verify(right, logs) == [("store", "bob", 51, 50)]
     kinds = [row[0] for row in compare(sorted(examples.glob("corrupted/*.jsonl")))]
     assert kinds == ["log"] * 5 + ["bad", "differs"] + ["lacks"] * 4 + ["missing"]
     assert why(Id(2, 1), logs) == [("waiting", 2, 1, 2, 2), ("needs", 2, 2, 1)]
@@ -451,6 +512,10 @@ def test_findings(examples, logs):
     assert audit(logs, exit_code=True) is None and audit(unrelated) is not None
     assert raised(Finding, lambda: check([], logs, exit_code=True)).answer == check([], logs)
     assert check([], logs, prefix=True, exit_code=True) is None
+    wrong = Said([], {"bob": 1})
+    found = raised(Finding, lambda: verify(wrong, logs, exit_code=True))
+    assert found.answer == verify(wrong, logs) == [("store", "bob", 1, None)]
+    assert verify(Said([], {}), logs, exit_code=True) == []
     assert raised(Finding, lambda: compare(logs, exit_code=True)).answer == compare(logs)
     assert compare(one, exit_code=True) == compare(one)
     for ask_for in (report, order, levels, audit, compare):
