@@ -8,7 +8,7 @@ _epx_offer() {
 
 # Offers subcommands: all of them where none begins as a misspelt word does.
 _epx_offer_commands() {
-    local commands="run order levels graph resume audit check compare why trace follow help"
+    local commands="run order levels graph resume audit check verify replay compare why trace follow help"
     _epx_offer "$commands"
     [ "${#COMPREPLY[@]}" -gt 0 ] || read -ra COMPREPLY <<<"$commands"
 }
@@ -21,8 +21,8 @@ _epx() {
     esac
     # the options of the subcommand, and how many names that are no paths come first
     case ${COMP_WORDS[1]} in
-        run|order|levels|resume|audit|compare) options=" --workers --cut --explain --exit-code --help " firsts=0 ;;
-        graph) options=" --workers --cut --explain --help " firsts=0 ;;
+        run|order|levels|resume|audit|verify|compare) options=" --workers --cut --explain --exit-code --help " firsts=0 ;;
+        graph|replay) options=" --workers --cut --explain --help " firsts=0 ;;
         check) options=" --workers --cut --explain --exit-code --prefix --help " firsts=0 ;;
         why) options=" --workers --cut --explain --reaches --help " firsts=1 ;;
         trace) options=" --workers --cut --explain --reads --help " firsts=1 ;;
