@@ -1,6 +1,6 @@
 -- A follower that goes on from an executor, whose waiting instances are on consecutive lines.
 use Rattle.std.proofs.Common.{◌≡◌, ◌∙◌, ◌<◌, ◌+◌, ℕ, suc, false, List, [], ◌∷◌, ◌++◌, length, take}
-use Rattle.std.proofs.Common.{get_or, Contains, Option, None, Some, option_map, append-nil, arith}
+use Rattle.std.proofs.Common.{get_or, Contains, Option, None, Some, option_map, arith}
 use Rattle.std.proofs.Common.{refl, sym, ap, ap₂, subst}
 use Rattle.std.specs.Option.{unwrap_or}
 use Rattle.epx_types.proofs.Common.{Contains-cons, Contains-head, Contains-nil, Instance}
@@ -89,6 +89,5 @@ module _ (noted : Id → Option Place) (v : ExecutorView) (log line : ℕ) (sett
         AllWait (record { done = v.done; store = v.store; pending = m }))
         (sym (instances-pending noted v.pending)) settled;
     left = λ p h. absurd (Contains-nil p h);
-    first_places = subst (HasFirstPlaces noted)
-        (sym (append-nil (pending_lines noted v.pending) ∙ pending_are)) has;
+    first_places = subst (HasFirstPlaces noted) (sym pending_are) has;
   }

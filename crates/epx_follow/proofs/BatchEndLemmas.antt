@@ -1,12 +1,12 @@
 -- The lines that a follower holds after a batch, and what the end of the batch did.
 use Rattle.std.proofs.Common.{◌≡◌, inl, inr, ◌∙◌, ℕ, List, [], ◌∷◌, ◌++◌, map, zip}
 use Rattle.std.proofs.Common.{length, Contains, Option, None, Some, false, not, option_map, refl}
-use Rattle.std.proofs.Common.{sym, ap, ap₂, subst, arith, append-nil, Bor, ◌+◌, ◌<◌, take, get_or}
+use Rattle.std.proofs.Common.{sym, ap, ap₂, subst, arith, Bor, ◌+◌, ◌<◌, take, get_or}
 use Rattle.epx_types.proofs.Common.{map-append, take_more}
 use Rattle.epx_types.proofs.Common.{Contains-filter, Contains-append_cases}
 use Rattle.epx_types.proofs.Common.{Contains-from_filter, Contains-from_map, Contains-map}
 use Rattle.epx_types.proofs.Common.{Contains-nil, Instance, Placed, is_among, not_among}
-use Rattle.epx_types.proofs.Common.{ranked_ids, Contains-head, Contains-cons}
+use Rattle.epx_types.proofs.Common.{ranked_ids}
 use Rattle.std.specs.Option.{unwrap_or}
 use Rattle.epx_committed.specs.MergedLines.{IsMerged}
 use Rattle.epx_laws.specs.ResumedRunLaws.{run_on}
@@ -20,15 +20,14 @@ use Rattle.epx_executor.specs.Commits.{AllWait, ExecutorView, IsCommit, not_done
 use Rattle.epx_follow.specs.Following.{FollowerView, held_lines, instances_of}
 use Rattle.epx_follow.specs.FollowerLaws.{BatchIsACommit, executor_of}
 use Rattle.epx_follow.specs.CallPlaces.{held_places}
-use Rattle.epx_follow.specs.inner.FirstPlaces.{HasFirstPlaces}
+use Rattle.epx_follow.specs.inner.FirstPlaces.{HasFirstPlaces, HasOtherPlaces}
 use Rattle.epx_follow.specs.inner.HeldLines.{AreHeld, batch_lines, no_place, pending_lines}
 use Rattle.epx_follow.proofs.CallPlaceLemmas.{call_has_real, real_has_call}
 use Rattle.epx_follow.proofs.SameInstanceLemmas.{merged_alike}
 use Rattle.epx_executor.specs.CallLines.{call_lines}
-use Rattle.epx_follow.proofs.FirstPlaceLemmas.{AreForgotten}
 use Rattle.epx_follow.proofs.FirstLineLemmas.{first_line-cases, first_line-finds}
 use Rattle.epx_follow.proofs.FirstLineLemmas.{first_line-found}
-use Rattle.epx_follow.proofs.HeldLineLemmas.{noted_of_line}
+use Rattle.epx_follow.proofs.HeldLineLemmas.{place_of}
 
 -- ---- instances and places of lines
 
@@ -63,16 +62,6 @@ batch_lines-push (q ∷ places) (f ∷ es) p e same =
     ap (λ more. record { place = q; instance = f } ∷ more)
     (batch_lines-push places es p e (omega (arith, same)))
 
--- where one place is noted for each, other notes of the same give the same lines
-pub pending_lines-same : (before after : Id → Option Place) (m : List Instance)
-    → ((e : Instance) → Contains m e → after e.id ≡ before e.id)
-    → pending_lines after m ≡ pending_lines before m
-pending_lines-same before after [] same = refl
-pending_lines-same before after (e ∷ m) same =
-    ap₂ (λ (o : Option Place) es. record { place = unwrap_or o no_place; instance = e } ∷ es)
-    (same e (Contains-head e m))
-    (pending_lines-same before after m (λ f h. same f (Contains-cons e m f h)))
-
 -- the places of the first k of some instances, and of the next one
 pub places-next : (noted : Id → Option Place) (entries : List (Bor Instance)) (k : ℕ)
     (d : Bor Instance) (found after : List Place) (p : Place) → k < length entries
@@ -94,42 +83,75 @@ places-next noted entries k d found after p l so_far is pushed =
 
 -- ---- the end of a batch
 
--- `noted` are the places before a commit, of whose replies the Ids are forgotten in `left`
-module _ (noted left : Id → Option Place) (before : FollowerView) (held : AreHeld noted before)
+module _ (noted : Id → Option Place) (before : FollowerView) (held : AreHeld noted before)
     (after : ExecutorView) (replies : List (Id × Reply))
     (commit : IsCommit (executor_of before) (instances_of before.batch) after replies)
-    (settled : AllWait after) (forgotten : AreForgotten noted (ranked_ids commit.order) left)
-  where
-    abbrev lines : List Placed
-    lines = held_lines before
+    (settled : AllWait after) where
+  abbrev lines : List Placed
+  lines = held_lines before
 
-    abbrev call : List Placed
-    call = call_lines before.done (instances_of before.pending) (instances_of before.batch)
+  abbrev call : List Placed
+  call = call_lines before.done (instances_of before.pending) (instances_of before.batch)
 
-    abbrev executed : List Id
-    executed = ranked_ids commit.order
+  abbrev executed : List Id
+  executed = ranked_ids commit.order
 
+  merged : IsMerged lines commit.other
+  merged = merged_alike call lines
+      (real_has_call before.done before.pending before.batch held.left)
+      (call_has_real before.done before.pending before.batch held.left) commit.other
+      commit.merged
+
+  -- what waits now is of the map, and not executed
+  of_map : (e : Instance) → Contains after.pending e
+      → Contains commit.other e × (¬ Contains executed e.id)
+  of_map e h = (
+    Contains-from_filter (λ d. not (is_among after.done d.id)) commit.other e
+        (subst (λ (m : List Instance). Contains m e) commit.pending h),
+    λ there. settled.not_done e h ((commit.done e.id).1 (inr there)),
+  )
+
+  -- an instance on a line is executed or waits
+  waits_now : (p : Placed) → Contains lines p → ¬ Contains executed p.instance.id
+      → Contains after.pending p.instance
+  waits_now p h new =
+      let left_out : ¬ Contains after.done p.instance.id =
+      λ there. elim ((commit.done p.instance.id).0 there) [
+        | inl done ↦ elim (Contains-append_cases before.pending before.batch p h) [
+          | inl old ↦ held.settled.not_done p.instance
+              (Contains-map (λ (q : Placed). q.instance) before.pending p old) done
+          | inr came ↦ held.left p came done
+        ]
+        | inr now ↦ new now
+      ] in
+      subst (λ (m : List Instance). Contains m p.instance) (sym commit.pending)
+      (Contains-filter (λ d. not (is_among after.done d.id)) commit.other p.instance
+      (merged.committed.whole p h) (ap not (not_among after.done p.instance.id left_out)))
+
+  -- where nothing waits, no line names an Id that is not executed
+  pub all_executed : (left : Id → Option Place) → after.pending ≡ []
+      → ((x : Id) → left x ≡ None) → HasOtherPlaces left lines executed
+  all_executed left none gone = (
+    λ x h. gone x,
+    λ x new. elim (first_line-cases lines x) [
+      | inl free ↦ gone x ∙ sym (ap (option_map place_of) free)
+      | inr some ↦
+          let known = first_line-found lines x some.0 some.1 in
+          let waits = waits_now some.0 known.0
+          (λ there. new (subst (Contains executed) known.1 there)) in
+          absurd (Contains-nil some.0.instance
+          (subst (λ (m : List Instance). Contains m some.0.instance) none waits))
+    ],
+  )
+
+  -- `left` are the first places without those of what is executed
+  module _ (left : Id → Option Place) (others : HasOtherPlaces left lines executed) where
     -- a pending instance at its place
     abbrev at_place : Instance → Placed
     at_place e = record { place = unwrap_or (left e.id) no_place; instance = e }
 
     abbrev waiting : List Placed
     waiting = pending_lines left after.pending
-
-    merged : IsMerged lines commit.other
-    merged = merged_alike call lines
-        (real_has_call before.done before.pending before.batch held.left)
-        (call_has_real before.done before.pending before.batch held.left) commit.other
-        commit.merged
-
-    -- what waits now is of the map, and not executed
-    of_map : (e : Instance) → Contains after.pending e
-        → Contains commit.other e × (¬ Contains executed e.id)
-    of_map e h = (
-      Contains-from_filter (λ d. not (is_among after.done d.id)) commit.other e
-          (subst (λ (m : List Instance). Contains m e) commit.pending h),
-      λ there. settled.not_done e h ((commit.done e.id).1 (inr there)),
-    )
 
     -- it is at the first line that names it
     at_first : (e : Instance) → Contains after.pending e
@@ -138,12 +160,12 @@ module _ (noted left : Id → Option Place) (before : FollowerView) (held : AreH
         let there = of_map e h in
         let l = merged.committed.given e there.0 in
         let named : l.0.instance.id ≡ e.id = ap (λ (d : Instance). d.id) l.2 in
-        let some = noted_of_line noted lines held.first_places l.0 l.1 in
+        let some = first_line-finds lines l.0 l.1 in
         let first : first_line lines e.id ≡ Some some.0 =
         ap (first_line lines) (sym named) ∙ some.1 in
         let known = first_line-found lines e.id some.0 first in
         let is : left e.id ≡ Some some.0.place =
-        forgotten.1 e.id there.1 ∙ ap noted (sym named) ∙ some.2 in
+        others.1 e.id there.1 ∙ ap (option_map place_of) first in
         let same : some.0.instance ≡ e =
         merged.agree some.0 l.0 known.0 l.1 (known.1 ∙ sym named) ∙ l.2 in
         let line : some.0 ≡ at_place e =
@@ -159,30 +181,12 @@ module _ (noted left : Id → Option Place) (before : FollowerView) (held : AreH
           (at_first e.0 e.1).0;
     }
 
-    -- an instance on a line is executed or waits
-    waits_now : (p : Placed) → Contains lines p → ¬ Contains executed p.instance.id
-        → Contains after.pending p.instance
-    waits_now p h new =
-        let left_out : ¬ Contains after.done p.instance.id =
-        λ there. elim ((commit.done p.instance.id).0 there) [
-          | inl done ↦ elim (Contains-append_cases before.pending before.batch p h) [
-            | inl old ↦ held.settled.not_done p.instance
-                (Contains-map (λ (q : Placed). q.instance) before.pending p old) done
-            | inr came ↦ held.left p came done
-          ]
-          | inr now ↦ new now
-        ] in
-        subst (λ (m : List Instance). Contains m p.instance) (sym commit.pending)
-        (Contains-filter (λ d. not (is_among after.done d.id)) commit.other p.instance
-        (merged.committed.whole p h) (ap not (not_among after.done p.instance.id left_out)))
-
     -- nothing is noted for an Id that no line names now
     none_noted : (x : Id) → first_line waiting x ≡ None → left x ≡ None
     none_noted x none = elim (is_among_cases executed x) [
-      | inl done ↦ forgotten.0 x done.1
+      | inl done ↦ others.0 x done.1
       | inr new ↦ elim (first_line-cases lines x) [
-        | inl free ↦ forgotten.1 x new.1 ∙ held.first_places x
-            ∙ ap (option_map (λ (p : Placed). p.place)) free
+        | inl free ↦ others.1 x new.1 ∙ ap (option_map place_of) free
         | inr some ↦
             let known = first_line-found lines x some.0 some.1 in
             let waits = waits_now some.0 known.0
@@ -197,13 +201,13 @@ module _ (noted left : Id → Option Place) (before : FollowerView) (held : AreH
 
     noted_now : HasFirstPlaces left waiting
     noted_now x = elim (first_line-cases waiting x) [
-      | inl none ↦ none_noted x none ∙ sym (ap (option_map (λ (p : Placed). p.place)) none)
+      | inl none ↦ none_noted x none ∙ sym (ap (option_map place_of) none)
       | inr some ↦
           let known = first_line-found waiting x some.0 some.1 in
           let e = Contains-from_map at_place after.pending some.0 known.0 in
           let is : e.0.id ≡ x = ap (λ (q : Placed). q.instance.id) e.2 ∙ known.1 in
           ap left (sym is) ∙ (at_first e.0 e.1).1 ∙ ap (λ (q : Placed). Some q.place) e.2
-          ∙ sym (ap (option_map (λ (p : Placed). p.place)) some.1)
+          ∙ sym (ap (option_map place_of) some.1)
     ]
 
     -- the follower after the batch
@@ -223,7 +227,7 @@ module _ (noted left : Id → Option Place) (before : FollowerView) (held : AreH
           AllWait (record { done = after.done; store = after.store; pending = m }))
           (sym (instances-pending left after.pending)) settled;
       left = λ p h. absurd (Contains-nil p h);
-      first_places = subst (HasFirstPlaces left) (sym (append-nil waiting)) noted_now;
+      first_places = noted_now;
     }
 
     pub ends_batch : (came : ℕ) (text : List ℕ) → came ≡ count_new before commit.other

@@ -1,7 +1,7 @@
 -- The end of a batch, of a follower as it keeps its lines.
-use Rattle.std.proofs.Common.{◌≡◌, ◌⊎◌, inl, inr, ◌∙◌, ℕ, ◌+◌, ◌≤◌, Bool, List, []}
-use Rattle.std.proofs.Common.{length, map, Option, false, sym, ap, subst, subst₂}
-use Rattle.std.proofs.Common.{arith, not, ◌^◌}
+use Rattle.std.proofs.Common.{◌≡◌, ◌≢◌, ◌⊎◌, inl, inr, ◌∙◌, ℕ, ◌+◌, ◌++◌, ◌≤◌, Bool, List, []}
+use Rattle.std.proofs.Common.{length, map, None, Option, false, sym, ap, subst, subst₂}
+use Rattle.std.proofs.Common.{arith, not, refl, ◌∷◌, ◌^◌}
 use Rattle.epx_types.proofs.Common.{Contents, Instance, Placed, commands_in, length-map}
 use Rattle.epx_types.proofs.Common.{length-replies, ranked_ids, remaining, is_among}
 use Rattle.epx_types.specs.declared.fault.Fault.{Fault}
@@ -15,13 +15,13 @@ use Rattle.epx_executor.specs.CallLines.{call_lines}
 use Rattle.epx_executor.specs.Commits.{AllWait, ExecutorView, IsCommit}
 use Rattle.epx_follow.specs.BatchEnds.{EndsBatch, RefusesBatch, batch_text, count_new}
 use Rattle.epx_follow.specs.CallPlaces.{at_lines, held_places}
-use Rattle.epx_follow.specs.Following.{FollowerView, instances_of}
+use Rattle.epx_follow.specs.Following.{FollowerView, held_lines, instances_of}
 use Rattle.epx_follow.specs.FollowerLaws.{executor_of}
-use Rattle.epx_follow.specs.inner.HeldLines.{AreHeld, pending_lines}
-use Rattle.epx_follow.proofs.BatchEndLemmas.{ends_batch, held_ended, instances-batch}
-use Rattle.epx_follow.proofs.BatchEndLemmas.{instances-pending, places-batch}
+use Rattle.epx_follow.specs.inner.FirstPlaces.{HasOtherPlaces}
+use Rattle.epx_follow.specs.inner.HeldLines.{AreHeld, batch_lines, pending_lines}
+use Rattle.epx_follow.proofs.BatchEndLemmas.{all_executed, ends_batch, held_ended}
+use Rattle.epx_follow.proofs.BatchEndLemmas.{instances-batch, instances-pending, places-batch}
 use Rattle.epx_follow.proofs.CountLemmas.{counted}
-use Rattle.epx_follow.proofs.FirstPlaceLemmas.{AreForgotten}
 use Rattle.epx_follow.proofs.HoldLemmas.{shown}
 use Rattle.epx_executor.proofs.CallLineLemmas.{merged_are_few}
 use Rattle.epx_executor.proofs.PrefixLemmas.{zip_firsts}
@@ -106,15 +106,24 @@ module _ (done : List Id) (store : Contents) (noted : Id → Option Place)
     )
 
     module _ (left : Id → Option Place) (settled : AllWait after)
-        (forgotten : AreForgotten noted ids left) where
-      forgets : AreForgotten noted (ranked_ids commits.order) left
-      forgets = subst (λ (xs : List Id). AreForgotten noted xs left) executed_ids forgotten
+        (gone : length after.pending ≡ 0 → (x : Id) → left x ≡ None)
+        (kept : length after.pending ≢ 0
+        → HasOtherPlaces left (pending_lines noted pending ++ batch_lines places batch) ids) where
+      others_by : (m : List Instance) → after.pending ≡ m
+          → HasOtherPlaces left (held_lines was) (ranked_ids commits.order)
+      others_by [] is =
+          all_executed noted was held after replies commits settled left is (gone (ap length is))
+      others_by (e ∷ m) is = subst (HasOtherPlaces left (held_lines was)) executed_ids
+          (kept (λ none. absurd (omega (arith, ap length is, none))))
+
+      others : HasOtherPlaces left (held_lines was) (ranked_ids commits.order)
+      others = others_by after.pending refl
 
       abbrev now : FollowerView
       now = shown after.done after.store left after.pending [] [] next false
 
       pub held_now : AreHeld left now
-      held_now = held_ended noted left was held after replies commits settled forgets
+      held_now = held_ended noted was held after replies commits settled left others
 
       pub ends : (came : ℕ) (text : List ℕ)
           → came + length pending ≡ length ids + length after.pending
@@ -128,7 +137,7 @@ module _ (done : List Id) (store : Contents) (noted : Id → Option Place)
             waiting_ids,
             count,
           ) in
-          ends_batch noted left was held after replies commits settled forgets came text new
+          ends_batch noted was held after replies commits settled left others came text new
           (is ∙ ap (λ n. batch_text came n replies)
           (ap length (sym (instances-pending left after.pending))
           ∙ length-map (pending_lines left after.pending) (λ (p : Placed). p.instance)))

@@ -1,16 +1,16 @@
 -- The lines that a follower holds, after a line without an instance, and after one of an instance.
 use Rattle.std.proofs.Common.{◌≡◌, inl, inr, ◌∙◌, List, [], ◌∷◌, ◌++◌, Contains, Option, None}
-use Rattle.std.proofs.Common.{Some, MatchOption, option_map, append_assoc, true, sym, ap, subst}
+use Rattle.std.proofs.Common.{Some, MatchOption, option_map, true, sym, ap, subst}
 use Rattle.epx_types.proofs.Common.{Contains-append_cases, Contains-cons_cases, Contains-nil}
 use Rattle.epx_types.proofs.Common.{Id-cases, Instance, Placed}
 use Rattle.epx_types.specs.declared.id.Id.{Id}
 use Rattle.epx_types.specs.declared.place.Place.{Place}
 use Rattle.epx_follow.specs.BatchEnds.{first_line}
-use Rattle.epx_follow.specs.Following.{FollowerView, at_next_log, held_lines, next_line, passed}
+use Rattle.epx_follow.specs.Following.{FollowerView, at_next_log, next_line, passed}
 use Rattle.epx_follow.specs.inner.FirstPlaces.{HasFirstPlaces, IsNoted}
 use Rattle.epx_follow.specs.inner.HeldLines.{AreHeld}
 use Rattle.epx_follow.proofs.FirstLineLemmas.{first_line-cases, first_line-earlier}
-use Rattle.epx_follow.proofs.FirstLineLemmas.{first_line-finds, first_line-later, first_line-one}
+use Rattle.epx_follow.proofs.FirstLineLemmas.{first_line-later, first_line-one}
 use Rattle.epx_follow.proofs.FirstLineLemmas.{first_line-other}
 
 -- ---- a line without an instance, and the end of a log
@@ -29,15 +29,6 @@ held_next_log noted v h =
 
 abbrev pub place_of : Placed → Place
 place_of p = p.place
-
--- for the instance of a line the place of its first line is noted
-pub noted_of_line : (noted : Id → Option Place) (lines : List Placed)
-    → HasFirstPlaces noted lines → (p : Placed) → Contains lines p
-    → (q : Placed) × (first_line lines p.instance.id ≡ Some q)
-    × (noted p.instance.id ≡ Some q.place)
-noted_of_line noted lines has p h =
-    let q = first_line-finds lines p h in
-    (q.0, q.1, has p.instance.id ∙ ap (option_map place_of) q.1)
 
 -- ---- one more line
 
@@ -98,16 +89,11 @@ with_line v e = record v {
   is_open = true;
 }
 
-module _ (before after : Id → Option Place) (v : FollowerView) (e : Instance)
-    (noted : IsNoted before e.id v.next after) (h : AreHeld before v)
-    (new : ¬ Contains v.done e.id) where
-  abbrev line : Placed
-  line = record { place = v.next; instance = e }
-
-  pub held_joined : AreHeld after (with_line v e)
-  held_joined = record {
-    settled = h.settled;
-    left = each_line (λ p. ¬ Contains v.done p.instance.id) v.batch line h.left new;
-    first_places = subst (HasFirstPlaces after) (append_assoc v.pending v.batch (line ∷ []))
-        (first_places_next before after line noted (held_lines v) h.first_places);
-  }
+pub held_joined : (noted : Id → Option Place) (v : FollowerView) (e : Instance) → AreHeld noted v
+    → ¬ Contains v.done e.id → AreHeld noted (with_line v e)
+held_joined noted v e h new = record {
+  settled = h.settled;
+  left = each_line (λ p. ¬ Contains v.done p.instance.id) v.batch
+      (record { place = v.next; instance = e }) h.left new;
+  first_places = h.first_places;
+}

@@ -5,11 +5,13 @@ mod CallPlaceLemmas
 mod CountLemmas
 mod HeldLineLemmas
 mod BatchEndLemmas
+mod NotedBatchLemmas
 mod HoldLemmas
 mod BatchTextLemmas
 mod EndLemmas
 mod LogsTakenLemmas
 mod OpenBatchLemmas
+mod LineAheadLemmas
 mod LogPartLemmas
 mod FollowLemmas
 mod InputEndLemmas

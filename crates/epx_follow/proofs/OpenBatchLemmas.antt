@@ -1,7 +1,8 @@
 -- What a follower holds after a line, and what a line that is not blank does to it, with and
 -- without the end of its batch.
 use Rattle.std.proofs.Common.{◌≡◌, ◌≢◌, ◌⊎◌, inl, inr, ◌∙◌, ◌+◌, ◌++◌, ◌∷◌, ℕ, Bool, true, false}
-use Rattle.std.proofs.Common.{List, [], length, Contains, Option, Ok, Err, Result, ap, ap₂}
+use Rattle.std.proofs.Common.{List, [], length, Contains, IfErr, IfOk, Option, Ok, Err, Result}
+use Rattle.std.proofs.Common.{ap, ap₂}
 use Rattle.std.proofs.Common.{append-nil, append_assoc, refl, subst, subst₂, sym}
 use Rattle.epx_types.proofs.Common.{BTreeMap, Instance, length-append}
 use Rattle.epx_types.specs.declared.fault.Fault.{Fault}
@@ -11,9 +12,11 @@ use Rattle.epx_types.specs.declared.id.Id.{Id}
 use Rattle.epx_types.specs.declared.place.Place.{Place}
 use Rattle.epx_executor.specs.Commits.{ExecutorView}
 use Rattle.epx_devices.proofs.KnownBytesLemmas.{Appends-trans}
+use Rattle.epx_lines.specs.Faults.{IsFaultOf}
 use Rattle.epx_lines.specs.Lines.{lines_of}
 use Rattle.epx_lines.specs.Meaning.{is_blank, meaning_of}
 use Rattle.epx_lines.specs.declared.Line.{Line}
+use Rattle.epx_lines.specs.declared.LineFault.{LineFault}
 use Rattle.epx_lines.specs.declared.Line.TheVariants.{Blank, Entry}
 use Rattle.std.specs.Io.KnownBytes.{Appends}
 use Rattle.epx_follow.specs.declared.held_lines.HeldLines.{HeldLines}
@@ -25,7 +28,7 @@ use Rattle.epx_follow.specs.LogsTaken.{TakesLines}
 use Rattle.epx_follow.specs.inner.FirstPlaces.{place_in}
 use Rattle.epx_follow.specs.inner.HeldLines.{AreHeld, AreNewlyHeld, HoldsEntry, IsHeld}
 use Rattle.epx_follow.specs.inner.HeldLines.{passed_lines, view_of}
-use Rattle.epx_follow.specs.inner.OpenBatches.{BatchGoesOn, HoldsBytes, RefusesText}
+use Rattle.epx_follow.specs.inner.OpenBatches.{BatchGoesOn, HoldsBytes, IsReadOf, RefusesText}
 use Rattle.epx_follow.specs.inner.PartsTaken.{TakesBytes}
 use Rattle.epx_follow.proofs.HeldLineLemmas.{held_passed}
 use Rattle.epx_follow.proofs.HoldLemmas.{held_now, now_joined, shown}
@@ -66,17 +69,20 @@ holds_passed v h now held is =
 -- a line of an instance that is not executed came
 module _ (v : ExecutorView) (old new : HeldLines) (e : Instance) (held : IsHeld v old)
     (left : ¬ Contains v.done e.id) (h : HoldsEntry old e new) where
-  now_shown : shown v.done v.store (place_in new.places) v.pending new.batch_places.items
+  now_shown : shown v.done v.store (place_in old.places) v.pending new.batch_places.items
       new.batch.items (next_line old.next) true ≡ view_of v new
-  now_shown = ap₂ (λ (p : Place) (is_open : Bool). shown v.done v.store (place_in new.places)
+  now_shown = ap (λ (ps : BTreeMap Id Place). shown v.done v.store (place_in ps) v.pending
+      new.batch_places.items new.batch.items (next_line old.next) true) (sym h.places)
+      ∙ ap₂ (λ (p : Place) (is_open : Bool). shown v.done v.store (place_in new.places)
       v.pending new.batch_places.items new.batch.items p is_open) (sym h.next) (sym h.is_open)
 
   pub holds_entry : IsHeld v new
   holds_entry = (
-    subst (AreHeld (place_in new.places)) now_shown
-        (held_now v.done v.store (place_in old.places) (place_in new.places) v.pending
-        old.batch_places.items new.batch_places.items old.batch.items new.batch.items old.next
-        old.is_open e held.0 held.1 left h.noted h.batch_places h.batch),
+    subst₂ (λ (ps : BTreeMap Id Place) (w : FollowerView). AreHeld (place_in ps) w)
+        (sym h.places) now_shown
+        (held_now v.done v.store (place_in old.places) v.pending old.batch_places.items
+        new.batch_places.items old.batch.items new.batch.items old.next old.is_open e held.0 held.1
+        left h.batch_places h.batch),
     ap length h.batch_places ∙ length-append old.batch_places.items (old.next ∷ [])
         ∙ ap (λ (n : ℕ). n + 1) held.1 ∙ sym (length-append old.batch.items (e ∷ []))
         ∙ sym (ap length h.batch),
@@ -84,9 +90,9 @@ module _ (v : ExecutorView) (old new : HeldLines) (e : Instance) (held : IsHeld 
 
   pub shows_joined : view_of v new ≡ joined (view_of v old) e
   shows_joined = sym now_shown
-      ∙ now_joined v.done v.store (place_in old.places) (place_in new.places) v.pending
-      old.batch_places.items new.batch_places.items old.batch.items new.batch.items old.next
-      old.is_open e held.0 held.1 left h.noted h.batch_places h.batch
+      ∙ now_joined v.done v.store (place_in old.places) v.pending old.batch_places.items
+      new.batch_places.items old.batch.items new.batch.items old.next old.is_open e held.0 held.1
+      left h.batch_places h.batch
 
 -- ---- what a line does
 
@@ -100,6 +106,13 @@ line_taken each line v w u text filled (Blank, means, is) h =
 line_taken each line v w u text filled (Entry e, means, is) h =
     subst₂ (λ b m. TakesAs each b m v u text) (sym filled) (sym means)
     (subst (λ (x : FollowerView). EndsIf each x u text) is h)
+
+-- what was read of it, as a reader of lines says
+pub read_is : (line : List ℕ) (read : Result Line LineFault)
+    → IfOk read (λ l. meaning_of line ≡ Ok l)
+    → IfErr read (λ fault. IsFaultOf fault (meaning_of line)) → IsReadOf line read
+read_is line (Ok l) good bad = good
+read_is line (Err fault) good bad = bad
 
 -- or the line is refused
 memory_refuses : (each : Bool) (v : FollowerView) → RefusesIf each v Memory

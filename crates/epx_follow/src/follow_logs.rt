@@ -22,8 +22,8 @@ use std::alloc::Global;
 use std::random::RandomSource;
 use std::thread::Threads;
 
-/// One read has room for at most this many bytes.
-const PART_BYTES: usize = 65_536;
+/// One read has room for at most this many bytes: a file gives workers enough lines to read.
+const PART_BYTES: usize = 262_144;
 
 /// The greatest number of bytes of a log.
 const MOST_BYTES: usize = 1 << 62;

@@ -10,9 +10,10 @@ ghost use Rattle.epx_follow.specs.LinesTaken.{TakesLine, RefusesLine};
 ghost use Rattle.epx_follow.specs.inner.OpenBatches.{HoldsBytes};
 
 use crate::batch_text::{batch_text, count_came, parts_of};
-use crate::first_places::{forget_places, pending_places_from};
+use crate::first_places::{entry_ids, pending_places_from, places_after};
 use crate::held_lines::HeldLines;
 use crate::line_places::fault_at_lines;
+use crate::lines_ahead::LinesAhead;
 use epx_executor::Executor;
 use epx_executor::laws::commit_leaves_none_ready;
 use epx_lines::{LineReader, is_blank_line};
@@ -92,12 +93,13 @@ impl Follower {
     {
         let Follower { mut executor, held } = self;
         let HeldLines {
-            mut places,
+            places,
             batch,
             batch_places,
             next,
             is_open: _,
         } = held;
+        let batch_ids = entry_ids(alloc, &batch)?;
         let waited = executor.pending_len();
         let executed = match executor.commit(rt, alloc, batch, plan) {
             Ok(executed) => executed,
@@ -106,8 +108,8 @@ impl Follower {
             }
         };
         let (ids, replies) = parts_of(alloc, executed)?;
-        forget_places(&mut places, &ids);
         let waiting = executor.pending_len();
+        let places = places_after(alloc, waiting, places, &batch_ids, &batch_places, &ids)?;
         let came = count_came(waited, ids.len(), waiting);
         let text = batch_text(alloc, came, waiting, &ids, &replies)?;
         commit_leaves_none_ready();
@@ -153,6 +155,7 @@ impl Follower {
         self,
         alloc: Global,
         reader: &mut LineReader,
+        ahead: &mut LinesAhead<'_>,
         bytes: &'a [u8],
         each: bool,
     ) -> Result<(Follower, &'a [u8]), Fault>
@@ -166,7 +169,7 @@ impl Follower {
         ensures unwritten { IfErr result (λ fault. fault ≢ Fault.Write) }
     {
         let Follower { executor, mut held } = self;
-        let rest = held.take_lines(alloc, reader, &executor, bytes, each)?;
+        let rest = held.take_lines(alloc, reader, ahead, &executor, bytes, each)?;
         let follower = Follower { executor, held };
         Ok((follower, rest))
     }

@@ -7,9 +7,10 @@ ghost use Rattle.epx_follow.specs.Following.{joined, next_line};
 ghost use Rattle.epx_follow.specs.FollowingStops.{StopsAmong};
 ghost use Rattle.epx_follow.specs.inner.HeldLines.{AreNewlyHeld, HoldsEntry, IsHeld};
 ghost use Rattle.epx_follow.specs.inner.HeldLines.{passed_lines, view_of};
-ghost use Rattle.epx_follow.specs.inner.OpenBatches.{BatchGoesOn, HoldsBytes, RefusesText};
+ghost use Rattle.epx_follow.specs.inner.OpenBatches.{BatchGoesOn, HoldsBytes, IsReadOf};
+ghost use Rattle.epx_follow.specs.inner.OpenBatches.{RefusesText};
 
-use crate::first_places::note_place;
+use crate::lines_ahead::LinesAhead;
 use epx_executor::Executor;
 use epx_lines::{Line, LineFault, LineReader, cut_line, is_blank_line};
 use epx_types::{Entry, Fault, Id, Memory, Place};
@@ -20,7 +21,7 @@ use std::collections::BTreeMap;
 /// no more use.
 #[derive(Drop)]
 pub(crate) struct HeldLines {
-    /// The place of the first line that came of each instance that waits or is in the open batch.
+    /// The place of the first line that came of each instance that waits, without the open batch.
     pub(crate) places: BTreeMap<Id, Place>,
     /// The instances of the open batch that are not executed.
     pub(crate) batch: Vec<Entry>,
@@ -58,10 +59,8 @@ impl HeldLines {
         requires { self.old.next.line < 2 ^ 63 }
         ensures { OnOk result (HoldsEntry self.old entry self.new) }
     {
-        let id = entry.id();
         self.batch.push(entry)?;
         self.batch_places.push(self.next)?;
-        note_place(&mut self.places, id, self.next)?;
         self.pass_line();
         Ok(())
     }
@@ -84,24 +83,18 @@ impl HeldLines {
         Ok(())
     }
 
-    /// Takes a line that is not blank, without its line feed. It ends no batch.
-    pub(crate) fn take_line(
-        &mut self,
-        alloc: Global,
-        reader: &mut LineReader,
-        executor: &Executor,
-        line: &[u8],
-    ) -> Result<(), Fault>
+    /// Takes what was read of a line that is not blank. It ends no batch.
+    fn take_read(&mut self, executor: &Executor, read: Result<Line, LineFault>) -> Result<(), Fault>
         requires held { IsHeld executor.now self.old }
         requires next { self.old.next.line < 2 ^ 63 }
-        requires filled { is_blank line.now ≡ false }
         ensures held { OnOk result (IsHeld executor.now self.new) }
-        ensures taken { OnOk result
-            (BatchGoesOn line.now (view_of executor.now self.old) (view_of executor.now self.new)) }
+        ensures taken { OnOk result ((line : List ℕ) → IsReadOf line read → BatchGoesOn line
+            (view_of executor.now self.old) (view_of executor.now self.new)) }
         ensures counted { OnOk result (self.new.next ≡ next_line self.old.next) }
-        ensures refused { IfErr result (RefusesText line.now self.old.next) }
+        ensures refused { IfErr result (λ fault. (line : List ℕ) → IsReadOf line read
+            → RefusesText line self.old.next fault) }
     {
-        match reader.read(alloc, line) {
+        match read {
             Ok(Line::Entry(entry)) => self.take_entry(executor, entry)?,
             Ok(Line::Blank) => self.pass_line(),
             Err(LineFault::Memory) => return Err(Fault::Memory),
@@ -115,11 +108,32 @@ impl HeldLines {
         Ok(())
     }
 
+    /// Takes a line that is not blank, without its line feed. It ends no batch.
+    pub(crate) fn take_line(
+        &mut self,
+        alloc: Global,
+        reader: &mut LineReader,
+        executor: &Executor,
+        line: &[u8],
+    ) -> Result<(), Fault>
+        requires held { IsHeld executor.now self.old }
+        requires next { self.old.next.line < 2 ^ 63 }
+        ensures held { OnOk result (IsHeld executor.now self.new) }
+        ensures taken { OnOk result
+            (BatchGoesOn line.now (view_of executor.now self.old) (view_of executor.now self.new)) }
+        ensures counted { OnOk result (self.new.next ≡ next_line self.old.next) }
+        ensures refused { IfErr result (RefusesText line.now self.old.next) }
+    {
+        let read = reader.read(alloc, line);
+        self.take_read(executor, read)
+    }
+
     /// Takes the lines before the first one that ends a batch. Returns the bytes after them.
     pub(crate) fn take_lines<'a>(
         &mut self,
         alloc: Global,
         reader: &mut LineReader,
+        ahead: &mut LinesAhead<'_>,
         executor: &Executor,
         bytes: &'a [u8],
         each: bool,
@@ -142,7 +156,8 @@ impl HeldLines {
             if each || is_blank_line(line) {
                 return Ok(rest);
             }
-            self.take_line(alloc, reader, executor, line)?;
+            let read = ahead.read(alloc, reader, line);
+            self.take_read(executor, read)?;
             rest = more;
         }
         Ok(rest)

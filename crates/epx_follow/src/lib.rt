@@ -9,6 +9,7 @@ mod follower;
 mod held_lines;
 pub mod laws;
 mod line_places;
+mod lines_ahead;
 mod take_lines;
 
 pub use follow_logs::follow;

@@ -8,6 +8,7 @@ ghost use Rattle.epx_follow.specs.LinesTaken.{TakesLine};
 ghost use Rattle.epx_follow.specs.inner.PartsTaken.{TakesBytes};
 
 use crate::follower::Follower;
+use crate::lines_ahead::read_ahead;
 use epx_devices::{Sink, write_out};
 use epx_lines::{LineReader, cut_line};
 use epx_types::{Fault, Plan};
@@ -64,10 +65,11 @@ pub(crate) fn take_lines<R: Threads + RandomSource + Sync, W: Sink>(
         (W.model.contents output.old) (W.model.contents output.new)) }
     ensures failed { IsErrOf result Fault.Write ↔ (W.model.has_failed output.new ≡ true) }
 {
+    let mut ahead = read_ahead(rt, alloc, bytes, plan);
     let mut follower = follower;
     let mut rest = bytes;
     while !rest.is_empty() {
-        let (held, others) = follower.hold_lines(alloc, reader, rest, each)?;
+        let (held, others) = follower.hold_lines(alloc, reader, &mut ahead, rest, each)?;
         if others.is_empty() {
             return Ok(held);
         }

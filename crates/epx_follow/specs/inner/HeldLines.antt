@@ -9,9 +9,9 @@ use Rattle.epx_types.specs.Instances.{Instance}
 use Rattle.epx_types.specs.PlacedLines.{Placed}
 use Rattle.epx_executor.specs.Commits.{AllWait, ExecutorView}
 use Rattle.epx_follow.specs.declared.held_lines.HeldLines.{HeldLines}
-use Rattle.epx_follow.specs.Following.{FollowerView, held_lines, next_line}
+use Rattle.epx_follow.specs.Following.{FollowerView, next_line}
 use Rattle.epx_follow.specs.FollowerLaws.{executor_of}
-use Rattle.epx_follow.specs.inner.FirstPlaces.{HasFirstPlaces, IsNoted, place_in}
+use Rattle.epx_follow.specs.inner.FirstPlaces.{HasFirstPlaces, place_in}
 
 abbrev pub no_place : Place
 no_place = record { log = 0; line = 0 }
@@ -25,11 +25,11 @@ pending_lines noted m =
 abbrev pub batch_lines : List Place → List Instance → List Placed
 batch_lines places es = map (λ p. record { place = p.0; instance = p.1 }) (zip places es)
 
--- no instance of the batch is executed, and what waits is not ready
+-- no instance of the batch is executed, what waits is not ready, and its places are noted
 pub record AreHeld (noted : Id → Option Place) (v : FollowerView) : Type 0 where
   pub settled : AllWait (executor_of v)
   pub left : (p : Placed) → Contains v.batch p → ¬ Contains v.done p.instance.id
-  pub first_places : HasFirstPlaces noted (held_lines v)
+  pub first_places : HasFirstPlaces noted v.pending
 
 -- what a follower shows of its executor and of the lines that it keeps
 abbrev pub view_of : ExecutorView → HeldLines → FollowerView
@@ -59,6 +59,6 @@ passed_lines h = record h { next = next_line h.next; is_open = true }
 pub record HoldsEntry (old : HeldLines) (e : Instance) (new : HeldLines) : Type 0 where
   pub batch : new.batch.items ≡ old.batch.items ++ e ∷ []
   pub batch_places : new.batch_places.items ≡ old.batch_places.items ++ old.next ∷ []
-  pub noted : IsNoted (place_in old.places) e.id old.next (place_in new.places)
+  pub places : new.places ≡ old.places
   pub next : new.next ≡ next_line old.next
   pub is_open : new.is_open ≡ true

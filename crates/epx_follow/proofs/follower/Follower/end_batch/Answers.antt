@@ -1,5 +1,6 @@
-use Rattle.std.proofs.Common.{◌≡◌, ◌⊎◌, ◌∙◌, ◌+◌, List, ap₂, arith}
-use Rattle.std.proofs.Common.{length, subst, subst₂, sym, zip}
+use Rattle.std.proofs.Common.{◌≡◌, ◌≢◌, ◌⊎◌, ◌∙◌, ◌+◌, ◌++◌, List, ap, ap₂, arith, length, subst}
+use Rattle.std.proofs.Common.{subst₂, sym, zip}
+use Rattle.epx_types.proofs.Common.{ids_of}
 use Rattle.epx_types.specs.declared.reply.Reply.{Reply}
 use Rattle.epx_types.specs.declared.fault.Fault.TheVariants.{Memory}
 use Rattle.epx_types.specs.declared.id.Id.{Id}
@@ -8,12 +9,13 @@ use Rattle.epx_executor.specs.Commits.{AllWait, ExecutorView}
 use Rattle.epx_follow.specs.BatchEnds.{EndsBatch, RefusesBatch, batch_text}
 use Rattle.epx_follow.specs.Following.{FollowerView}
 use Rattle.epx_follow.specs.CallPlaces.{at_lines, held_places}
-use Rattle.epx_follow.specs.inner.FirstPlaces.{place_in}
-use Rattle.epx_follow.specs.inner.HeldLines.{pending_lines}
+use Rattle.epx_follow.specs.inner.FirstPlaces.{HasOtherPlaces, place_in}
+use Rattle.epx_follow.specs.inner.HeldLines.{batch_lines, pending_lines}
 use Rattle.epx_follow.proofs.BatchTextLemmas.{zip_parts}
 use Rattle.epx_follow.proofs.EndLemmas.{ends, few_wait, few_waited, held_now, refused}
-use Rattle.epx_follow.proofs.FirstPlaceLemmas.{AreForgotten}
 use Rattle.epx_follow.proofs.OpenBatchLemmas.{newly_held, newly_shown}
+use Rattle.epx_follow.proofs.follower.Follower.end_batch.Given.{Over}
+use Rattle.epx_follow.proofs.follower.Follower.end_batch.Goals.{In_ok-places}
 use Rattle.epx_follow.proofs.follower.Follower.end_batch.Goals as goal
 
 pub returns-in-Err : goal.returns-in-Err
@@ -26,7 +28,7 @@ returns-in-Err g c =
     c.in-Err.fault c.fault_at_lines.result c.in-Err.ensures.refused
     (subst₂ (λ (e : ExecutorView) (ps : List Place). (c.fault_at_lines.result ≡ Memory)
     ⊎ (c.fault_at_lines.result ≡ at_lines (held_places (pending_lines (place_in f.held.places)
-    e.pending)) ps c.in-Err.fault)) c.in-Err.ensures.unchanged c.deref.ensures.value
+    e.pending)) ps c.in-Err.fault)) c.in-Err.ensures.unchanged c.deref-in-Err.ensures.value
     c.fault_at_lines.ensures))
 
 pub count_came-came-requires-clause-few : goal.count_came-came-requires-clause-few
@@ -50,37 +52,51 @@ count_came-came-requires-clause-some g c =
       c.len.ensures,
     )
 
+-- what waits is at its first places, if something waits
+others : (g : Over) (c : In_ok-places g) → length c.commit.new.self.pending ≢ 0
+    → HasOtherPlaces (place_in c.in_ok-places.places)
+    (pending_lines (place_in c.self.inside.held.places) c.self.inside.executor.pending
+    ++ batch_lines c.self.inside.held.batch_places.items c.self.inside.held.batch.items)
+    c.in_ok-ids.ids.items
+others g c some =
+    let f = c.self.inside in
+    let left = place_in c.in_ok-places.places in
+    let waited = pending_lines (place_in f.held.places) f.executor.pending in
+    let batch = f.held.batch.items in
+    subst₂ (λ (ps : List Place) (ids : List Id).
+    HasOtherPlaces left (waited ++ batch_lines ps batch) ids)
+    c.deref-3.ensures.value c.deref-4.ensures.value (c.in_ok-places.ensures.others
+    (λ none. some (sym c.pending_len-waiting.ensures ∙ none)) waited batch
+    (c.deref-2.ensures.value ∙ c.in_ok-batch_ids.ensures ∙ ap ids_of c.deref.ensures.value)
+    c.self.invariant.0.first_places)
+
 pub invariant_of-result : goal.invariant_of-result
 invariant_of-result g c =
     let f = c.self.inside in
     let now = c.commit.new.self in
-    let left = place_in c.forget_places.new.places in
+    let left = place_in c.in_ok-places.places in
     let settled : AllWait now = c.commit_leaves_none_ready.ensures f.held.batch.items f.executor
     now c.in-Ok.executed.items c.in-Ok.ensures.ok in
-    let forgotten : AreForgotten (place_in f.held.places) c.in_ok-ids.ids.items left =
-    subst (λ (ids : List Id). AreForgotten (place_in f.held.places) ids left)
-    c.deref-2.ensures.value (c.forget_places.ensures.gone, c.forget_places.ensures.apart) in
-    newly_held now c.forget_places.new.places f.held.next c.new-held.result c.new-held.ensures
+    newly_held now c.in_ok-places.places f.held.next c.new-held.result c.new-held.ensures
     (held_now f.executor.done f.executor.store (place_in f.held.places) f.executor.pending
     f.held.batch_places.items f.held.batch.items f.held.next f.held.is_open c.self.invariant.0
     c.self.invariant.1 now c.in-Ok.executed.items c.in_ok-ids.ids.items
-    c.in_ok-ids.ensures.ids c.in-Ok.ensures.ok left settled forgotten)
+    c.in_ok-ids.ensures.ids c.in-Ok.ensures.ok left settled
+    (λ none. c.in_ok-places.ensures.none (c.pending_len-waiting.ensures ∙ none))
+    (others g (goal.at.invariant_of-result g c).In_ok-places))
 
 pub returns : goal.returns
 returns g c =
     let f = c.self.inside in
     let now = c.commit.new.self in
-    let left = place_in c.forget_places.new.places in
+    let left = place_in c.in_ok-places.places in
     let executed = c.in-Ok.executed.items in
     let settled : AllWait now = c.commit_leaves_none_ready.ensures f.held.batch.items f.executor now
     executed c.in-Ok.ensures.ok in
-    let forgotten : AreForgotten (place_in f.held.places) c.in_ok-ids.ids.items left =
-    subst (λ (ids : List Id). AreForgotten (place_in f.held.places) ids left)
-    c.deref-2.ensures.value (c.forget_places.ensures.gone, c.forget_places.ensures.apart) in
-    let pairs : zip c.deref-3.result.now c.deref-4.result.now ≡ executed =
+    let pairs : zip c.deref-5.result.now c.deref-6.result.now ≡ executed =
     ap₂ (λ (xs : List Id) (rs : List Reply). zip xs rs)
-    (c.deref-3.ensures.value ∙ c.in_ok-ids.ensures.ids)
-    (c.deref-4.ensures.value ∙ c.in_ok-ids.ensures.replies) ∙ zip_parts executed in
+    (c.deref-5.ensures.value ∙ c.in_ok-ids.ensures.ids)
+    (c.deref-6.ensures.value ∙ c.in_ok-ids.ensures.replies) ∙ zip_parts executed in
     let came = c.count_came-came.result in
     let count : came + length f.executor.pending
     ≡ length c.in_ok-ids.ids.items + length now.pending =
@@ -94,10 +110,11 @@ returns g c =
     let text : c.in_ok-text.text.items ≡ batch_text came (length now.pending) executed =
     c.in_ok-text.ensures ∙ ap₂ (batch_text came) c.pending_len-waiting.ensures pairs in
     subst₂ (λ (v w : FollowerView). EndsBatch v w c.in_ok-text.text.items) c.self.view_is
-    (sym (newly_shown now c.forget_places.new.places f.held.next c.new-held.result
+    (sym (newly_shown now c.in_ok-places.places f.held.next c.new-held.result
     c.new-held.ensures))
     (ends f.executor.done f.executor.store (place_in f.held.places) f.executor.pending
     f.held.batch_places.items f.held.batch.items f.held.next f.held.is_open c.self.invariant.0
     c.self.invariant.1
     now executed c.in_ok-ids.ids.items c.in_ok-ids.ensures.ids c.in-Ok.ensures.ok left settled
-    forgotten came c.in_ok-text.text.items count text)
+    (λ none. c.in_ok-places.ensures.none (c.pending_len-waiting.ensures ∙ none))
+    (others g (goal.at.returns g c).In_ok-places) came c.in_ok-text.text.items count text)

@@ -1,6 +1,15 @@
-use Rattle.epx_follow.proofs.OpenBatchLemmas.{holds_passed}
+use Rattle.std.proofs.lemmas.Result.{IfErr-weaker, IfOk-weaker}
+use Rattle.epx_follow.proofs.OpenBatchLemmas.{read_is}
 use Rattle.epx_follow.proofs.held_lines.HeldLines.take_line.Goals as goal
 
-pub returns-in-Ok-Blank-clause-held : goal.returns-in-Ok-Blank-clause-held
-returns-in-Ok-Blank-clause-held c = holds_passed c.args.executor.now c.args.self.now
-    c.pass_line.new.self c.requires.held c.pass_line.ensures
+pub returns-clause-taken : goal.returns-clause-taken
+returns-clause-taken c =
+    let line = c.args.line.now in
+    let is = read_is line c.read-read.result c.read-read.ensures.ok c.read-read.ensures.bad in
+    IfOk-weaker c.take_read.result _ _ (λ done h. h line is) c.take_read.ensures.taken
+
+pub returns-clause-refused : goal.returns-clause-refused
+returns-clause-refused c =
+    let line = c.args.line.now in
+    let is = read_is line c.read-read.result c.read-read.ensures.ok c.read-read.ensures.bad in
+    IfErr-weaker c.take_read.result _ _ (λ fault h. h line is) c.take_read.ensures.refused
