@@ -109,8 +109,8 @@ fn note_places(places: &mut BTreeMap<Id, Place>, ids: &[Id], more: &[Place]) -> 
 }
 
 /// The places of what waits after a batch, of which there is so much: the first ones of what waited
-/// and of the lines of the batch, without those of the executed instances. Mostly nothing waits, and
-/// then no place is looked up.
+/// and of the lines of the batch, without those of the executed instances. Mostly nothing waits,
+/// and then no place is looked up.
 pub(crate) fn places_after(
     alloc: Global,
     waiting: usize,
