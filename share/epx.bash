@@ -8,7 +8,7 @@ _epx_offer() {
 
 # Offers subcommands: all of them where none begins as a misspelt word does.
 _epx_offer_commands() {
-    local commands="run order levels graph resume audit check verify replay compare why trace follow help"
+    local commands="run order levels graph resume audit check verify linear replay compare why trace follow help"
     _epx_offer "$commands"
     [ "${#COMPREPLY[@]}" -gt 0 ] || read -ra COMPREPLY <<<"$commands"
 }
@@ -24,6 +24,7 @@ _epx() {
         run|order|levels|resume|audit|verify|compare) options=" --workers --cut --explain --exit-code --help " firsts=0 ;;
         graph|replay) options=" --workers --cut --explain --help " firsts=0 ;;
         check) options=" --workers --cut --explain --exit-code --prefix --help " firsts=0 ;;
+        linear) options=" --workers --cut --explain --exit-code --skew --help " firsts=0 ;;
         why) options=" --workers --cut --explain --reaches --help " firsts=1 ;;
         trace) options=" --workers --cut --explain --reads --help " firsts=1 ;;
         follow) options=" --workers --cut --explain --each --state --save --help " firsts=0 ;;
@@ -35,7 +36,7 @@ _epx() {
             [ "$word" = "=" ] || is_value=""
         elif [ -z "$is_ended" ] && [[ $word == -?* ]]; then
             options=${options/ "$word" / }
-            case $word in --) is_ended=1 ;; --workers | --cut | --reaches | --state | --save) is_value=$word ;; esac
+            case $word in --) is_ended=1 ;; --workers | --cut | --skew | --reaches | --state | --save) is_value=$word ;; esac
         else
             firsts=$((firsts - 1))
         fi

@@ -13,7 +13,8 @@ use Rattle.epx_names.specs.Tasks.{HasInput}
 use Rattle.epx_names.specs.declared.task.Task.{Task}
 use Rattle.epx_names.specs.declared.task.Task.TheVariants.{Run, Order, Levels, Graph, Resume}
 use Rattle.epx_names.specs.declared.task.Task.TheVariants.{Audit, Check, CheckPrefix, Compare}
-use Rattle.epx_names.specs.declared.task.Task.TheVariants.{Replay, Verify, Why, Path, Trace}
+use Rattle.epx_names.specs.declared.task.Task.TheVariants.{Linear, Replay, Verify}
+use Rattle.epx_names.specs.declared.task.Task.TheVariants.{Why, Path, Trace}
 use Rattle.epx_tool.specs.Report.{IsReport, report_text}
 use Rattle.epx_views.specs.OrderText.{IsOrderText, order_text}
 use Rattle.epx_views.specs.LevelText.{IsLevelText, level_text}
@@ -89,6 +90,7 @@ module _ (m : List Instance) (rising : IsRising (ids_of m)) where
   map_text_exists CheckPrefix alone other = absurd (alone tt)
   map_text_exists Replay alone other = absurd (alone tt)
   map_text_exists Verify alone other = absurd (alone tt)
+  map_text_exists (Linear skew) alone other = absurd (alone tt)
   map_text_exists Compare alone other = absurd (other refl)
   map_text_exists (Why x) alone other = why_text_exists m x rising
   map_text_exists (Path x y) alone other = path_text_exists m x y

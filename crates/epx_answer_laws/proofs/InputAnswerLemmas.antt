@@ -4,16 +4,18 @@ use Rattle.epx_report.proofs.BaseLemmas.{bad_base_is_bad_at_one_line}
 use Rattle.epx_report.proofs.ListLemmas.{bad_list_is_bad_at_one_line}
 use Rattle.epx_names.specs.declared.task.Task.{Task}
 use Rattle.epx_names.specs.declared.task.Task.TheVariants.{Resume, Check, CheckPrefix}
-use Rattle.epx_names.specs.declared.task.Task.TheVariants.{Replay, Verify}
+use Rattle.epx_names.specs.declared.task.Task.TheVariants.{Linear, Replay, Verify}
 use Rattle.epx_answer_laws.specs.InputAnswerLaws.{InputAnswerExists, InputAnswerIsUnique}
 use Rattle.epx_tool.specs.TaskAnswers.{IsBadInput}
 use Rattle.epx_tool.specs.TaskTexts.{IsTaskText}
 use Rattle.epx_tool.specs.Verdicts.{IsVerdict, IsPrefixVerdict}
+use Rattle.epx_linear.proofs.HistoryLemmas.{bad_history_is_bad_at_one_line}
 use Rattle.epx_verify.specs.VerifyLaws.{BadSaidIsBadAtOneLine, SaidIsNoBadSaid, SaidOrBadSaid}
 use Rattle.epx_verify.specs.VerifyLaws.{TextSaysOneThing}
 use Rattle.epx_answer_laws.proofs.AnswerLemmas.{logs_answer_exists}
 use Rattle.epx_answer_laws.proofs.AnswerWithInputLemmas.{answer_with_input_exists}
 use Rattle.epx_tool.proofs.CheckLemmas.{no_bad_list, text_or_bad}
+use Rattle.epx_answer_laws.proofs.HistoryAnswerLemmas.{no_bad_history, text_or_bad_history}
 use Rattle.epx_answer_laws.proofs.ResumptionLemmas.{no_bad_base, report_or_bad}
 use Rattle.epx_answer_laws.proofs.SaidAnswerLemmas.{IsReplayOf, no_bad_said, replay_exists}
 use Rattle.epx_answer_laws.proofs.SaidAnswerLemmas.{verdict_or_bad_said}
@@ -37,12 +39,16 @@ input_answer_exists read Replay list =
 input_answer_exists read Verify said =
     answer_with_input_exists (IsBadInput Verify) (IsTaskText Verify) said
     (verdict_or_bad_said read said)
+input_answer_exists read (Linear skew) history =
+    answer_with_input_exists (IsBadInput (Linear skew)) (IsTaskText (Linear skew)) history
+    (text_or_bad_history skew history)
 input_answer_exists read task input = logs_answer_exists task (λ none. none)
 
 bad_at_one_line : BadSaidIsBadAtOneLine → (task : Task) (input : List ℕ) (line other : ℕ)
     → IsBadInput task input line → IsBadInput task input other → line ≡ other
 bad_at_one_line line Resume = bad_base_is_bad_at_one_line
 bad_at_one_line line Verify = line
+bad_at_one_line line (Linear skew) = bad_history_is_bad_at_one_line
 bad_at_one_line line task = bad_list_is_bad_at_one_line
 
 pub input_answer_is_unique : TextSaysOneThing → SaidIsNoBadSaid → BadSaidIsBadAtOneLine
@@ -63,4 +69,8 @@ input_answer_is_unique one good line Replay list logs =
 input_answer_is_unique one good line Verify said logs =
     AnswersWithInput-unique (IsBadInput Verify) said logs (bad_at_one_line line Verify said)
     (IsTaskText Verify) (IsTaskText-unique one Verify said) (no_bad_said good said)
+input_answer_is_unique one good line (Linear skew) history logs =
+    AnswersWithInput-unique (IsBadInput (Linear skew)) history logs
+    (bad_at_one_line line (Linear skew) history) (IsTaskText (Linear skew))
+    (IsTaskText-unique one (Linear skew) history) (no_bad_history skew history)
 input_answer_is_unique one good line task input logs = AnswersLogs-unique one task logs

@@ -1,6 +1,7 @@
 mod AnswerLemmas
 mod AnswerWithInputLemmas
 mod FindingLawLemmas
+mod HistoryAnswerLemmas
 mod InputAnswerLemmas
 mod LawfulPrefixLemmas
 mod ResumptionLemmas

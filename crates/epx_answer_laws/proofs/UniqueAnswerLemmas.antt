@@ -18,7 +18,8 @@ use Rattle.epx_compare.proofs.ComparisonAnswerLemmas.{compares_unique}
 use Rattle.epx_names.specs.declared.task.Task.{Task}
 use Rattle.epx_names.specs.declared.task.Task.TheVariants.{Run, Order, Levels, Graph, Resume}
 use Rattle.epx_names.specs.declared.task.Task.TheVariants.{Audit, Check, CheckPrefix, Compare}
-use Rattle.epx_names.specs.declared.task.Task.TheVariants.{Replay, Verify, Why, Path, Trace}
+use Rattle.epx_names.specs.declared.task.Task.TheVariants.{Linear, Replay, Verify}
+use Rattle.epx_names.specs.declared.task.Task.TheVariants.{Why, Path, Trace}
 use Rattle.epx_why.proofs.UniqueTextLemmas.{why_text_is_unique, path_text_is_unique}
 use Rattle.epx_trace.proofs.TraceLemmas.{trace_text_is_unique}
 use Rattle.epx_tool.specs.Answer.{Answers}
@@ -28,6 +29,7 @@ use Rattle.epx_tool.specs.Verdicts.{IsPrefixVerdict, IsVerdict}
 use Rattle.epx_verify.specs.VerifyLaws.{TextSaysOneThing}
 use Rattle.epx_tool.proofs.CheckLemmas.{one_text}
 use Rattle.epx_answer_laws.proofs.ResumptionLemmas.{resumed_one}
+use Rattle.epx_answer_laws.proofs.HistoryAnswerLemmas.{one_text_of_history}
 use Rattle.epx_answer_laws.proofs.SaidAnswerLemmas.{IsReplayOf, one_verdict_on_said}
 use Rattle.epx_answer_laws.proofs.SaidAnswerLemmas.{replay_is_unique}
 use Rattle.epx_tool.proofs.VerdictLemmas.{prefix_verdict_is_unique, verdict_is_unique}
@@ -83,6 +85,7 @@ IsTaskText-unique one Check list = one_text IsVerdict list verdict_is_unique
 IsTaskText-unique one CheckPrefix list = one_text IsPrefixVerdict list prefix_verdict_is_unique
 IsTaskText-unique one Replay list = one_text IsReplayOf list replay_is_unique
 IsTaskText-unique one Verify said = one_verdict_on_said one said
+IsTaskText-unique one (Linear skew) history = one_text_of_history skew history
 IsTaskText-unique one Compare input = λ m text other none. absurd none
 IsTaskText-unique one (Why x) input = λ m. why_text_is_unique m x
 IsTaskText-unique one (Path x y) input = λ m. path_text_is_unique m x y

@@ -1,4 +1,4 @@
--- Laws of checking a list, and what a replica said.
+-- Laws of checking a list, what a replica said, and what clients saw.
 use Rattle.std.specs.Prelude.{◌≡◌, ◌↔◌, ℕ, List, map, slice_get, Some, Result, Ok}
 use Rattle.std.specs.FinMap as contents
 use Rattle.epx_types.specs.declared.id.Id.{Id}
@@ -16,7 +16,7 @@ use Rattle.epx_report.specs.Lists.{IsList}
 use Rattle.epx_report.specs.ViewLines.{covered_line, lawful_line}
 use Rattle.epx_ranking.specs.OrderFaults.{HasAllReady}
 use Rattle.epx_tool.specs.declared.ask.Ask.TheVariants.{Audit}
-use Rattle.epx_names.specs.declared.task.Task.TheVariants.{CheckPrefix, Verify}
+use Rattle.epx_names.specs.declared.task.Task.TheVariants.{CheckPrefix, Linear, Verify}
 use Rattle.epx_tool.specs.CheckAnswers.{Checks}
 use Rattle.epx_tool.specs.TaskAnswers.{AnswersTask, AnswersView}
 use Rattle.epx_answer_laws.specs.SameLineLaws.{HaveLinesOf}
@@ -24,6 +24,11 @@ use Rattle.epx_tool.specs.WithInput.{IsShort}
 use Rattle.epx_report.specs.ReportReadings.{replied_ids}
 use Rattle.epx_verify.specs.ListExecutions.{list_execution}
 use Rattle.epx_verify.specs.SaidTexts.{IsSaid}
+use Rattle.epx_linear.specs.declared.client_call.ClientCall.{ClientCall}
+use Rattle.epx_linear.specs.HistoryTexts.{IsHistoryText}
+use Rattle.epx_linear.specs.LinearTexts.{linear_line}
+use Rattle.epx_linear.specs.RealTime.{IsLinear}
+use Rattle.epx_linear.specs.Skews.{later_by}
 
 -- a list is reported as lawful exactly if it is a lawful order of what the logs commit
 abbrev pub LawfulTextMeansLawful : Type 0
@@ -80,3 +85,15 @@ LawfulTextMeansRight = (said : List ℕ) (logs : List (List ℕ)) (replies : Lis
     → IsShort said → IsSaid said replies stored → IsAccepted logs m →
     AnswersTask Verify said logs (Ok lawful_line)
     ↔ IsLawfulPrefix m (replied_ids replies) × IsRight m replies stored
+
+-- ---- what clients saw
+
+-- the calls of clients are reported as linear exactly if they are, with returns that are later by
+-- the skew, over the execution order of what the logs commit and its replies
+abbrev pub LinearTextMeansLinear : Type 0
+LinearTextMeansLinear = (skew : ℕ) (history : List ℕ) (logs : List (List ℕ))
+    (h : List ClientCall) (m : List Instance) (order : List Ranked)
+    → IsShort history → IsHistoryText history h → IsAccepted logs m → IsExecutionOrder m order →
+    AnswersTask (Linear skew) history logs (Ok linear_line)
+    ↔ IsLinear (ranked_ids order) (commands_in m (ranked_ids order))
+    (list_execution m (ranked_ids order)).replies (map (later_by skew) h)

@@ -2,6 +2,7 @@
 ghost use Rattle.epx_answer_laws.specs.AnswerLaws.{CoveredTextMeansCovered};
 ghost use Rattle.epx_answer_laws.specs.CheckLaws.{LawfulTextMeansLawful, LawfulTextMeansPrefix};
 ghost use Rattle.epx_answer_laws.specs.CheckLaws.{LawfulPrefixRepliesAlike, LawfulTextMeansRight};
+ghost use Rattle.epx_answer_laws.specs.CheckLaws.{LinearTextMeansLinear};
 ghost use Rattle.epx_answer_laws.specs.CheckLaws.{WholeListsAreAnsweredAlike, LawfulPrefixesStay};
 ghost use Rattle.epx_answer_laws.specs.FindingLaws.{AuditFindsNotCovered, CheckFindsNotLawful};
 
@@ -38,6 +39,12 @@ pub fn lawful_text_means_right()
     text_says_one_thing();
     no_difference_if_right();
 }
+
+/// The calls of clients are reported as linear exactly if they are, over the execution order and
+/// its replies.
+pub fn linear_text_means_linear()
+    ensures { LinearTextMeansLinear }
+{}
 
 /// A list of all ready instances has the same answer as a prefix and as an order.
 pub fn whole_lists_are_answered_alike()

@@ -2,7 +2,8 @@
 use epx_tool::{KeyName, Task, read_id};
 
 /// The task that a command names, with the words after it. `check-prefix` is `check --prefix`,
-/// `path` is `why --reaches`, and `trace-reads` is `trace --reads`.
+/// `path` is `why --reaches`, `trace-reads` is `trace --reads`, and `linear-skew` is
+/// `linear --skew`.
 pub(crate) fn asked_task(command: &str, rest: &str) -> Option<Task> {
     let mut words = rest.split_whitespace();
     match command {
@@ -16,6 +17,10 @@ pub(crate) fn asked_task(command: &str, rest: &str) -> Option<Task> {
         "check-prefix" => Some(Task::CheckPrefix),
         "replay" => Some(Task::Replay),
         "verify" => Some(Task::Verify),
+        "linear" => Some(Task::Linear { skew: 0 }),
+        "linear-skew" => Some(Task::Linear {
+            skew: words.next()?.parse().ok()?,
+        }),
         "compare" => Some(Task::Compare),
         "why" => Some(Task::Why(read_id(words.next()?)?)),
         "path" => Some(Task::Path(read_id(words.next()?)?, read_id(words.next()?)?)),

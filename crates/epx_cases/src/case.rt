@@ -120,6 +120,9 @@ impl<'a> Case<'a> {
             (Directive::Said, Some(Subject::Answer(Task::Verify))) => {
                 self.case_input.begin_first();
             }
+            (Directive::History, Some(Subject::Answer(Task::Linear { .. }))) => {
+                self.case_input.begin_first();
+            }
             (Directive::Gives(flow), Some(Subject::Answer(_))) => return Ok(
                 self.case_input.set_source_flow(flow),
             ),

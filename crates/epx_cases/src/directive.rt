@@ -10,6 +10,8 @@ pub(crate) enum Directive {
     List,
     /// Begins what a replica said.
     Said,
+    /// Begins the calls of clients.
+    History,
     /// Begins this number of equal logs.
     Logs(usize),
     /// Sets the flow of the source of the last text.
@@ -51,6 +53,7 @@ impl Directive {
             ("base", (None, None)) => Some(Directive::Base),
             ("list", (None, None)) => Some(Directive::List),
             ("said", (None, None)) => Some(Directive::Said),
+            ("history", (None, None)) => Some(Directive::History),
             ("log", (None, None)) => Some(Directive::Logs(1)),
             ("logs", (Some(count), None)) => Some(Directive::Logs(count)),
             ("gives", (Some(at_once), fuse)) => Some(Directive::Gives(Flow::new(at_once, fuse)?)),

@@ -28,7 +28,7 @@ fn ask_of(task: &Task) -> Option<Ask> {
             reads: *reads,
         }),
         Task::Run | Task::Resume | Task::Check | Task::CheckPrefix => None,
-        Task::Replay | Task::Verify => None,
+        Task::Replay | Task::Verify | Task::Linear { .. } => None,
     }
 }
 
@@ -52,7 +52,7 @@ pub(crate) fn answer_input<R: Threads + RandomSource + Sync>(
         (_, Some(ask)) => view(rt, alloc, ask, logs, plan),
         (Task::Resume, None) => resume(rt, alloc, &case_input.first, logs, plan),
         (Task::Check, None) => check(rt, alloc, &case_input.first, logs, plan),
-        (Task::CheckPrefix | Task::Replay | Task::Verify, None) => {
+        (Task::CheckPrefix | Task::Replay | Task::Verify | Task::Linear { .. }, None) => {
             answer_texts(rt, alloc, *task, &case_input.first, logs, plan)
         }
         (_, None) => answer(rt, alloc, logs, plan),
@@ -97,7 +97,7 @@ pub(crate) fn deliver_input<R: Threads + RandomSource + Sync>(
         (_, Some(ask)) => show(rt, alloc, ask, &mut sources, plan, &mut sink),
         (Task::Resume, None) => { run_resume(rt, alloc, &mut first, &mut sources, plan, &mut sink) }
         (Task::Check, None) => { run_check(rt, alloc, &mut first, &mut sources, plan, &mut sink) }
-        (Task::CheckPrefix | Task::Replay | Task::Verify, None) => {
+        (Task::CheckPrefix | Task::Replay | Task::Verify | Task::Linear { .. }, None) => {
             run_task(rt, alloc, *task, &mut first, &mut sources, plan, &mut sink).map(|_| ())
         }
         (_, None) => run(rt, alloc, &mut sources, plan, &mut sink),

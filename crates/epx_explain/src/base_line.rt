@@ -1,9 +1,12 @@
-//! Explains which line of a state, a base, a list or of what a replica said is bad.
+//! Explains which line of a state, a base, a list, a history or of what a replica said is bad.
+use crate::array_line::is_array_begun;
+use crate::call_line::explain_call_line;
 use crate::contents::read_again;
 use crate::file_kind::explain_file_kind;
+use crate::input_kind::explain_input_kind;
 use crate::inputs::{Input, Role};
 use crate::lines::{LogLine, line_at};
-use crate::list_line::{explain_list_line, is_array_begun};
+use crate::list_line::explain_list_line;
 use crate::looks::{Looks, is_report_line, looks_of};
 use crate::not_json::explain_text;
 use crate::shown::show_bytes;
@@ -31,35 +34,6 @@ report has them, and no other lines";
 
 const OUT_OF_PLACE: &str = "it may not follow the lines before it, or a part of it is wrong: \
 docs/FORMAT.md has the lines of a base";
-
-/// What an input is in place of a state, a base, a list or what a replica said.
-fn explain_looks(role: Role, looks: Looks) -> Option<&'static str> {
-    match (role, looks) {
-        (Role::List, Looks::Log) => {
-            Some("it looks like a log: LIST comes first, as in epx check LIST LOG..")
-        }
-        (Role::List, Looks::Report) => {
-            Some("it looks like a report: each line of LIST must be [replica,number]")
-        }
-        (Role::Base, Looks::Log) => {
-            Some("it looks like a log: BASE comes first, as in epx resume BASE LOG..")
-        }
-        (Role::State, Looks::Log) => {
-            Some("it looks like a log: STATE is what --save saved, or a report")
-        }
-        (Role::Said, Looks::Log) => {
-            Some("it looks like a log: SAID comes first, as in epx verify SAID LOG..")
-        }
-        (Role::Base, Looks::List) => Some("it looks like a list: BASE must be a report"),
-        (Role::Said, Looks::List) => {
-            Some("it looks like a list: SAID has replies, and epx check and replay read lists")
-        }
-        (Role::State, Looks::List) => {
-            Some("it looks like a list: STATE is what --save saved, or a report")
-        }
-        _ => None,
-    }
-}
 
 /// What the lines of an input are to be.
 #[derive(Clone, Copy)]
@@ -134,7 +108,7 @@ fn explain_report_line(
     Ok(format!(in alloc; "line {number} is {shown}: {text}")?)
 }
 
-/// Explains a line of a state, a base, a list or of what a replica said.
+/// Explains a line of a state, a base, a list, a history or of what a replica said.
 fn explain_input_line(
     alloc: Global,
     role: Role,
@@ -142,7 +116,7 @@ fn explain_input_line(
     number: usize,
 ) -> Result<String, Memory> {
     let looks = looks_of(alloc, bytes)?;
-    if let Some(text) = explain_looks(role, looks) {
+    if let Some(text) = explain_input_kind(role, looks) {
         return Ok(String::from_str(alloc, text)?);
     }
     let Some(line) = line_at(bytes, number) else {
@@ -153,6 +127,7 @@ fn explain_input_line(
     };
     match role {
         Role::List => explain_list_line(alloc, line, number),
+        Role::History => explain_call_line(alloc, line, number),
         _ => explain_report_line(alloc, form_of(role, looks), line, number),
     }
 }

@@ -67,7 +67,7 @@ pub(crate) fn read_again<'a, R: Files>(
     }
 }
 
-/// The bytes of BASE or LIST: those that were kept, or those that the file holds now.
+/// The bytes of the input besides the logs: those that were kept, or those that the file holds now.
 pub fn read_first_again<'a, R: Files>(
     rt: &R,
     alloc: Global,

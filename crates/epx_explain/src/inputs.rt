@@ -18,6 +18,8 @@ pub(crate) enum FirstInput {
     List,
     /// What a replica said.
     Said,
+    /// The history of calls.
+    History,
 }
 
 /// What an input is read as.
@@ -28,6 +30,7 @@ pub(crate) enum Role {
     Base,
     List,
     Said,
+    History,
 }
 
 impl fmt::Display for Role {
@@ -38,6 +41,7 @@ impl fmt::Display for Role {
             Role::Base => write!(f, "BASE"),
             Role::List => write!(f, "LIST"),
             Role::Said => write!(f, "SAID"),
+            Role::History => write!(f, "HISTORY"),
         }
     }
 }
@@ -111,6 +115,7 @@ fn first_of(task: Task) -> FirstInput {
         Task::Resume => FirstInput::Base,
         Task::Check | Task::CheckPrefix | Task::Replay => FirstInput::List,
         Task::Verify => FirstInput::Said,
+        Task::Linear { .. } => FirstInput::History,
         _ => FirstInput::None,
     }
 }
@@ -180,7 +185,7 @@ impl<'a> Inputs<'a> {
         }
     }
 
-    /// STATE, BASE, LIST or SAID, if the command has one.
+    /// STATE, BASE, LIST, SAID or HISTORY, if the command has one.
     pub(crate) fn first_input(&self) -> Option<Input<'a>> {
         match self.first {
             FirstInput::None => None,
@@ -188,6 +193,7 @@ impl<'a> Inputs<'a> {
             FirstInput::Base => Some(self.at(Role::Base, 0)),
             FirstInput::List => Some(self.at(Role::List, 0)),
             FirstInput::Said => Some(self.at(Role::Said, 0)),
+            FirstInput::History => Some(self.at(Role::History, 0)),
         }
     }
 
@@ -200,8 +206,8 @@ impl<'a> Inputs<'a> {
         self.at(Role::Log(log), index)
     }
 
-    /// The input with this number in a fault of reading: STATE, BASE, LIST and SAID have the number
-    /// after the last log.
+    /// The input with this number in a fault of reading: STATE, BASE, LIST, SAID and HISTORY have
+    /// the number after the last log.
     pub(crate) fn numbered(&self, number: usize) -> Input<'a> {
         match self.first_input() {
             Some(input) if number >= self.count_logs() => input,

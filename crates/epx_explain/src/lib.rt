@@ -4,13 +4,17 @@
 #![tactic(auto)]
 
 mod answer;
+mod array_line;
 mod base_line;
+mod call_line;
 mod comparison;
 mod contents;
 mod dependencies;
 mod differences;
+mod earlier_call;
 mod explain;
 mod file_kind;
+mod input_kind;
 mod inputs;
 mod lines;
 mod list_line;
@@ -20,6 +24,7 @@ mod members;
 mod not_json;
 mod operations;
 mod reading;
+mod reply;
 mod shown;
 
 pub use comparison::explain_comparison;

@@ -5,7 +5,7 @@ use crate::file_kind::explain_file_kind;
 use crate::inputs::Input;
 use crate::lines::{LogLine, line_at};
 use crate::looks::{Looks, looks_by};
-use crate::members::{explain_kind, explain_number, explain_status};
+use crate::members::{MAX_REPLICA, explain_kind, explain_number, explain_status};
 use crate::not_json::explain_text;
 use crate::operations::explain_ops;
 use crate::shown::show_value;
@@ -14,9 +14,6 @@ use epx_types::{Memory, Why};
 use serde_json::Value;
 use std::alloc::Global;
 use std::rt::Files;
-
-/// The greatest replica.
-const MAX_REPLICA: u64 = 255;
 
 /// What a line must have, where the line itself is not at hand.
 fn expected_text(why: Why) -> &'static str {
@@ -51,7 +48,7 @@ fn explain_too_long(alloc: Global, line: LogLine<'_>) -> Result<Option<String>, 
     )?))
 }
 
-/// Explains a line that is no object: as one of a list or of a report, if it looks so.
+/// Explains a line that is no object: as one of a list, a report or a history, if it looks so.
 fn explain_not_object(alloc: Global, value: &Value) -> Result<Option<String>, Memory> {
     let advice = match looks_by(value) {
         Looks::List => "as in a list: LIST comes before the logs, as in epx check LIST LOG..",
@@ -59,7 +56,10 @@ fn explain_not_object(alloc: Global, value: &Value) -> Result<Option<String>, Me
             "as in a report, which is no log: BASE comes before the logs, as in \
 epx resume BASE LOG.."
         }
-        _ => return explain_kind(alloc, value),
+        Looks::History => {
+            "as in a history: HISTORY comes before the logs, as in epx linear HISTORY LOG.."
+        }
+        Looks::Log | Looks::Other => return explain_kind(alloc, value),
     };
     let shown = show_value(alloc, value)?;
     Ok(Some(format!(in alloc; "the line is {shown}, {advice}")?))

@@ -11,19 +11,30 @@ pub(crate) enum Looks {
     Log,
     List,
     Report,
+    History,
     Other,
+}
+
+/// The word with which an array begins.
+fn first_word(value: &Value) -> Option<&str> {
+    let [name, ..] = value.as_array()?.as_slice() else {
+        return None;
+    };
+    name.as_str()
 }
 
 /// Whether an array begins with a word with which lines of reports begin.
 pub(crate) fn is_report_line(value: &Value) -> bool {
-    let Some(parts) = value.as_array() else {
-        return false;
-    };
-    let [name, ..] = parts.as_slice() else {
-        return false;
-    };
-    match name.as_str() {
+    match first_word(value) {
         Some(name) => matches!(name, "executed" | "done" | "reply" | "waiting" | "store"),
+        None => false,
+    }
+}
+
+/// Whether an array begins as a call does.
+fn is_call(value: &Value) -> bool {
+    match first_word(value) {
+        Some(name) => name == "call",
         None => false,
     }
 }
@@ -38,6 +49,9 @@ pub(crate) fn looks_by(value: &Value) -> Looks {
     }
     if is_report_line(value) {
         return Looks::Report;
+    }
+    if is_call(value) {
+        return Looks::History;
     }
     Looks::Other
 }

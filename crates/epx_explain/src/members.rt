@@ -4,6 +4,9 @@ use epx_types::Memory;
 use serde_json::Value;
 use std::alloc::Global;
 
+/// The greatest replica.
+pub(crate) const MAX_REPLICA: u64 = 255;
+
 /// What kind of JSON value it is.
 fn kind_of(value: &Value) -> &'static str {
     match value {

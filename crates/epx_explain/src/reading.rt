@@ -60,7 +60,7 @@ pub(crate) fn explain_read<R: Files>(
     }
 }
 
-/// How an input that is too long can be cut. A base and a list cannot.
+/// How an input that is too long can be cut. The other inputs cannot.
 fn explain_cut(alloc: Global, input: Input<'_>) -> Result<String, Memory> {
     match (input.role, input.origin) {
         (Role::Log(_), Origin::File(path)) => {

@@ -7,3 +7,13 @@ pub mod PassLemmas
 pub mod FoundLemmas
 pub mod AnswerLemmas
 pub mod LinearLemmas
+pub mod FoundExistsLemmas
+mod CallLineLemmas
+mod CallTableLemmas
+mod LostCallLemmas
+pub mod SkewLemmas
+pub mod HistoryLemmas
+mod HistoryPartLemmas
+mod LateUniqueLemmas
+mod FindingLemmas
+pub mod LinearTextLemmas

@@ -130,7 +130,7 @@ up_to a b not_below =
 abbrev call_ids : List ClientCall → List Id
 call_ids h = map (λ c. c.id) h
 
-ids_apart : (h : List ClientCall) → IsHistory h → AllPairs (λ x y. x ≢ y) (call_ids h)
+pub ids_apart : (h : List ClientCall) → IsHistory h → AllPairs (λ x y. x ≢ y) (call_ids h)
 ids_apart h history =
     AllPairs-from_slice_get (λ x y. x ≢ y) (call_ids h) (λ i j x y l at to.
     let a = slice_get-from_map (λ (c : ClientCall). c.id) h i x at in

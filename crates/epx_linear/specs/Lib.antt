@@ -1,6 +1,12 @@
 pub mod ClientCalls
+pub mod HistoryLines
+pub mod HistoryTexts
+pub mod Skews
 pub mod CallAnswers
 pub mod LateCalls
 pub mod RealTime
+pub mod LinearTexts
 pub mod LinearLaws
+pub mod LinearTextLaws
+pub mod HistoryLaws
 pub mod inner

@@ -1,2 +1,4 @@
 -- Words of private clauses: no public contract speaks of them.
 pub mod Spans
+pub mod HistoryReadings
+pub mod MarkedCalls

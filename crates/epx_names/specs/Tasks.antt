@@ -2,13 +2,15 @@
 use Rattle.std.specs.Prelude.{⊤}
 use Rattle.epx_names.specs.declared.task.Task.{Task}
 use Rattle.epx_names.specs.declared.task.Task.TheVariants.{Resume, Check, CheckPrefix, Verify}
-use Rattle.epx_names.specs.declared.task.Task.TheVariants.{Replay}
+use Rattle.epx_names.specs.declared.task.Task.TheVariants.{Linear, Replay}
 
--- the task has an input besides the logs: a base, a list, or what a replica said
+-- the task has an input besides the logs: a base, a list, what a replica said, or a history of
+-- calls
 abbrev pub HasInput : Task → Type 0
 HasInput Resume = ⊤
 HasInput Check = ⊤
 HasInput CheckPrefix = ⊤
 HasInput Verify = ⊤
+HasInput (Linear skew) = ⊤
 HasInput Replay = ⊤
 HasInput _ = ⊥

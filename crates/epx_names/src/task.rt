@@ -26,6 +26,9 @@ pub enum Task {
     CheckPrefix,
     /// Say whether the order, the replies and the store that a replica said are right.
     Verify,
+    /// Say whether what clients saw is linear over the execution order. The clocks of two clients
+    /// differ by at most `skew`, in the unit of the times of the history.
+    Linear { skew: u64 },
     /// Execute a list of instances in its order, and write their replies and the store.
     Replay,
     /// Say what the logs say against each other.
@@ -39,13 +42,19 @@ pub enum Task {
 }
 
 impl Task {
-    /// Whether the task has an input besides the logs: a base, a list, or what a replica said.
+    /// Whether the task has an input besides the logs: a base, a list, what a replica said, or a
+    /// history of calls.
     pub fn has_input(self) -> bool
         ensures { (result ≡ true) ↔ HasInput self }
     {
         matches!(
             self,
-            Task::Resume | Task::Check | Task::CheckPrefix | Task::Verify | Task::Replay
+            Task::Resume
+                | Task::Check
+                | Task::CheckPrefix
+                | Task::Verify
+                | Task::Linear { .. }
+                | Task::Replay
         )
     }
 }

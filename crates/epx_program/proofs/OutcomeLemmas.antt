@@ -11,7 +11,7 @@ use Rattle.epx_merge.specs.DeliveredLogs.{EachDelivers}
 use Rattle.epx_tool.specs.DeliveredWithInput.{DeliversBoth}
 use Rattle.epx_names.specs.Tasks.{HasInput}
 use Rattle.epx_names.specs.declared.task.Task.TheVariants.{Resume, Check, CheckPrefix}
-use Rattle.epx_names.specs.declared.task.Task.TheVariants.{Replay, Verify}
+use Rattle.epx_names.specs.declared.task.Task.TheVariants.{Replay, Verify, Linear}
 use Rattle.epx_tool.specs.Findings.{AnswersFinding, IsFindingText}
 use Rattle.epx_tool.specs.TaskAnswers.{AnswersLogs, IsBadInput}
 use Rattle.epx_tool.specs.TaskTexts.{IsTaskText}
@@ -76,6 +76,7 @@ module _ (Both : List ℕ → List (List ℕ) → Type 0) (Logs : List (List ℕ
   over_both CheckPrefix has h = h
   over_both Replay has h = h
   over_both Verify has h = h
+  over_both (Linear skew) has h = h
   over_both task has h = absurd has
 
   over_logs : (task : Task) → ¬ HasInput task → Logs texts → over_texts task Both Logs texts
@@ -84,6 +85,7 @@ module _ (Both : List ℕ → List (List ℕ) → Type 0) (Logs : List (List ℕ
   over_logs CheckPrefix alone h = absurd (alone tt)
   over_logs Replay alone h = absurd (alone tt)
   over_logs Verify alone h = absurd (alone tt)
+  over_logs (Linear skew) alone h = absurd (alone tt)
   over_logs task alone h = h
 
 -- ---- runs over known texts

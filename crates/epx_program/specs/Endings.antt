@@ -8,7 +8,7 @@ use Rattle.epx_types.specs.Faults.{fault_status}
 use Rattle.epx_devices.specs.Transfers.{AppendsPrefix}
 use Rattle.epx_names.specs.declared.task.Task.{Task}
 use Rattle.epx_names.specs.declared.task.Task.TheVariants.{Resume, Check, CheckPrefix}
-use Rattle.epx_names.specs.declared.task.Task.TheVariants.{Replay, Verify}
+use Rattle.epx_names.specs.declared.task.Task.TheVariants.{Replay, Verify, Linear}
 use Rattle.epx_tool.specs.Findings.{AnswersFinding, IsFindingText}
 use Rattle.epx_tool.specs.Runs.{IsFaultOfRun}
 use Rattle.epx_tool.specs.RunsWithInput.{IsRunFaultWithInput}
@@ -30,6 +30,7 @@ over_texts Check Both Logs texts = Both (first_of texts) (drop 1 texts)
 over_texts CheckPrefix Both Logs texts = Both (first_of texts) (drop 1 texts)
 over_texts Replay Both Logs texts = Both (first_of texts) (drop 1 texts)
 over_texts Verify Both Logs texts = Both (first_of texts) (drop 1 texts)
+over_texts (Linear skew) Both Logs texts = Both (first_of texts) (drop 1 texts)
 over_texts _ Both Logs texts = Logs texts
 
 -- the answer of a task to the texts at its paths

@@ -62,6 +62,8 @@ answers_with_input about.CheckPrefix has found input logs text h =
     (h.0, (h.1.0, h.1.1, h.1.2.0))
 answers_with_input about.Replay has found input logs text h = (h.0, (h.1.0, h.1.1, h.1.2.0))
 answers_with_input about.Verify has found input logs text h = (h.0, (h.1.0, h.1.1, h.1.2.0))
+answers_with_input (about.Linear skew) has found input logs text h =
+    (h.0, (h.1.0, h.1.1, h.1.2.0))
 answers_with_input asked has found input logs text h = absurd has
 
 pub refuses_with_input : (asked : Task) → HasInput asked → (input : List ℕ)
@@ -73,6 +75,7 @@ refuses_with_input about.Check has input logs fault h = h
 refuses_with_input about.CheckPrefix has input logs fault h = h
 refuses_with_input about.Replay has input logs fault h = h
 refuses_with_input about.Verify has input logs fault h = h
+refuses_with_input (about.Linear skew) has input logs fault h = h
 refuses_with_input asked has input logs fault h = absurd has
 
 -- a task without an input that is no comparison

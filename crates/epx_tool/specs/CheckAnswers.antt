@@ -1,6 +1,6 @@
--- Checking and replaying a list of instances, and checking what a replica said: the answers to an
--- input and logs.
-use Rattle.std.specs.Prelude.{◌≡◌, ℕ, List, Result}
+-- Checking and replaying a list of instances, and checking what a replica said and what clients
+-- saw: the answers to an input and logs.
+use Rattle.std.specs.Prelude.{◌≡◌, ℕ, List, Result, map}
 use Rattle.epx_types.specs.declared.id.Id.{Id}
 use Rattle.epx_types.specs.declared.reply.Reply.{Reply}
 use Rattle.epx_types.specs.Contents.{Contents}
@@ -9,6 +9,10 @@ use Rattle.epx_types.specs.Instances.{Instance}
 use Rattle.epx_report.specs.Lists.{IsList, IsBadList}
 use Rattle.epx_tool.specs.WithInput.{AnswersWithInput}
 use Rattle.epx_tool.specs.Verdicts.{IsPrefixVerdict, IsSaidVerdict, IsVerdict}
+use Rattle.epx_linear.specs.declared.client_call.ClientCall.{ClientCall}
+use Rattle.epx_linear.specs.HistoryTexts.{IsHistoryText}
+use Rattle.epx_linear.specs.LinearTexts.{IsLinearText}
+use Rattle.epx_linear.specs.Skews.{later_by}
 use Rattle.epx_verify.specs.ListExecutions.{replay_text}
 use Rattle.epx_verify.specs.SaidTexts.{IsSaid}
 
@@ -28,6 +32,11 @@ IsReplayText list m text = (ids : List Id) × IsList list ids × (text ≡ repla
 abbrev pub IsVerifyText : List ℕ → List Instance → List ℕ → Type 0
 IsVerifyText said m text = (replies : List (Id × Reply)) × (stored : Contents)
     × IsSaid said replies stored × IsSaidVerdict m replies stored text
+
+-- where the calls of clients, with returns that are later by D, do not fit the execution order
+abbrev pub IsHistoryCheckText : ℕ → List ℕ → List Instance → List ℕ → Type 0
+IsHistoryCheckText D history m text = (h : List ClientCall)
+    × IsHistoryText history h × IsLinearText m (map (later_by D) h) text
 
 -- the verdict, or the first refusal
 abbrev pub Checks : List ℕ → List (List ℕ) → Result (List ℕ) Fault → Type 0

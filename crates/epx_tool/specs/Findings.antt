@@ -10,9 +10,11 @@ use Rattle.epx_compare.specs.Comparisons.{HasFindings}
 use Rattle.epx_compare.specs.ComparisonAnswers.{Compares}
 use Rattle.epx_report.specs.Bases.{IsBase}
 use Rattle.epx_report.specs.ViewLines.{covered_line, lawful_line}
+use Rattle.epx_linear.specs.LinearTexts.{linear_line}
 use Rattle.epx_names.specs.declared.task.Task.{Task}
 use Rattle.epx_names.specs.declared.task.Task.TheVariants.{Run, Order, Levels, Audit, Resume}
 use Rattle.epx_names.specs.declared.task.Task.TheVariants.{Check, CheckPrefix, Compare, Verify}
+use Rattle.epx_names.specs.declared.task.Task.TheVariants.{Linear}
 use Rattle.epx_tool.specs.declared.findings.Answer.{Answer}
 use Rattle.epx_tool.specs.Answer.{Answers}
 use Rattle.epx_tool.specs.TaskTexts.{IsTaskText}
@@ -22,7 +24,8 @@ abbrev pub SomeWaits : List Instance → Type 0
 SomeWaits m = (x y : Id) × WaitsFor m x y
 
 -- the text that answers a task finds something: an instance that waits, after what a base says is
--- done, two that are not covered, a list that is not lawful, or what a replica said wrong
+-- done, two that are not covered, a list that is not lawful, what a replica said wrong, or calls
+-- that are not linear
 abbrev pub FindsIn : Task → List ℕ → List Instance → List ℕ → Type 0
 FindsIn Run input m text = SomeWaits m
 FindsIn Order input m text = SomeWaits m
@@ -33,6 +36,7 @@ FindsIn Resume base m text = (done : List Id) × (stored : Contents) × IsBase b
 FindsIn Check list m text = text ≢ lawful_line
 FindsIn CheckPrefix list m text = text ≢ lawful_line
 FindsIn Verify said m text = text ≢ lawful_line
+FindsIn (Linear skew) history m text = text ≢ linear_line
 FindsIn _ input m text = ⊥
 
 -- the text for an input and a committed map, and whether it finds something

@@ -12,6 +12,7 @@ use Rattle.epx_tool.specs.declared.ask.Ask.TheVariants.{Path, Trace, Compare}
 use Rattle.epx_tool.specs.Answer.{Answers}
 use Rattle.epx_tool.specs.TaskTexts.{IsTaskText}
 use Rattle.epx_tool.specs.WithInput.{AnswersWithInput}
+use Rattle.epx_linear.specs.HistoryTexts.{IsBadHistory}
 use Rattle.epx_verify.specs.SaidTexts.{IsBadSaid}
 
 -- the task that shows a view
@@ -34,11 +35,12 @@ AnswersLogs task = Answers (IsTaskText task [])
 abbrev pub AnswersView : Ask → List (List ℕ) → Result (List ℕ) Fault → Type 0
 AnswersView ask = AnswersLogs (task_of ask)
 
--- the input of the task, a base, a list or what a replica said, has a bad line, and this is the
--- first
+-- the input of the task, a base, a list, what a replica said or a history of calls, has a bad line,
+-- and this is the first
 abbrev pub IsBadInput : Task → List ℕ → ℕ → Type 0
 IsBadInput task.Resume = IsBadBase
 IsBadInput task.Verify = IsBadSaid
+IsBadInput (task.Linear skew) = IsBadHistory
 IsBadInput _ = IsBadList
 
 -- the answer to a task over an input and logs; a task without an input ignores it
@@ -48,4 +50,5 @@ AnswersTask task.Check = AnswersWithInput IsBadList (IsTaskText task.Check)
 AnswersTask task.CheckPrefix = AnswersWithInput IsBadList (IsTaskText task.CheckPrefix)
 AnswersTask task.Replay = AnswersWithInput IsBadList (IsTaskText task.Replay)
 AnswersTask task.Verify = AnswersWithInput IsBadSaid (IsTaskText task.Verify)
+AnswersTask (task.Linear skew) = AnswersWithInput IsBadHistory (IsTaskText (task.Linear skew))
 AnswersTask task = λ input. AnswersLogs task

@@ -4,13 +4,14 @@ use Rattle.epx_types.specs.Instances.{Instance}
 use Rattle.epx_names.specs.declared.task.Task.{Task}
 use Rattle.epx_names.specs.declared.task.Task.TheVariants.{Run, Order, Levels, Graph, Resume}
 use Rattle.epx_names.specs.declared.task.Task.TheVariants.{Audit, Check, CheckPrefix, Compare}
-use Rattle.epx_names.specs.declared.task.Task.TheVariants.{Replay, Verify, Why, Path, Trace}
+use Rattle.epx_names.specs.declared.task.Task.TheVariants.{Replay, Verify, Linear, Why, Path}
+use Rattle.epx_names.specs.declared.task.Task.TheVariants.{Trace}
 use Rattle.epx_tool.specs.Report.{IsReport}
 use Rattle.epx_views.specs.OrderText.{IsOrderText}
 use Rattle.epx_views.specs.LevelText.{IsLevelText}
 use Rattle.epx_tool.specs.AuditText.{IsAuditText}
 use Rattle.epx_tool.specs.CheckAnswers.{IsCheckText, IsPrefixCheckText, IsReplayText}
-use Rattle.epx_tool.specs.CheckAnswers.{IsVerifyText}
+use Rattle.epx_tool.specs.CheckAnswers.{IsHistoryCheckText, IsVerifyText}
 use Rattle.epx_tool.specs.Resumption.{IsResumedText}
 use Rattle.epx_picture.specs.Pictures.{IsPicture}
 use Rattle.epx_why.specs.WhyTexts.{IsWhyText, IsPathText}
@@ -29,6 +30,7 @@ IsTaskText Check = IsCheckText
 IsTaskText CheckPrefix = IsPrefixCheckText
 IsTaskText Replay = IsReplayText
 IsTaskText Verify = IsVerifyText
+IsTaskText (Linear skew) = IsHistoryCheckText skew
 IsTaskText Compare = λ input m text. ⊥
 IsTaskText (Why x) = λ input m. IsWhyText m x
 IsTaskText (Path x y) = λ input m. IsPathText m x y

@@ -6,6 +6,7 @@ mod answer_task;
 mod answers;
 mod ask;
 mod checked_runs;
+mod client_calls;
 mod findings;
 pub mod laws;
 mod map_texts;

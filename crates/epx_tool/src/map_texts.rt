@@ -14,6 +14,7 @@ ghost use Rattle.epx_tool.specs.inner.MapQuestions.{FindsOf, IsTextOf};
 ghost use Rattle.epx_why.specs.WhyTexts.{IsWhyText};
 ghost use Rattle.epx_trace.specs.TraceTexts.{IsTraceText};
 
+use crate::client_calls::linear_of;
 use crate::findings::{Answer, is_other, some_wait};
 use crate::question::MapQuestion;
 use crate::verdict::{prefix_verdict_of, said_verdict_of, verdict_of};
@@ -193,5 +194,6 @@ pub(crate) fn text_of<R: Threads + RandomSource + Sync>(
         MapQuestion::CheckPrefix(ids) => prefix_verdict_of(rt, alloc, merged, &ids, plan),
         MapQuestion::Replay(ids) => Ok(Answer::new(replay_text(alloc, merged, &ids)?, false)),
         MapQuestion::Verify(said) => said_verdict_of(rt, alloc, merged, &said, plan),
+        MapQuestion::Linear(history) => linear_of(rt, alloc, merged, &history, plan),
     }
 }

@@ -4,11 +4,13 @@ ghost use Rattle.epx_names.specs.Tasks.{HasInput};
 ghost use Rattle.epx_names.specs.declared.task.Task.TheVariants.{Compare};
 ghost use Rattle.epx_tool.specs.inner.MapQuestions.{TaskAsks, IsInputFault};
 
+use epx_linear::{History, read_history};
 use epx_names::{KeyName, Task};
 use epx_report::{Base, BaseFault, read_base_by, read_list};
 use epx_types::{Id, Plan};
 use epx_verify::{Said, read_said};
 use std::alloc::Global;
+use std::random::RandomSource;
 use std::thread::Threads;
 
 /// What is asked of a committed map. Inputs are read.
@@ -32,6 +34,8 @@ pub(crate) enum MapQuestion {
     Replay(Vec<Id>),
     /// What is wrong with what a replica said.
     Verify(Said),
+    /// Where the calls of clients are not linear.
+    Linear(History),
 }
 
 /// What a task without an input asks of the map that the logs commit. A comparison asks nothing of
@@ -52,12 +56,13 @@ pub(crate) fn question_of(task: Task) -> Option<MapQuestion>
         Task::Trace { key, reads } => Some(MapQuestion::Trace { key, reads }),
         Task::Compare => None,
         Task::Resume | Task::Check | Task::CheckPrefix | Task::Replay | Task::Verify => None,
+        Task::Linear { .. } => None,
     }
 }
 
 /// Reads the lines of the input of a task, and returns what the task asks of the map. The plan's
-/// workers read a base.
-pub(crate) fn read_question<R: Threads + Sync>(
+/// workers read a base or a history.
+pub(crate) fn read_question<R: Threads + RandomSource + Sync>(
     rt: &R,
     alloc: Global,
     task: Task,
@@ -72,6 +77,10 @@ pub(crate) fn read_question<R: Threads + Sync>(
         Task::CheckPrefix => Ok(MapQuestion::CheckPrefix(read_list(alloc, input)?)),
         Task::Replay => Ok(MapQuestion::Replay(read_list(alloc, input)?)),
         Task::Verify => Ok(MapQuestion::Verify(read_said(alloc, input)?)),
+        Task::Linear { skew } => {
+            let history = read_history(rt, alloc, input, plan)?;
+            Ok(MapQuestion::Linear(history.later_by(skew)))
+        }
         _ => Ok(MapQuestion::Check(read_list(alloc, input)?)),
     }
 }

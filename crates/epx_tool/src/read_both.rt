@@ -25,7 +25,7 @@ use std::thread::{Threads, join};
 
 /// The committed map of logs whose lines are noted, and what the task asks by its input, each by
 /// itself. With several workers one more thread makes the map, while they read the input.
-fn read_each<R: Threads + Sync>(
+fn read_each<R: Threads + RandomSource + Sync>(
     rt: &R,
     alloc: Global,
     task: Task,
@@ -62,7 +62,7 @@ fn read_each<R: Threads + Sync>(
 
 /// The committed map of logs whose lines are noted, and what the task asks of it by its input, or
 /// the first refusal.
-fn read_noted<R: Threads + Sync>(
+fn read_noted<R: Threads + RandomSource + Sync>(
     rt: &R,
     alloc: Global,
     task: Task,

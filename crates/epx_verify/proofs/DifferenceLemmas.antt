@@ -53,7 +53,7 @@ values_decide (Some v) (Some w) = (
 lists_decide : (vs ws : List (Option ℤ)) → Decides (pointwise same_value vs ws) (vs ≡ ws)
 lists_decide vs ws = slice_eq-Decides values_decide vs ws (pointwise same_value vs ws) refl
 
-replies_decide : (a b : Reply) → Decides (same_reply a b) (a ≡ b)
+pub replies_decide : (a b : Reply) → Decides (same_reply a b) (a ≡ b)
 replies_decide (Values vs) (Values ws) = (
   λ e. ap Values ((lists_decide vs ws).0 e),
   λ e. (lists_decide vs ws).1 (cc e),
@@ -90,7 +90,7 @@ nothing_if : (same : Bool) (ds : List Data) → (if same then [] else line_of ds
 nothing_if true ds e = refl
 nothing_if false ds e = absurd (not_empty (compact_text (array_of ds)) 10 e)
 
-both_empty : (xs ys : List ℕ) → xs ++ ys ≡ [] → (xs ≡ []) × (ys ≡ [])
+pub both_empty : (xs ys : List ℕ) → xs ++ ys ≡ [] → (xs ≡ []) × (ys ≡ [])
 both_empty [] ys e = (refl, e)
 both_empty (x ∷ xs) ys e = absurd (cc e)
 

@@ -1,6 +1,6 @@
 mod SaidValueLemmas
 mod SaidReadingLemmas
 mod WrittenSaidLemmas
-mod DifferenceLemmas
+pub mod DifferenceLemmas
 mod DifferenceLineLemmas
 mod RoundTripLemmas

@@ -71,7 +71,8 @@ fn wrong_value(
     json!(in alloc; ["store", key.text(), said, right])
 }
 
-fn is_same_reply(said: &Reply, right: &Reply) -> bool
+/// Whether two replies are the same.
+pub fn is_same_reply(said: &Reply, right: &Reply) -> bool
     ensures { result ≡ same_reply said.now right.now }
 {
     match (said, right) {

@@ -9,6 +9,8 @@ pub mod laws;
 mod said;
 mod said_line;
 
+pub use difference_lines::is_same_reply;
 pub use differences::differences_text;
 pub use execution::replay_text;
 pub use said::{Said, read_said};
+pub use said_line::read_reply;

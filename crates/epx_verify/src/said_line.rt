@@ -65,9 +65,9 @@ fn read_op_index(value: &Value) -> Option<u64>
     }
 }
 
-/// `"ok",[v,..]` or `"abort",j`
+/// Reads a reply: `"ok",[v,..]` or `"abort",j`. None if it is none.
 #[tactic(auto, unfolding(crate::specs::SaidLines::reply_of))]
-fn read_reply(alloc: Global, kind: &Value, value: &Value) -> Result<Option<Reply>, Memory>
+pub fn read_reply(alloc: Global, kind: &Value, value: &Value) -> Result<Option<Reply>, Memory>
     ensures { IfOk result (λ o. o ≡ reply_of (view kind.now) (view value.now)) }
 {
     if has_text(kind, "ok") {

@@ -1,4 +1,4 @@
--- Words in which clap finds no fault name a subcommand that asks for work, with both numbers in
+-- Words in which clap finds no fault name a subcommand that asks for work, with its numbers in
 -- their ranges and with its required first argument.
 use Rattle.std.proofs.Common.{◌≡◌, ◌∙◌, Bool, cond, true, false, codes, List, [], ◌∷◌, Option}
 use Rattle.std.proofs.Common.{Some, None, refl, sym, subst, inl, inr, is_some, true≢false}
@@ -7,23 +7,24 @@ use Rattle.clap.specs.Faults.{check_fault, defaults_fault, entered_fault, fault_
 use Rattle.clap.specs.Faults.{is_simple_and_free, level_fault, settle_fault, walk_fault}
 use Rattle.clap.specs.Simple.{App, Shape, argument_words, built, built_leaf, entered, inherited}
 use Rattle.clap.specs.Simple.{is_simple, marked_built, names_of, subcommand_of, with_leaf_noted}
-use Rattle.clap.specs.Walk.{Row, Text, finished, nothing_held, rows_after, settled, stop_after}
-use Rattle.clap.specs.Walk.{walk, walk_from}
+use Rattle.clap.specs.Walk.{Row, Text, finished, nothing_held, one_of, rows_after, settled}
+use Rattle.clap.specs.Walk.{stop_after, walk, walk_from}
 use Rattle.clap.proofs.OnLiterals.{clap_on_literals}
-use Rattle.epx_words.specs.App.{base_app, epx_app, finding_app, follow_app, input_app, list_app}
-use Rattle.epx_words.specs.App.{trace_app, why_app, work_app}
-use Rattle.epx_words.specs.SubcommandRows.{AsksForWork, IsOneOf, IsTaskName, IsWorkName, NeedsFirst}
-use Rattle.epx_words.specs.SubcommandRows.{first_names, task_names}
+use Rattle.epx_words.specs.App.{base_app, epx_app, finding_app, follow_app, input_app, linear_app}
+use Rattle.epx_words.specs.App.{list_app, trace_app, why_app, work_app}
+use Rattle.epx_words.specs.SubcommandRows.{AsksForWork, IsNumberIn, IsOneOf, IsTaskName, IsWorkName}
+use Rattle.epx_words.specs.SubcommandRows.{NeedsFirst, first_names, max_skew, task_names}
 use Rattle.epx_words.proofs.AbsentRowLemmas.{no_flag}
 use Rattle.epx_words.proofs.KindLemmas.{none_after, none_first}
 use Rattle.epx_words.proofs.StopLemmas.{IsKnownName, StopsAtWork, walk_work}
 use Rattle.epx_words.proofs.SoundArgumentLemmas.{HasNumbers, IsFirstThere, code_to_first}
 use Rattle.epx_words.proofs.SoundArgumentLemmas.{code_to_first_keep, code_to_logs}
 use Rattle.epx_words.proofs.SoundArgumentLemmas.{code_to_logs_keep, each_to_logs, each_to_logs_keep}
-use Rattle.epx_words.proofs.SoundArgumentLemmas.{first_has_row, level_numbers}
+use Rattle.epx_words.proofs.SoundArgumentLemmas.{first_has_row, level_numbers, level_skew}
 use Rattle.epx_words.proofs.SoundArgumentLemmas.{prefix_to_first, prefix_to_first_keep}
 use Rattle.epx_words.proofs.SoundArgumentLemmas.{reaches_to_first, reaches_to_first_keep}
 use Rattle.epx_words.proofs.SoundArgumentLemmas.{reads_to_first, reads_to_first_keep}
+use Rattle.epx_words.proofs.SoundArgumentLemmas.{skew_to_first, skew_to_first_keep}
 use Rattle.epx_words.proofs.SoundArgumentLemmas.{to_first, to_first_keep, to_logs, to_logs_keep}
 
 pub epx_is_simple : is_simple epx_app ≡ true
@@ -67,6 +68,17 @@ module _ (name : Text) (rest : List Text) where
   list_numbers none =
       level_numbers (leaf_of (list_app name)) prefix_to_first refl refl prefix_to_first_keep rest
       none
+
+  linear_numbers : IsFaultless (leaf_of (linear_app name)) rest
+      → HasNumbers (rows_after (leaf_of (linear_app name)).rules [] rest)
+  linear_numbers none =
+      level_numbers (leaf_of (linear_app name)) skew_to_first refl refl skew_to_first_keep rest none
+
+  linear_skew : IsFaultless (leaf_of (linear_app name)) rest
+      → IsNumberIn 0 max_skew
+      (one_of (codes "skew") (rows_after (leaf_of (linear_app name)).rules [] rest))
+  linear_skew none =
+      level_skew (leaf_of (linear_app name)) refl rest (linear_numbers none).sound
 
   input_numbers : IsFaultless (leaf_of (input_app name)) rest
       → HasNumbers (rows_after (leaf_of (input_app name)).rules [] rest)
@@ -120,7 +132,14 @@ not_one_of name (t ∷ ts) none is = go (bytes_eq name t) refl (not_one_of name 
 no_follow : (name : Text) → IsTaskName name → ¬ (name ≡ codes "follow")
 no_follow name is e = not_one_of (codes "follow") task_names refl (subst IsTaskName e is)
 
--- the subcommand of a task asks for work if it has both numbers and, where it needs one, a first
+-- two texts that differ
+apart : (a b : Text) → bytes_eq a b ≡ false → ¬ (a ≡ b)
+apart a b differ is = true≢false (sym ((bytes_eq-Decides a b).1 is) ∙ differ)
+
+linear_first : NeedsFirst (codes "linear")
+linear_first = inr (inr (inr (inl refl)))
+
+-- the subcommand of a task asks for work if it has its numbers and, where it needs one, a first
 -- argument
 module _ (shape : Shape) (name : Text) (rest : List Text) (is : IsTaskName name)
     (numbers : HasNumbers (rows_after shape.rules [] rest)) where
@@ -131,18 +150,23 @@ module _ (shape : Shape) (name : Text) (rest : List Text) (is : IsTaskName name)
     numbers.cut,
     λ has. absurd (no_first has),
     λ e. absurd (no_follow name is e),
+    λ e. absurd (no_first (subst NeedsFirst (sym e) linear_first)),
   )
 
   first_work : (check_fault shape (rows_after shape.rules [] rest) false ≡ []
-      → IsFirstThere (rows_after shape.rules [] rest)) → IsFaultless shape rest
+      → IsFirstThere (rows_after shape.rules [] rest))
+      → (name ≡ codes "linear"
+      → IsNumberIn 0 max_skew (one_of (codes "skew") (rows_after shape.rules [] rest)))
+      → IsFaultless shape rest
       → AsksForWork (Some (name, rows_after shape.rules [] rest))
-  first_work there none = (
+  first_work there skew none = (
     inl is,
     numbers.workers,
     numbers.cut,
     λ has. first_has_row (rows_after shape.rules [] rest) (there (nothing_missing shape rest none))
         numbers.sound,
     λ e. absurd (no_follow name is e),
+    skew,
   )
 
 -- a name that equals a known one asks for work if the known one does
@@ -179,17 +203,20 @@ is_check = inr (inr (inr (inr (inr (inr (inl refl))))))
 is_verify : IsTaskName (codes "verify")
 is_verify = inr (inr (inr (inr (inr (inr (inr (inl refl)))))))
 
+is_linear : IsTaskName (codes "linear")
+is_linear = inr (inr (inr (inr (inr (inr (inr (inr (inl refl))))))))
+
 is_replay : IsTaskName (codes "replay")
-is_replay = inr (inr (inr (inr (inr (inr (inr (inr (inl refl))))))))
+is_replay = inr (inr (inr (inr (inr (inr (inr (inr (inr (inl refl)))))))))
 
 is_compare : IsTaskName (codes "compare")
-is_compare = inr (inr (inr (inr (inr (inr (inr (inr (inr (inl refl)))))))))
+is_compare = inr (inr (inr (inr (inr (inr (inr (inr (inr (inr (inl refl))))))))))
 
 is_why : IsTaskName (codes "why")
-is_why = inr (inr (inr (inr (inr (inr (inr (inr (inr (inr (inl refl))))))))))
+is_why = inr (inr (inr (inr (inr (inr (inr (inr (inr (inr (inr (inl refl)))))))))))
 
 is_trace : IsTaskName (codes "trace")
-is_trace = inr (inr (inr (inr (inr (inr (inr (inr (inr (inr (inr (inl refl)))))))))))
+is_trace = inr (inr (inr (inr (inr (inr (inr (inr (inr (inr (inr (inr (inl refl))))))))))))
 
 no_first : (name : Text) → is_none_of name first_names ≡ true → ¬ NeedsFirst name
 no_first name none = not_one_of name first_names none
@@ -221,54 +248,66 @@ module _ (rest : List Text) where
         λ has. absurd (no_first (codes "follow") refl has),
         λ e. no_flag (codes "exit-code") follow_leaf
             (refl, (refl, (refl, (refl, (refl, (refl, (refl, (refl, tt)))))))) rest none,
+        λ e. absurd (apart (codes "follow") (codes "linear") refl e),
       )
 
 task_works : (name : Text) (rest : List Text) → IsTaskName name
     → entered_fault app (Some (name, rest)) ≡ [] → AsksForWork (entered app (Some (name, rest)))
-task_works name rest (inl is) =
-    named name (codes "run") rest is
+task_works n rest (inl is) =
+    named n (codes "run") rest is
     (over_findings rest (codes "run") is_run refl)
-task_works name rest (inr (inl is)) =
-    named name (codes "order") rest is
+task_works n rest (inr (inl is)) =
+    named n (codes "order") rest is
     (over_findings rest (codes "order") is_order refl)
-task_works name rest (inr (inr (inl is))) =
-    named name (codes "levels") rest is
+task_works n rest (inr (inr (inl is))) =
+    named n (codes "levels") rest is
     (over_findings rest (codes "levels") is_levels refl)
-task_works name rest (inr (inr (inr (inl is)))) =
-    named name (codes "graph") rest is
+task_works n rest (inr (inr (inr (inl is)))) =
+    named n (codes "graph") rest is
     (over_logs rest (codes "graph") is_graph refl)
-task_works name rest (inr (inr (inr (inr (inl is))))) =
-    named name (codes "resume") rest is
+task_works n rest (inr (inr (inr (inr (inl is))))) =
+    named n (codes "resume") rest is
     (λ none. first_work (leaf_of (base_app (codes "resume"))) (codes "resume") rest is_resume
-    (base_numbers (codes "resume") rest none) (λ e. e) none)
-task_works name rest (inr (inr (inr (inr (inr (inl is)))))) =
-    named name (codes "audit") rest is
+    (base_numbers (codes "resume") rest none) (λ e. e)
+    (λ e. absurd (apart (codes "resume") (codes "linear") refl e)) none)
+task_works n rest (inr (inr (inr (inr (inr (inl is)))))) =
+    named n (codes "audit") rest is
     (over_findings rest (codes "audit") is_audit refl)
-task_works name rest (inr (inr (inr (inr (inr (inr (inl is))))))) =
-    named name (codes "check") rest is
+task_works n rest (inr (inr (inr (inr (inr (inr (inl is))))))) =
+    named n (codes "check") rest is
     (λ none. first_work (leaf_of (list_app (codes "check"))) (codes "check") rest is_check
-    (list_numbers (codes "check") rest none) (λ e. e) none)
-task_works name rest (inr (inr (inr (inr (inr (inr (inr (inl is)))))))) =
-    named name (codes "verify") rest is
+    (list_numbers (codes "check") rest none) (λ e. e)
+    (λ e. absurd (apart (codes "check") (codes "linear") refl e)) none)
+task_works n rest (inr (inr (inr (inr (inr (inr (inr (inl is)))))))) =
+    named n (codes "verify") rest is
     (λ none. first_work (leaf_of (base_app (codes "verify"))) (codes "verify") rest is_verify
-    (base_numbers (codes "verify") rest none) (λ e. e) none)
-task_works name rest (inr (inr (inr (inr (inr (inr (inr (inr (inl is))))))))) =
-    named name (codes "replay") rest is
+    (base_numbers (codes "verify") rest none) (λ e. e)
+    (λ e. absurd (apart (codes "verify") (codes "linear") refl e)) none)
+task_works n rest (inr (inr (inr (inr (inr (inr (inr (inr (inl is))))))))) =
+    named n (codes "linear") rest is
+    (λ none. first_work (leaf_of (linear_app (codes "linear"))) (codes "linear") rest is_linear
+    (linear_numbers (codes "linear") rest none) (λ e. e)
+    (λ e. linear_skew (codes "linear") rest none) none)
+task_works n rest (inr (inr (inr (inr (inr (inr (inr (inr (inr (inl is)))))))))) =
+    named n (codes "replay") rest is
     (λ none. first_work (leaf_of (input_app (codes "replay"))) (codes "replay") rest is_replay
-    (input_numbers (codes "replay") rest none) (λ e. e) none)
-task_works name rest (inr (inr (inr (inr (inr (inr (inr (inr (inr (inl is)))))))))) =
-    named name (codes "compare") rest is
+    (input_numbers (codes "replay") rest none) (λ e. e)
+    (λ e. absurd (apart (codes "replay") (codes "linear") refl e)) none)
+task_works n rest (inr (inr (inr (inr (inr (inr (inr (inr (inr (inr (inl is))))))))))) =
+    named n (codes "compare") rest is
     (over_findings rest (codes "compare") is_compare refl)
-task_works name rest (inr (inr (inr (inr (inr (inr (inr (inr (inr (inr (inl is))))))))))) =
-    named name (codes "why") rest is
+task_works n rest (inr (inr (inr (inr (inr (inr (inr (inr (inr (inr (inr (inl is)))))))))))) =
+    named n (codes "why") rest is
     (λ none. first_work (leaf_of (why_app (codes "why"))) (codes "why") rest is_why
-    (why_numbers (codes "why") rest none) (λ e. e) none)
-task_works name rest (inr (inr (inr (inr (inr (inr (inr (inr (inr (inr (inr (inl is)))))))))))) =
-    named name (codes "trace") rest is
+    (why_numbers (codes "why") rest none) (λ e. e)
+    (λ e. absurd (apart (codes "why") (codes "linear") refl e)) none)
+task_works n rest (inr (inr (inr (inr (inr (inr (inr (inr (inr (inr (inr (inr (inl is))))))))))))) =
+    named n (codes "trace") rest is
     (λ none. first_work (leaf_of (trace_app (codes "trace"))) (codes "trace") rest is_trace
-    (trace_numbers (codes "trace") rest none) (λ e. e) none)
-task_works name rest (inr (inr (inr (inr (inr (inr (inr (inr (inr (inr (inr (inr none)))))))))))) =
-    absurd none
+    (trace_numbers (codes "trace") rest none) (λ e. e)
+    (λ e. absurd (apart (codes "trace") (codes "linear") refl e)) none)
+task_works n rest (inr (inr (inr (inr (inr (inr (inr (inr (inr (inr (inr (inr (inr e))))))))))))) =
+    absurd e
 
 name_works : (name : Text) (rest : List Text) → IsWorkName name
     → entered_fault app (Some (name, rest)) ≡ [] → AsksForWork (entered app (Some (name, rest)))
@@ -299,10 +338,13 @@ known = (
               (
                 inl (inl is_verify),
                 (
-                  inl (inl is_replay),
+                  inl (inl is_linear),
                   (
-                    inl (inl is_compare),
-                    (inl (inl is_why), (inl (inl is_trace), (inl (inr refl), (inr refl, tt)))),
+                    inl (inl is_replay),
+                    (
+                      inl (inl is_compare),
+                      (inl (inl is_why), (inl (inl is_trace), (inl (inr refl), (inr refl, tt)))),
+                    ),
                   ),
                 ),
               ),

@@ -6,20 +6,20 @@ use Rattle.clap.specs.Values.{IsUnsignedIn}
 use Rattle.clap.specs.Walk.{Text, one_of, rows_of}
 use Rattle.clap.specs.declared.parser.matches.Found.{Found}
 use Rattle.clap.proofs.WalkLemmas.{one_text-rows}
-use Rattle.epx_words.specs.SubcommandRows.{IsNumberOf, IsNumberUpTo}
+use Rattle.epx_words.specs.SubcommandRows.{IsNumberIn, IsNumberOf}
 
-pub record IsRead (high : ℕ) (text : Option Text) (read : Option ℕ) : Type 0 where
+pub record IsRead (low high : ℕ) (text : Option Text) (read : Option ℕ) : Type 0 where
   pub number : ℕ
   pub is : read ≡ Some number
-  pub least : 1 ≤ number
+  pub least : low ≤ number
   pub most : number ≤ high
   pub means : IsNumberOf text number
 
 module _ (E : Type 0) (G : List ℕ → Result ℕ E → Type 0)
     (parses : (u : List ℕ) (x : Result ℕ E) → G u x → ParsesUnsigned 64 10 u x) where
-  text_read : (most : ℕ) (t : Text) (r : Option ℕ) → ReadsOne G t r → IsUnsignedIn 1 most t
-      → IsRead most (Some t) r
-  text_read most t (Some v) read passed =
+  text_read : (least most : ℕ) (t : Text) (r : Option ℕ) → ReadsOne G t r
+      → IsUnsignedIn least most t → IsRead least most (Some t) r
+  text_read least most t (Some v) read passed =
       let parsed = parses t (Ok v) read in
       record {
         number = v;
@@ -28,14 +28,17 @@ module _ (E : Type 0) (G : List ℕ → Result ℕ E → Type 0)
         most = rw parsed.1 passed.3;
         means = (passed.0, parsed.1);
       }
-  text_read most t None read passed = absurd (parses t (Err read.0) read.1 (passed.0, passed.1))
+  text_read least most t None read passed =
+      absurd (parses t (Err read.0) read.1 (passed.0, passed.1))
 
-  pub number_read : (most : ℕ) (f : Found) (id : Text) (r : Option ℕ)
+  pub number_read : (least most : ℕ) (f : Found) (id : Text) (r : Option ℕ)
       → ((t : Text) → one_text f id ≡ Some t → ReadsOne G t r)
-      → IsNumberUpTo most (one_of id (rows_of f))
-      → IsRead most (one_of id (rows_of f)) r
-  number_read most f id r reads passed = go (one_of id (rows_of f)) (one_text-rows f id) passed
+      → IsNumberIn least most (one_of id (rows_of f))
+      → IsRead least most (one_of id (rows_of f)) r
+  number_read least most f id r reads passed =
+      go (one_of id (rows_of f)) (one_text-rows f id) passed
     where
-      go : (o : Option Text) → one_text f id ≡ o → IsNumberUpTo most o → IsRead most o r
+      go : (o : Option Text) → one_text f id ≡ o → IsNumberIn least most o
+          → IsRead least most o r
       go None is none = absurd none
-      go (Some t) is ok = text_read most t r (reads t is) ok
+      go (Some t) is ok = text_read least most t r (reads t is) ok

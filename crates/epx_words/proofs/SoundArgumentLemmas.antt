@@ -22,7 +22,7 @@ use Rattle.clap.specs.declared.parser.matches.ValueSource.{ValueSource}
 use Rattle.clap.specs.declared.parser.matches.ValueSource.TheVariants.{CommandLine, DefaultValue}
 use Rattle.clap.proofs.ValueTestLemmas.{accepts-Accepts}
 use Rattle.epx_words.specs.App.{first_rule, flag_rule, logs_rule, number_rule, text_rule}
-use Rattle.epx_words.specs.SubcommandRows.{IsNumberUpTo, first_in}
+use Rattle.epx_words.specs.SubcommandRows.{IsNumberIn, first_in, max_skew}
 use Rattle.epx_words.proofs.KindLemmas.{none_after, none_first}
 use Rattle.epx_words.proofs.SoundRowLemmas.{AreSound, IsSoundRow, first_read, default_has_row}
 use Rattle.epx_words.proofs.SoundRowLemmas.{default_keeps_row, default_sound, new_row, no_default}
@@ -31,10 +31,13 @@ use Rattle.epx_words.proofs.KeptRowLemmas.{KeepsRows, level_kept, without_kept}
 
 -- the arguments of a subcommand, as clap fills them in
 abbrev workers_leaf : Rule
-workers_leaf = filled (number_rule (codes "workers") (codes "4") 64)
+workers_leaf = filled (number_rule (codes "workers") (codes "4") 1 64)
 
 abbrev cut_leaf : Rule
-cut_leaf = filled (number_rule (codes "cut") (codes "256") 65536)
+cut_leaf = filled (number_rule (codes "cut") (codes "256") 1 65536)
+
+abbrev skew_leaf : Rule
+skew_leaf = filled (number_rule (codes "skew") (codes "0") 0 max_skew)
 
 abbrev first_leaf : Rule
 first_leaf = with_index 1 (filled first_rule)
@@ -53,7 +56,7 @@ abbrev pub numbers_and : List Rule → List Rule
 numbers_and rest = workers_leaf ∷ cut_leaf ∷ flag_leaf (codes "explain") ∷ rest
 
 -- what follows: the logs, or a first argument and the logs, each with or without further flags and
--- options whose values are texts
+-- options whose values are texts or a number
 abbrev pub to_logs : List Rule
 to_logs = logs_leaf 1 ∷ filled help_rule ∷ []
 
@@ -68,6 +71,9 @@ code_to_first = flag_leaf (codes "exit-code") ∷ to_first
 
 abbrev pub prefix_to_first : List Rule
 prefix_to_first = flag_leaf (codes "exit-code") ∷ flag_leaf (codes "prefix") ∷ to_first
+
+abbrev pub skew_to_first : List Rule
+skew_to_first = flag_leaf (codes "exit-code") ∷ skew_leaf ∷ to_first
 
 abbrev pub reaches_to_first : List Rule
 reaches_to_first = text_leaf (codes "reaches") ∷ to_first
@@ -94,45 +100,65 @@ one_value n none = go (n == 0) (1 == n) refl none
     go false true is e = sym (eqb-true 1 n is)
     go false false is e = cc
 
-passed : (most : ℕ) (v : Text) → value_kinds false (Unsigned 1 most) v ≡ [] → IsUnsignedIn 1 most v
-passed most v none = go (is_unsigned_in 1 most v) refl none
+passed : (least most : ℕ) (v : Text) → value_kinds false (Unsigned least most) v ≡ []
+    → IsUnsignedIn least most v
+passed least most v none = go (is_unsigned_in least most v) refl none
   where
-    go : (b : Bool) → is_unsigned_in 1 most v ≡ b → cond b [] (ValueValidation ∷ []) ≡ []
-        → IsUnsignedIn 1 most v
-    go true is e = accepts-Accepts false (Unsigned 1 most) v is
+    go : (b : Bool) → is_unsigned_in least most v ≡ b → cond b [] (ValueValidation ∷ []) ≡ []
+        → IsUnsignedIn least most v
+    go true is e = accepts-Accepts false (Unsigned least most) v is
     go false is e = cc
 
 -- the number's row is sound if the number is in its range
-abbrev FitsRow : Text → ℕ → Type 0
-FitsRow name most = (s : ValueSource) (v : Text) → IsUnsignedIn 1 most v
+abbrev FitsRow : Text → ℕ → ℕ → Type 0
+FitsRow name least most = (s : ValueSource) (v : Text) → IsUnsignedIn least most v
     → IsSoundRow (new_row name AsWritten s (v ∷ []))
 
-workers_fit : FitsRow (codes "workers") 64
-workers_fit s v h = (λ e. (refl, h), λ e. absurd (true≢false (sym e)), λ e. tt)
+workers_fit : FitsRow (codes "workers") 1 64
+workers_fit s v h = (
+  λ e. (refl, h),
+  λ e. absurd (true≢false (sym e)),
+  λ e. tt,
+  λ e. absurd (true≢false (sym e)),
+)
 
-cut_fits : FitsRow (codes "cut") 65536
-cut_fits s v h = (λ e. absurd (true≢false (sym e)), λ e. (refl, h), λ e. tt)
+cut_fits : FitsRow (codes "cut") 1 65536
+cut_fits s v h = (
+  λ e. absurd (true≢false (sym e)),
+  λ e. (refl, h),
+  λ e. tt,
+  λ e. absurd (true≢false (sym e)),
+)
 
-module _ (name default : Text) (most : ℕ) (fits : FitsRow name most) (again : Bool) where
-  abbrev leaf : Rule
-  leaf = filled (number_rule name default most)
+skew_fits : FitsRow (codes "skew") 0 max_skew
+skew_fits s v h = (
+  λ e. absurd (true≢false (sym e)),
+  λ e. absurd (true≢false (sym e)),
+  λ e. tt,
+  λ e. (refl, h),
+)
 
-  one_keeps : (values : List Text) (rows : List Row) → length values ≡ 1
-      → action_fault Set again leaf (values_or_missing leaf values) rows ≡ [] → AreSound rows
-      → AreSound (used leaf values rows)
-  one_keeps [] rows one none ok = absurd (omega arith)
-  one_keeps (v ∷ w ∷ vs) rows one none ok = absurd (omega arith)
-  one_keeps (v ∷ []) rows one none ok =
-      let value = none_first (value_kinds false (Unsigned 1 most) v) []
-      (none_after (repeat_fault again name rows) _ none) in
-      values_sound name AsWritten CommandLine (v ∷ []) (without name rows)
-      (fits CommandLine v (passed most v value)) (without_kept IsSoundRow name rows ok)
+module _ (name default : Text) (least most : ℕ) (fits : FitsRow name least most) (again : Bool)
+  where
+    abbrev leaf : Rule
+    leaf = filled (number_rule name default least most)
 
-  number_keeps : KeepsSound again leaf
-  number_keeps values rows none ok =
-      let range = range_kinds 1 1 (length values) in
-      one_keeps values rows (one_value (length values) (none_first range _ none))
-      (none_after range _ none) ok
+    one_keeps : (values : List Text) (rows : List Row) → length values ≡ 1
+        → action_fault Set again leaf (values_or_missing leaf values) rows ≡ [] → AreSound rows
+        → AreSound (used leaf values rows)
+    one_keeps [] rows one none ok = absurd (omega arith)
+    one_keeps (v ∷ w ∷ vs) rows one none ok = absurd (omega arith)
+    one_keeps (v ∷ []) rows one none ok =
+        let value = none_first (value_kinds false (Unsigned least most) v) []
+        (none_after (repeat_fault again name rows) _ none) in
+        values_sound name AsWritten CommandLine (v ∷ []) (without name rows)
+        (fits CommandLine v (passed least most v value)) (without_kept IsSoundRow name rows ok)
+
+    number_keeps : KeepsSound again leaf
+    number_keeps values rows none ok =
+        let range = range_kinds 1 1 (length values) in
+        one_keeps values rows (one_value (length values) (none_first range _ none))
+        (none_after range _ none) ok
 
 -- ---- the other arguments
 
@@ -143,6 +169,7 @@ logs_keep again i values rows none ok =
       λ e. absurd (true≢false (sym e)),
       λ e. absurd (true≢false (sym e)),
       λ e. absurd (true≢false (sym e)),
+      λ e. absurd (true≢false (sym e)),
     ) ok
 
 first_kept : (values : List Text) (rows : List Row) → length values ≡ 1 → AreSound rows
@@ -150,8 +177,12 @@ first_kept : (values : List Text) (rows : List Row) → length values ≡ 1 → 
 first_kept [] rows one ok = absurd (omega arith)
 first_kept (v ∷ w ∷ vs) rows one ok = absurd (omega arith)
 first_kept (v ∷ []) rows one ok =
-    values_sound (codes "first") AsWritten CommandLine (v ∷ []) (without (codes "first") rows)
-    (λ e. absurd (true≢false (sym e)), λ e. absurd (true≢false (sym e)), λ e. tt)
+    values_sound (codes "first") AsWritten CommandLine (v ∷ []) (without (codes "first") rows) (
+      λ e. absurd (true≢false (sym e)),
+      λ e. absurd (true≢false (sym e)),
+      λ e. tt,
+      λ e. absurd (true≢false (sym e)),
+    )
     (without_kept IsSoundRow (codes "first") rows ok)
 
 first_keeps : (again : Bool) → KeepsSound again first_leaf
@@ -166,13 +197,15 @@ DefaultKeeps a = (rows : List Row) → AreSound rows → AreSound (with_default 
 -- rows of all other arguments are sound
 module _ (name : Text) (no_workers : bytes_eq name (codes "workers") ≡ false)
     (no_cut : bytes_eq name (codes "cut") ≡ false)
-    (no_first : bytes_eq name (codes "first") ≡ false) where
+    (no_first : bytes_eq name (codes "first") ≡ false)
+    (no_skew : bytes_eq name (codes "skew") ≡ false) where
   other_sound : (s : ValueSource) (values : List Text)
       → IsSoundRow (new_row name AsWritten s values)
   other_sound s values = (
     λ e. absurd (true≢false (sym e ∙ no_workers)),
     λ e. absurd (true≢false (sym e ∙ no_cut)),
     λ e. absurd (true≢false (sym e ∙ no_first)),
+    λ e. absurd (true≢false (sym e ∙ no_skew)),
   )
 
   flag_keeps : (again : Bool) → KeepsSound again (flag_leaf name)
@@ -203,15 +236,15 @@ Keeps a = KeepsSound true a × DefaultKeeps a
 
 flag_is_kept : (name : Text) → bytes_eq name (codes "workers") ≡ false
     → bytes_eq name (codes "cut") ≡ false → bytes_eq name (codes "first") ≡ false
-    → Keeps (flag_leaf name)
-flag_is_kept name workers cut first =
-    (flag_keeps name workers cut first true, flag_default_keeps name workers cut first)
+    → bytes_eq name (codes "skew") ≡ false → Keeps (flag_leaf name)
+flag_is_kept name workers cut first skew =
+    (flag_keeps name workers cut first skew true, flag_default_keeps name workers cut first skew)
 
 text_is_kept : (name : Text) → bytes_eq name (codes "workers") ≡ false
     → bytes_eq name (codes "cut") ≡ false → bytes_eq name (codes "first") ≡ false
-    → Keeps (text_leaf name)
-text_is_kept name workers cut first =
-    (text_keeps name workers cut first true, no_default_keeps (text_leaf name) refl)
+    → bytes_eq name (codes "skew") ≡ false → Keeps (text_leaf name)
+text_is_kept name workers cut first skew =
+    (text_keeps name workers cut first skew true, no_default_keeps (text_leaf name) refl)
 
 pub to_logs_keep : AllByRecursion Keeps to_logs
 to_logs_keep = (
@@ -229,29 +262,46 @@ to_first_keep = (
 )
 
 pub code_to_logs_keep : AllByRecursion Keeps code_to_logs
-code_to_logs_keep = (flag_is_kept (codes "exit-code") refl refl refl, to_logs_keep)
+code_to_logs_keep = (flag_is_kept (codes "exit-code") refl refl refl refl, to_logs_keep)
 
 pub code_to_first_keep : AllByRecursion Keeps code_to_first
-code_to_first_keep = (flag_is_kept (codes "exit-code") refl refl refl, to_first_keep)
+code_to_first_keep = (flag_is_kept (codes "exit-code") refl refl refl refl, to_first_keep)
 
 pub prefix_to_first_keep : AllByRecursion Keeps prefix_to_first
 prefix_to_first_keep = (
-  flag_is_kept (codes "exit-code") refl refl refl,
-  (flag_is_kept (codes "prefix") refl refl refl, to_first_keep),
+  flag_is_kept (codes "exit-code") refl refl refl refl,
+  (flag_is_kept (codes "prefix") refl refl refl refl, to_first_keep),
+)
+
+-- the default of the skew is in its range
+zero_fits : IsUnsignedIn 0 max_skew (codes "0")
+zero_fits = accepts-Accepts false (Unsigned 0 max_skew) (codes "0") refl
+
+skew_is_kept : Keeps skew_leaf
+skew_is_kept = (
+  number_keeps (codes "skew") (codes "0") 0 max_skew skew_fits true,
+  λ rows ok. default_sound skew_leaf (codes "0") [] rows refl
+      (skew_fits DefaultValue (codes "0") zero_fits) ok,
+)
+
+pub skew_to_first_keep : AllByRecursion Keeps skew_to_first
+skew_to_first_keep = (
+  flag_is_kept (codes "exit-code") refl refl refl refl,
+  (skew_is_kept, to_first_keep),
 )
 
 pub reaches_to_first_keep : AllByRecursion Keeps reaches_to_first
-reaches_to_first_keep = (text_is_kept (codes "reaches") refl refl refl, to_first_keep)
+reaches_to_first_keep = (text_is_kept (codes "reaches") refl refl refl refl, to_first_keep)
 
 pub reads_to_first_keep : AllByRecursion Keeps reads_to_first
-reads_to_first_keep = (flag_is_kept (codes "reads") refl refl refl, to_first_keep)
+reads_to_first_keep = (flag_is_kept (codes "reads") refl refl refl refl, to_first_keep)
 
 pub each_to_logs_keep : AllByRecursion Keeps each_to_logs
 each_to_logs_keep = (
-  flag_is_kept (codes "each") refl refl refl,
+  flag_is_kept (codes "each") refl refl refl refl,
   (
-    text_is_kept (codes "state") refl refl refl,
-    (text_is_kept (codes "save") refl refl refl, to_logs_keep),
+    text_is_kept (codes "state") refl refl refl refl,
+    (text_is_kept (codes "save") refl refl refl refl, to_logs_keep),
   ),
 )
 
@@ -263,10 +313,10 @@ uses_keep (a ∷ rest) keep = (keep.0.0, uses_keep rest keep.1)
 numbers_and_keep : (rest : List Rule) → AllByRecursion Keeps rest
     → AllByRecursion (KeepsSound true) (numbers_and rest)
 numbers_and_keep rest keep = (
-  number_keeps (codes "workers") (codes "4") 64 workers_fit true,
+  number_keeps (codes "workers") (codes "4") 1 64 workers_fit true,
   (
-    number_keeps (codes "cut") (codes "256") 65536 cut_fits true,
-    ((flag_is_kept (codes "explain") refl refl refl).0, uses_keep rest keep),
+    number_keeps (codes "cut") (codes "256") 1 65536 cut_fits true,
+    ((flag_is_kept (codes "explain") refl refl refl refl).0, uses_keep rest keep),
   ),
 )
 
@@ -274,8 +324,8 @@ numbers_and_keep rest keep = (
 
 -- the rows are sound, and both numbers have rows
 pub record HasNumbers (rows : List Row) : Type 0 where
-  pub workers : IsNumberUpTo 64 (one_of (codes "workers") rows)
-  pub cut : IsNumberUpTo 65536 (one_of (codes "cut") rows)
+  pub workers : IsNumberIn 1 64 (one_of (codes "workers") rows)
+  pub cut : IsNumberIn 1 65536 (one_of (codes "cut") rows)
   pub sound : AreSound rows
 
 -- both numbers have rows, and the rows are sound
@@ -310,11 +360,11 @@ numbers_have_rows rest keep rows ok =
     let cut_has = default_has_row cut_leaf (codes "256") [] one refl refl in
     let more = flag_leaf (codes "explain") ∷ rest in
     let all = fold with_default two more in
-    let end = defaults_keep more two (flag_is_kept (codes "explain") refl refl refl, keep)
+    let end = defaults_keep more two (flag_is_kept (codes "explain") refl refl refl refl, keep)
     (record { workers = workers_has; cut = cut_has; sound = two_sound }) in
     record {
-      workers = number_read (codes "workers") 64 all (λ r h e. h.0 e) end.sound end.workers;
-      cut = number_read (codes "cut") 65536 all (λ r h e. h.1 e) end.sound end.cut;
+      workers = number_read (codes "workers") 1 64 all (λ r h e. h.0 e) end.sound end.workers;
+      cut = number_read (codes "cut") 1 65536 all (λ r h e. h.1 e) end.sound end.cut;
       sound = end.sound;
     }
 
@@ -329,6 +379,32 @@ level_numbers s rest are again keep words none =
     subst (λ rules. HasNumbers (fold with_default (settled s.rules end).rows rules)) (sym are)
     (numbers_have_rows rest keep (settled s.rules end).rows
     (level_kept IsSoundRow s keeps words none))
+
+-- a row stays in later defaults
+row_stays : (id : Text) (rest : List Rule) (rows : List Row) → has_row id rows ≡ true
+    → has_row id (fold with_default rows rest) ≡ true
+row_stays id [] rows has = has
+row_stays id (a ∷ rest) rows has =
+    row_stays id rest (with_default rows a) (default_keeps_row id a rows has)
+
+skew_has_row : (rows : List Row)
+    → has_row (codes "skew") (fold with_default rows (numbers_and skew_to_first)) ≡ true
+skew_has_row rows =
+    let numbered = with_default (with_default rows workers_leaf) cut_leaf in
+    let flagged = with_default (with_default numbered (flag_leaf (codes "explain")))
+    (flag_leaf (codes "exit-code")) in
+    row_stays (codes "skew") to_first (with_default flagged skew_leaf)
+    (default_has_row skew_leaf (codes "0") [] flagged refl refl)
+
+-- where a level has the option of the skew, it ends with a skew if its rows are sound
+pub level_skew : (s : Shape) → s.rules ≡ numbers_and skew_to_first → (words : List Text)
+    → AreSound (rows_after s.rules [] words)
+    → IsNumberIn 0 max_skew (one_of (codes "skew") (rows_after s.rules [] words))
+level_skew s are words ok =
+    let start = (settled s.rules (walk s.rules [] nothing_held words).held).rows in
+    let has = subst (λ rules. has_row (codes "skew") (fold with_default start rules) ≡ true)
+    (sym are) (skew_has_row start) in
+    number_read (codes "skew") 0 max_skew (rows_after s.rules [] words) (λ r h e. h.3 e) ok has
 
 required_given : (given : Bool) → cond (not given || false) (MissingRequiredArgument ∷ []) [] ≡ []
     → given ≡ true

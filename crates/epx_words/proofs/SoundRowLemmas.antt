@@ -14,16 +14,16 @@ use Rattle.clap.specs.declared.builder.value_parser.Reading.{Reading}
 use Rattle.clap.specs.declared.builder.value_parser.Reading.TheVariants.{AsWritten}
 use Rattle.clap.specs.declared.parser.matches.ValueSource.{ValueSource}
 use Rattle.clap.specs.declared.parser.matches.ValueSource.TheVariants.{DefaultValue}
-use Rattle.epx_words.specs.SubcommandRows.{IsNumberUpTo, first_in}
+use Rattle.epx_words.specs.SubcommandRows.{IsNumberIn, first_in, max_skew}
 use Rattle.epx_words.proofs.KeptRowLemmas.{at_row_kept}
 
-abbrev pub IsFirstNumber : ℕ → List Text → Type 0
-IsFirstNumber most [] = ⊥
-IsFirstNumber most (v ∷ vs) = IsUnsignedIn 1 most v
+abbrev pub IsFirstNumber : ℕ → ℕ → List Text → Type 0
+IsFirstNumber least most [] = ⊥
+IsFirstNumber least most (v ∷ vs) = IsUnsignedIn least most v
 
--- the first value of the row is a number from 1 to `most`
-abbrev pub IsNumberRow : ℕ → Row → Type 0
-IsNumberRow most r = (r.reading ≡ AsWritten) × IsFirstNumber most r.values
+-- the first value of the row is a number from `least` to `most`
+abbrev pub IsNumberRow : ℕ → ℕ → Row → Type 0
+IsNumberRow least most r = (r.reading ≡ AsWritten) × IsFirstNumber least most r.values
 
 abbrev pub HasValue : List Text → Type 0
 HasValue [] = ⊥
@@ -31,16 +31,18 @@ HasValue (v ∷ vs) = ⊤
 
 abbrev pub IsSoundRow : Row → Type 0
 IsSoundRow r =
-    (bytes_eq r.id (codes "workers") ≡ true → IsNumberRow 64 r)
-    × (bytes_eq r.id (codes "cut") ≡ true → IsNumberRow 65536 r)
+    (bytes_eq r.id (codes "workers") ≡ true → IsNumberRow 1 64 r)
+    × (bytes_eq r.id (codes "cut") ≡ true → IsNumberRow 1 65536 r)
     × (bytes_eq r.id (codes "first") ≡ true → HasValue r.values)
+    × (bytes_eq r.id (codes "skew") ≡ true → IsNumberRow 0 max_skew r)
 
 abbrev pub AreSound : List Row → Type 0
 AreSound rows = AllByRecursion IsSoundRow rows
 
-first_more : (most : ℕ) (vs ws : List Text) → IsFirstNumber most vs → IsFirstNumber most (vs ++ ws)
-first_more most [] ws h = absurd h
-first_more most (v ∷ vs) ws h = h
+first_more : (least most : ℕ) (vs ws : List Text) → IsFirstNumber least most vs
+    → IsFirstNumber least most (vs ++ ws)
+first_more least most [] ws h = absurd h
+first_more least most (v ∷ vs) ws h = h
 
 value_more : (vs ws : List Text) → HasValue vs → HasValue (vs ++ ws)
 value_more [] ws h = absurd h
@@ -50,9 +52,10 @@ more_sound : (s : ValueSource) (values : List Text) (r : Row) → IsSoundRow r
     → AreSound (more_values s values r)
 more_sound s values r h = (
   (
-    λ e. ((h.0 e).0, first_more 64 r.values values (h.0 e).1),
-    λ e. ((h.1 e).0, first_more 65536 r.values values (h.1 e).1),
+    λ e. ((h.0 e).0, first_more 1 64 r.values values (h.0 e).1),
+    λ e. ((h.1 e).0, first_more 1 65536 r.values values (h.1 e).1),
     λ e. value_more r.values values (h.2 e),
+    λ e. ((h.3 e).0, first_more 0 max_skew r.values values (h.3 e).1),
   ),
   tt,
 )
@@ -157,25 +160,26 @@ default_keeps_row id a rows has = go (has_row a.id rows)
 
 -- ---- values read from rows
 
-row_number : (most : ℕ) (how : Reading) (values : List Text) → how ≡ AsWritten
-    → IsFirstNumber most values → IsNumberUpTo most (option_map (read_as how) (slice_get values 0))
-row_number most how [] is h = absurd h
-row_number most how (v ∷ vs) is h =
-    subst (λ (x : Reading). IsUnsignedIn 1 most (read_as x v)) (sym is) h
+row_number : (least most : ℕ) (how : Reading) (values : List Text) → how ≡ AsWritten
+    → IsFirstNumber least most values
+    → IsNumberIn least most (option_map (read_as how) (slice_get values 0))
+row_number least most how [] is h = absurd h
+row_number least most how (v ∷ vs) is h =
+    subst (λ (x : Reading). IsUnsignedIn least most (read_as x v)) (sym is) h
 
-pub number_read : (id : Text) (most : ℕ) (rows : List Row)
-    → ((r : Row) → IsSoundRow r → bytes_eq r.id id ≡ true → IsNumberRow most r) → AreSound rows
-    → has_row id rows ≡ true
-    → IsNumberUpTo most (one_of id rows)
-number_read id most [] f h has = absurd (true≢false (sym has))
-number_read id most (r ∷ rs) f h has =
-    go (bytes_eq r.id id) refl (λ e. number_read id most rs f h.1 e) has
+pub number_read : (id : Text) (least most : ℕ) (rows : List Row)
+    → ((r : Row) → IsSoundRow r → bytes_eq r.id id ≡ true → IsNumberRow least most r)
+    → AreSound rows → has_row id rows ≡ true → IsNumberIn least most (one_of id rows)
+number_read id least most [] f h has = absurd (true≢false (sym has))
+number_read id least most (r ∷ rs) f h has =
+    go (bytes_eq r.id id) refl (λ e. number_read id least most rs f h.1 e) has
   where
     go : (b : Bool) → bytes_eq r.id id ≡ b
-        → (has_row id rs ≡ true → IsNumberUpTo most (one_of id rs)) → (b || has_row id rs) ≡ true
-        → IsNumberUpTo most
+        → (has_row id rs ≡ true → IsNumberIn least most (one_of id rs))
+        → (b || has_row id rs) ≡ true
+        → IsNumberIn least most
         (option_and_then row_text (cond b (Some r) (find (λ x. bytes_eq x.id id) rs)))
-    go true t rest e = row_number most r.reading r.values (f r h.0 t).0 (f r h.0 t).1
+    go true t rest e = row_number least most r.reading r.values (f r h.0 t).0 (f r h.0 t).1
     go false t rest e = rest e
 
 value_there : (values : List Text) → HasValue values → IsSome (slice_get values 0)

@@ -56,6 +56,7 @@ subject_of task.Audit p is fits = no_subject p (codes "audit") is refl refl
 subject_of task.Check p is fits = no_subject p (codes "check") is refl refl
 subject_of task.CheckPrefix p is fits = no_subject p (codes "check") is refl refl
 subject_of task.Verify p is fits = no_subject p (codes "verify") is refl refl
+subject_of (task.Linear skew) p is fits = no_subject p (codes "linear") is refl refl
 subject_of task.Replay p is fits = no_subject p (codes "replay") is refl refl
 subject_of task.Compare p is fits = no_subject p (codes "compare") is refl refl
 subject_of (task.Why x) p is fits = ids_subject p is (
@@ -155,6 +156,15 @@ no_log_named given rows named (words.WorkWith t plan paths flags) are means none
 no_log_named given rows named (words.Follow plan paths options) are means none is = absurd is
 no_log_named given rows named (words.Text text status) are means none is =
     (λ all. true≢false (sym (means.1 (subst NamesLogs are all.1)) ∙ none), is)
+
+-- a refusal of words that do not name what they are about
+pub no_subject_named : (given : Given) (p : Text × List Row) (asked : Words) → given ≡ Some p
+    → ¬ NamesSubject (Some p) → IsText 2 asked → IsMeaningOf given asked
+no_subject_named given p (words.Work t plan paths) are none is = absurd is
+no_subject_named given p (words.WorkWith t plan paths flags) are none is = absurd is
+no_subject_named given p (words.Follow plan paths options) are none is = absurd is
+no_subject_named given p (words.Text text status) are none is =
+    (λ all. none (subst NamesSubject are all.0), is)
 
 -- what holds of each status of a text
 pub text_weaker : (P Q : ℕ → Type 0) (asked : Words) → ((status : ℕ) → P status → Q status)

@@ -1,20 +1,21 @@
 -- The program as clap knows it. Each subcommand has two options with numbers, the flag `--explain`
--- and any number of logs. Some have a required argument before the logs, further flags, or options
--- whose values are texts: the end of a path, or where states are.
+-- and any number of logs. Some have a required argument before the logs, further flags, a third
+-- number, or options whose values are texts: the end of a path, or where states are.
 use Rattle.std.specs.Prelude.{ℕ, true, Some, [], ◌∷◌, codes}
 use Rattle.clap.specs.Simple.{on_top}
 use Rattle.clap.specs.Words.{App, Rule, Text, new_app, new_rule, with_rule, with_subcommand}
 use Rattle.clap.specs.declared.builder.action.ArgAction.TheVariants.{Append, Set, SetTrue}
 use Rattle.clap.specs.declared.builder.value_parser.ValueParser.TheVariants.{Unsigned}
+use Rattle.epx_words.specs.SubcommandRows.{max_skew}
 
--- an option for a whole number from 1 to `most`
-abbrev pub number_rule : Text → Text → ℕ → Rule
-number_rule name default most = record (new_rule name) {
+-- an option for a whole number from `least` to `most`
+abbrev pub number_rule : Text → Text → ℕ → ℕ → Rule
+number_rule name default least most = record (new_rule name) {
   long = Some name;
   action = Some Set;
   defaults = default ∷ [];
   value_names = 1;
-  parser = Some (Unsigned 1 most);
+  parser = Some (Unsigned least most);
 }
 
 -- the logs
@@ -45,8 +46,8 @@ text_rule name = record (new_rule name) {
 abbrev pub numbers_app : Text → App
 numbers_app name =
     with_rule
-    (with_rule (with_rule (new_app name) (number_rule (codes "workers") (codes "4") 64))
-    (number_rule (codes "cut") (codes "256") 65536))
+    (with_rule (with_rule (new_app name) (number_rule (codes "workers") (codes "4") 1 64))
+    (number_rule (codes "cut") (codes "256") 1 65536))
     (flag_rule (codes "explain"))
 
 -- a subcommand over logs
@@ -72,6 +73,17 @@ list_app name =
     (with_rule
     (with_rule (with_rule (numbers_app name) (flag_rule (codes "exit-code")))
     (flag_rule (codes "prefix")))
+    first_rule)
+    logs_rule
+
+-- a subcommand over a history of calls and logs, which can find something; without `--skew` its
+-- skew is 0
+abbrev pub linear_app : Text → App
+linear_app name =
+    with_rule
+    (with_rule
+    (with_rule (with_rule (numbers_app name) (flag_rule (codes "exit-code")))
+    (number_rule (codes "skew") (codes "0") 0 max_skew))
     first_rule)
     logs_rule
 
@@ -119,21 +131,22 @@ runs_app =
     (finding_app (codes "order")).top) (finding_app (codes "levels")).top)
     (work_app (codes "graph")).top
 
--- and `resume`, `audit`, `check`, `verify`, `replay` and `compare`
+-- and `resume`, `audit`, `check`, `verify` and `linear`
 abbrev pub checks_app : App
 checks_app =
     with_subcommand
     (with_subcommand
     (with_subcommand
-    (with_subcommand
     (with_subcommand (with_subcommand runs_app (base_app (codes "resume")).top)
     (finding_app (codes "audit")).top) (list_app (codes "check")).top)
-    (base_app (codes "verify")).top) (input_app (codes "replay")).top)
-    (finding_app (codes "compare")).top
+    (base_app (codes "verify")).top) (linear_app (codes "linear")).top
 
 -- the program with all subcommands
 abbrev pub epx_app : App
 epx_app =
     with_subcommand
-    (with_subcommand (with_subcommand checks_app (why_app (codes "why")).top)
+    (with_subcommand
+    (with_subcommand
+    (with_subcommand (with_subcommand checks_app (input_app (codes "replay")).top)
+    (finding_app (codes "compare")).top) (why_app (codes "why")).top)
     (trace_app (codes "trace")).top) (follow_app (codes "follow")).top

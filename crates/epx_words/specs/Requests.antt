@@ -10,9 +10,9 @@ use Rattle.epx_words.specs.declared.words.Words.{Words}
 use Rattle.epx_words.specs.declared.words.Words.TheVariants as words
 use Rattle.epx_words.specs.declared.words.Flags.{Flags}
 use Rattle.epx_words.specs.declared.words.FollowOptions.{FollowOptions}
-use Rattle.epx_words.specs.SubcommandRows.{Given, HasFlag, IsCutOf, IsWorkersOf, first_in, logs_in}
-use Rattle.epx_words.specs.SubcommandRows.{name_in, reaches_in, rows_in, save_in, some_logs_in}
-use Rattle.epx_words.specs.SubcommandRows.{state_in}
+use Rattle.epx_words.specs.SubcommandRows.{Given, HasFlag, IsCutOf, IsSkewOf, IsWorkersOf, first_in}
+use Rattle.epx_words.specs.SubcommandRows.{logs_in, max_skew, name_in, reaches_in, rows_in}
+use Rattle.epx_words.specs.SubcommandRows.{save_in, some_logs_in, state_in}
 use Rattle.epx_words.specs.Subjects.{IsNameOf, NamesAll, NamesLogs}
 
 -- the words are the program's name at most, or this and a hyphen: they name no subcommand
@@ -31,6 +31,7 @@ task_name task.Audit = codes "audit"
 task_name task.Check = codes "check"
 task_name task.CheckPrefix = codes "check"
 task_name task.Verify = codes "verify"
+task_name (task.Linear skew) = codes "linear"
 task_name task.Replay = codes "replay"
 task_name task.Compare = codes "compare"
 task_name (task.Why x) = codes "why"
@@ -48,6 +49,7 @@ ArePathsOf task.Resume rows paths = AreFirstAndLogs rows paths
 ArePathsOf task.Check rows paths = AreFirstAndLogs rows paths
 ArePathsOf task.CheckPrefix rows paths = AreFirstAndLogs rows paths
 ArePathsOf task.Verify rows paths = AreFirstAndLogs rows paths
+ArePathsOf (task.Linear skew) rows paths = AreFirstAndLogs rows paths
 ArePathsOf task.Replay rows paths = AreFirstAndLogs rows paths
 ArePathsOf _ rows paths = paths ≡ Some (logs_in rows)
 
@@ -66,6 +68,7 @@ pub record NamesOne (x : Id) (rows : List Row) : Type 0 where
 abbrev pub FitsRows : Task → List Row → Type 0
 FitsRows task.Check rows = ¬ HasFlag (codes "prefix") rows
 FitsRows task.CheckPrefix rows = HasFlag (codes "prefix") rows
+FitsRows (task.Linear skew) rows = IsSkewOf rows skew × (skew ≤ max_skew)
 FitsRows (task.Why x) rows = NamesOne x rows
 FitsRows (task.Path x y) rows = NamePath x y rows
 FitsRows (task.Trace key reads) rows = (first_in rows ≡ Some key.text.bytes)

@@ -1,5 +1,5 @@
--- The values in the rows of a subcommand: two numbers, flags, texts, the logs, and the argument
--- before them.
+-- The values in the rows of a subcommand: numbers, flags, texts, the logs, and the argument before
+-- them.
 use Rattle.std.specs.Prelude.{◌≡◌, ◌⊎◌, ℕ, List, [], ◌∷◌, Option, Some, None, codes, option_map}
 use Rattle.std.specs.Prelude.{unwrap_or}
 use Rattle.std.specs.Option.{IsSome, option_map_or}
@@ -30,6 +30,14 @@ IsWorkersOf rows n = IsNumberOf (one_of (codes "workers") rows) n
 -- the option `--cut` has the value n
 abbrev pub IsCutOf : List Row → ℕ → Type 0
 IsCutOf rows n = IsNumberOf (one_of (codes "cut") rows) n
+
+-- the option `--skew` has the value n
+abbrev pub IsSkewOf : List Row → ℕ → Type 0
+IsSkewOf rows n = IsNumberOf (one_of (codes "skew") rows) n
+
+-- the greatest skew, 2^63 - 1: the times of calls are below 2^63
+abbrev pub max_skew : ℕ
+max_skew = 9223372036854775807
 
 -- the paths of the logs, in their order
 abbrev pub logs_in : List Row → List Text
@@ -64,10 +72,10 @@ save_in rows = first_of (codes "save") rows
 abbrev pub HasFlag : Text → List Row → Type 0
 HasFlag flag rows = first_of flag rows ≡ Some (codes "true")
 
--- the text is a number from 1 to `most`
-abbrev pub IsNumberUpTo : ℕ → Option Text → Type 0
-IsNumberUpTo most None = ⊥
-IsNumberUpTo most (Some text) = IsUnsignedIn 1 most text
+-- the text is a number from `least` to `most`
+abbrev pub IsNumberIn : ℕ → ℕ → Option Text → Type 0
+IsNumberIn least most None = ⊥
+IsNumberIn least most (Some text) = IsUnsignedIn least most text
 
 -- the text is one of these
 abbrev pub IsOneOf : Text → List Text → Type 0
@@ -77,8 +85,8 @@ IsOneOf text (t ∷ ts) = (text ≡ t) ⊎ IsOneOf text ts
 -- the names of the subcommands of tasks
 abbrev pub task_names : List Text
 task_names = codes "run" ∷ codes "order" ∷ codes "levels" ∷ codes "graph" ∷ codes "resume"
-    ∷ codes "audit" ∷ codes "check" ∷ codes "verify" ∷ codes "replay" ∷ codes "compare"
-    ∷ codes "why" ∷ codes "trace" ∷ []
+    ∷ codes "audit" ∷ codes "check" ∷ codes "verify" ∷ codes "linear" ∷ codes "replay"
+    ∷ codes "compare" ∷ codes "why" ∷ codes "trace" ∷ []
 
 abbrev pub IsTaskName : Text → Type 0
 IsTaskName name = IsOneOf name task_names
@@ -88,20 +96,21 @@ abbrev pub IsWorkName : Text → Type 0
 IsWorkName name = IsTaskName name ⊎ (name ≡ codes "follow")
 
 -- the names of the subcommands with an argument before the logs: a base, a list, what a replica
--- said, the name of an instance, or a key
+-- said, a history of calls, the name of an instance, or a key
 abbrev pub first_names : List Text
-first_names = codes "resume" ∷ codes "check" ∷ codes "verify" ∷ codes "replay" ∷ codes "why"
-    ∷ codes "trace" ∷ []
+first_names = codes "resume" ∷ codes "check" ∷ codes "verify" ∷ codes "linear" ∷ codes "replay"
+    ∷ codes "why" ∷ codes "trace" ∷ []
 
 -- the name of a subcommand with such an argument
 abbrev pub NeedsFirst : Text → Type 0
 NeedsFirst name = IsOneOf name first_names
 
--- a subcommand that asks for work, a task or `follow`, with both numbers in their ranges and with
--- its required first argument; `follow` has no `--exit-code`
+-- a subcommand that asks for work, a task or `follow`, with its numbers in their ranges and with
+-- its required first argument; `follow` has no `--exit-code`, and `linear` has a skew
 abbrev pub AsksForWork : Given → Type 0
 AsksForWork None = ⊥
 AsksForWork (Some p) =
-    IsWorkName p.0 × IsNumberUpTo 64 (one_of (codes "workers") p.1)
-    × IsNumberUpTo 65536 (one_of (codes "cut") p.1) × (NeedsFirst p.0 → IsSome (first_in p.1))
+    IsWorkName p.0 × IsNumberIn 1 64 (one_of (codes "workers") p.1)
+    × IsNumberIn 1 65536 (one_of (codes "cut") p.1) × (NeedsFirst p.0 → IsSome (first_in p.1))
     × (p.0 ≡ codes "follow" → ¬ HasFlag (codes "exit-code") p.1)
+    × (p.0 ≡ codes "linear" → IsNumberIn 0 max_skew (one_of (codes "skew") p.1))

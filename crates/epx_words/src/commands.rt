@@ -2,9 +2,9 @@
 ghost use Rattle.std.specs.Prelude.{◌≡◌, IfOk, codes};
 ghost use Rattle.clap.specs.Words.{app_of, new_app, rule_of};
 ghost use Rattle.epx_words.specs.App.{base_app, checks_app, epx_app, epx_top, finding_app};
-ghost use Rattle.epx_words.specs.App.{first_rule, flag_rule, follow_app, input_app, list_app};
-ghost use Rattle.epx_words.specs.App.{logs_rule, number_rule, numbers_app, runs_app, text_rule};
-ghost use Rattle.epx_words.specs.App.{trace_app, why_app, work_app};
+ghost use Rattle.epx_words.specs.App.{first_rule, flag_rule, follow_app, input_app, linear_app};
+ghost use Rattle.epx_words.specs.App.{list_app, logs_rule, number_rule, numbers_app, runs_app};
+ghost use Rattle.epx_words.specs.App.{text_rule, trace_app, why_app, work_app};
 
 use clap::builder::ValueParser;
 use clap::{Arg, ArgAction, Command};
@@ -12,6 +12,9 @@ use epx_types::plan::{MAX_CUT, MAX_WORKERS};
 use std::alloc::{AllocError, Global};
 
 const VERSION: &str = "0.1.0";
+
+/// The greatest skew of clocks. The times of calls are below 2^63 too, so that sums fit a `u64`.
+const MAX_SKEW: u64 = (1 << 63) - 1;
 
 /// The help texts of a subcommand.
 #[derive(Clone, Copy)]
@@ -186,6 +189,41 @@ Example:
   epx verify replica.said examples/replicas/*.jsonl",
 };
 
+const LINEAR: Help = Help {
+    about: "Says whether clients saw one copy: whether a history is linear",
+    long_about: "Says whether clients saw one copy: whether a history is linear. HISTORY has the
+calls of clients with their times. It is linear where each call that returned is
+executed, each answer is the reply of its instance, and some serial execution
+with the same replies, which keeps the order of commands that conflict, has each
+call before all that were invoked after it returned. This is said of the
+execution order of these logs alone.",
+    after: "Example:
+  epx linear calls.history examples/replicas/*.jsonl",
+    long_after: "HISTORY has a line for each call: the instance r.i, the times at which it was
+invoked and returned, null where no answer came, and the reply, if it is known:
+
+  [\"call\",r,i,invoked,returned]
+  [\"call\",r,i,invoked,returned,\"ok\",[..]]
+  [\"call\",r,i,invoked,returned,\"abort\",j]
+
+Times are whole numbers of one clock, below 2^63. Blank lines are passed over,
+and no instance has two calls.
+
+What comes out is one line if the history is linear, and else lines for calls
+that do not fit: those executed, in their order, and then those lost, by Id:
+
+  [\"linear\"]            the history is linear
+  [\"reply\",r,i]         r.i is answered otherwise than executed
+  [\"late\",r,i,r2,i2]    r.i is executed after r2.i2 by a chain of conflicts, and
+                        had returned before r2.i2 was invoked
+  [\"lost\",r,i]          r.i returned, and is not executed
+
+--skew D adds D to the time of each return, for clocks that differ by at most D.
+
+Example:
+  epx linear calls.history examples/replicas/*.jsonl",
+};
+
 const REPLAY: Help = Help {
     about: "Executes a list of instances in its order: replies, the final store",
     long_about: "Executes the instances of a list in the order of the list, over what the logs
@@ -311,22 +349,23 @@ const IF_WAITING: &str = "Exits with status 5 if an instance waits";
 /// What it asks of a subcommand that says what is wrong.
 const IF_FOUND: &str = "Exits with status 5 if something was found";
 
-/// An option whose value is a number from 1 to `most`.
+/// An option whose value is a number from `least` to `most`.
 fn number_option<'a>(
     alloc: Global,
     name: &'a str,
     value: &'a str,
     default: &'a str,
-    most: usize,
+    least: u64,
+    most: u64,
 ) -> Arg<'a>
-    ensures { rule_of result ≡ number_rule name.entry.now default.entry.now most }
+    ensures { rule_of result ≡ number_rule name.entry.now default.entry.now least most }
 {
     Arg::new(alloc, name)
         .long(name)
         .value_name(value)
         .action(ArgAction::Set)
         .default_value(default)
-        .value_parser(ValueParser::unsigned(1, most as u64))
+        .value_parser(ValueParser::unsigned(least, most))
 }
 
 /// A subcommand with its name and its help, without arguments.
@@ -354,10 +393,10 @@ fn flag<'a>(alloc: Global, name: &'a str, help: &'a str) -> Arg<'a>
 fn subcommand<'a>(alloc: Global, name: &'a str, help: Help) -> Result<Command<'a>, AllocError>
     ensures { IfOk result (λ c. app_of c ≡ numbers_app name.entry.now) }
 {
-    let workers = number_option(alloc, "workers", "N", "4", MAX_WORKERS).help(
+    let workers = number_option(alloc, "workers", "N", "4", 1, MAX_WORKERS as u64).help(
         "Workers that share the work, 1 to 64",
     );
-    let cut = number_option(alloc, "cut", "M", "256", MAX_CUT).help(
+    let cut = number_option(alloc, "cut", "M", "256", 1, MAX_CUT as u64).help(
         "Items in a piece of work, 1 to 65536",
     );
     let explain = flag(
@@ -397,7 +436,7 @@ fn logs<'a>(alloc: Global) -> Arg<'a>
         .help("The logs to read, - for standard input; faults count them from 0")
 }
 
-/// The required argument before the logs: BASE, LIST, SAID, R.I or KEY.
+/// The required argument before the logs: BASE, LIST, SAID, HISTORY, R.I or KEY.
 fn first<'a>(alloc: Global, value: &'a str, help: &'a str) -> Arg<'a>
     ensures { rule_of result ≡ first_rule }
 {
@@ -464,6 +503,19 @@ fn verify<'a>(alloc: Global) -> Result<Command<'a>, AllocError>
     );
     let verify = subcommand(alloc, "verify", VERIFY)?.arg(exit_code(alloc, IF_FOUND))?;
     verify.arg(said)?.arg(logs(alloc))
+}
+
+/// The subcommand `linear`, whose arguments are HISTORY and logs.
+fn linear<'a>(alloc: Global) -> Result<Command<'a>, AllocError>
+    ensures { IfOk result (λ c. app_of c ≡ linear_app (codes "linear")) }
+{
+    let history = first(alloc, "HISTORY", "The calls of clients with their times");
+    let skew = number_option(alloc, "skew", "D", "0", 0, MAX_SKEW).help(
+        "How much clocks may differ, 0 to 2^63 - 1, in the unit of the times",
+    );
+    let flagged = subcommand(alloc, "linear", LINEAR)?.arg(exit_code(alloc, IF_FOUND))?;
+    let linear = flagged.arg(skew)?;
+    linear.arg(history)?.arg(logs(alloc))
 }
 
 /// The subcommand `replay`, whose arguments are LIST and logs.
@@ -553,7 +605,7 @@ fn with_runs<'a>(alloc: Global) -> Result<Command<'a>, AllocError>
         .subcommand(graph)
 }
 
-/// The program with all subcommands but `why`, `trace` and `follow`.
+/// The program with these, `resume`, `audit`, `check`, `verify` and `linear`.
 fn with_checks<'a>(alloc: Global) -> Result<Command<'a>, AllocError>
     ensures { IfOk result (λ c. app_of c ≡ checks_app) }
 {
@@ -561,25 +613,27 @@ fn with_checks<'a>(alloc: Global) -> Result<Command<'a>, AllocError>
     let audit = finding_subcommand(alloc, "audit", AUDIT, IF_FOUND)?;
     let check = check(alloc)?;
     let verify = verify(alloc)?;
-    let replay = replay(alloc)?;
-    let compare = finding_subcommand(alloc, "compare", COMPARE, IF_FOUND)?;
+    let linear = linear(alloc)?;
     with_runs(alloc)?
         .subcommand(resume)?
         .subcommand(audit)?
         .subcommand(check)?
         .subcommand(verify)?
-        .subcommand(replay)?
-        .subcommand(compare)
+        .subcommand(linear)
 }
 
 /// The program with all subcommands.
 pub(crate) fn command<'a>(alloc: Global) -> Result<Command<'a>, AllocError>
     ensures { IfOk result (λ c. app_of c ≡ epx_app) }
 {
+    let replay = replay(alloc)?;
+    let compare = finding_subcommand(alloc, "compare", COMPARE, IF_FOUND)?;
     let why = why(alloc)?;
     let trace = trace(alloc)?;
     let follow = follow(alloc)?;
     with_checks(alloc)?
+        .subcommand(replay)?
+        .subcommand(compare)?
         .subcommand(why)?
         .subcommand(trace)?
         .subcommand(follow)

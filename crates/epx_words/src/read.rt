@@ -11,7 +11,7 @@ ghost use Rattle.epx_words.specs.Requests.{FitsRows, IfFollow, IfText, IfWork, I
 ghost use Rattle.epx_words.specs.Requests.{IsText, IsWork, flags_of, task_name};
 ghost use Rattle.epx_words.specs.ExitStatus.{IsTaken, IsTextStatus, status_of_kind};
 ghost use Rattle.epx_words.specs.Subjects.{NamesAll, NamesLogs};
-ghost use Rattle.epx_words.specs.SubcommandRows.{AsksForWork, IsCutOf, IsNumberUpTo, IsWorkersOf};
+ghost use Rattle.epx_words.specs.SubcommandRows.{AsksForWork, IsCutOf, IsNumberIn, IsWorkersOf};
 ghost use Rattle.epx_words.specs.SubcommandRows.{first_in, logs_in, name_in, rows_in, some_logs_in};
 
 use crate::commands::command;
@@ -75,9 +75,8 @@ fn paths_of(alloc: Global, task: Task, matches: &ArgMatches<'_>) -> Result<Vec<S
         ArePathsOf task (rows_of (found_of matches.now)) (Some (map string_bytes paths.items))) }
 {
     match task {
-        Task::Resume | Task::Check | Task::CheckPrefix | Task::Verify | Task::Replay => {
-            first_and_logs(alloc, matches)
-        },
+        Task::Resume | Task::Check | Task::CheckPrefix => first_and_logs(alloc, matches),
+        Task::Verify | Task::Linear { .. } | Task::Replay => first_and_logs(alloc, matches),
         Task::Run | Task::Order | Task::Levels | Task::Graph | Task::Audit | Task::Compare => {
             logs_of(alloc, matches)
         },
@@ -87,8 +86,8 @@ fn paths_of(alloc: Global, task: Task, matches: &ArgMatches<'_>) -> Result<Vec<S
 
 /// The plan of the options `--workers` and `--cut`. Clap has checked their ranges.
 fn plan_of(matches: &ArgMatches<'_>) -> Plan
-    requires workers { IsNumberUpTo 64 (one_of (codes "workers") (rows_of (found_of matches.now))) }
-    requires cut { IsNumberUpTo 65536 (one_of (codes "cut") (rows_of (found_of matches.now))) }
+    requires workers { IsNumberIn 1 64 (one_of (codes "workers") (rows_of (found_of matches.now))) }
+    requires cut { IsNumberIn 1 65536 (one_of (codes "cut") (rows_of (found_of matches.now))) }
     ensures workers { IsWorkersOf (rows_of (found_of matches.now)) result.workers }
     ensures cut { IsCutOf (rows_of (found_of matches.now)) result.cut }
 {
@@ -261,8 +260,8 @@ fn is_bare(words: &[&str]) -> bool
 /// paths. Otherwise it is `Text`. The words have to name an instance or a key where the subcommand
 /// is about one, and a log where `--exit-code` is there. The one error is running out of memory.
 /// With `--exit-code` or `--explain` the work is `WorkWith`, `check --prefix` is the task
-/// `CheckPrefix`, and `why --reaches` is the task `Path`. The subcommand `follow` is no task: in
-/// place of `Work` it is `Follow`.
+/// `CheckPrefix`, and `why --reaches` is the task `Path`. `linear` without `--skew` has the skew 0.
+/// The subcommand `follow` is no task: in place of `Work` it is `Follow`.
 pub fn read_words(alloc: Global, words: &[&str]) -> Result<Words, Memory>
     ensures bare { IsBare (map (λ w. w.now) words.now)
         → IfOk result (λ asked. asked ≡ Words.Work Task.Run (record { workers = 4; cut = 256 })

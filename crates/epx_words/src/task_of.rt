@@ -1,9 +1,9 @@
 //! The task that a subcommand asks for.
 ghost use Rattle.std.specs.Prelude.{◌≡◌, ◌≢◌, ◌↔◌, Some, codes, true, IfNone, IfSome};
-ghost use Rattle.clap.specs.Words.{found_of, rows_of};
+ghost use Rattle.clap.specs.Words.{found_of, one_of, rows_of};
 ghost use Rattle.epx_words.specs.Requests.{FitsRows, task_name};
 ghost use Rattle.epx_words.specs.Subjects.{NameIds, NamesKey, NamesSubject};
-ghost use Rattle.epx_words.specs.SubcommandRows.{HasFlag, IsTaskName};
+ghost use Rattle.epx_words.specs.SubcommandRows.{HasFlag, IsNumberIn, IsTaskName, max_skew};
 
 use clap::ArgMatches;
 use epx_names::{KeyName, Task, read_id};
@@ -28,6 +28,16 @@ fn check_task(matches: &ArgMatches<'_>) -> Task
     } else {
         Task::Check
     }
+}
+
+/// The task of the subcommand `linear`. Clap has checked the range of the skew.
+fn linear_task(matches: &ArgMatches<'_>) -> Task
+    requires { IsNumberIn 0 max_skew (one_of (codes "skew") (rows_of (found_of matches.now))) }
+    ensures name { task_name result ≡ codes "linear" }
+    ensures rows { FitsRows result (rows_of (found_of matches.now)) }
+{
+    let skew = matches.get_one::<u64>("skew").unwrap();
+    Task::Linear { skew }
 }
 
 /// The task of the subcommand `why`. None if a text that is to name an instance names none.
@@ -61,6 +71,8 @@ fn plain_task(name: &str, matches: &ArgMatches<'_>) -> Task
     requires task { IsTaskName name.now }
     requires no_why { name.now ≢ codes "why" }
     requires no_trace { name.now ≢ codes "trace" }
+    requires skew { name.now ≡ codes "linear"
+        → IsNumberIn 0 max_skew (one_of (codes "skew") (rows_of (found_of matches.now))) }
     ensures name { task_name result ≡ name.now }
     ensures rows { FitsRows result (rows_of (found_of matches.now)) }
 {
@@ -78,6 +90,8 @@ fn plain_task(name: &str, matches: &ArgMatches<'_>) -> Task
         check_task(matches)
     } else if name == "verify" {
         Task::Verify
+    } else if name == "linear" {
+        linear_task(matches)
     } else if name == "replay" {
         Task::Replay
     } else if name == "compare" {
@@ -89,7 +103,9 @@ fn plain_task(name: &str, matches: &ArgMatches<'_>) -> Task
 
 /// The task that a subcommand names. None if what is to name an instance or a key names none.
 pub(crate) fn task_of(name: &str, matches: &ArgMatches<'_>) -> Option<Task>
-    requires { IsTaskName name.now }
+    requires task { IsTaskName name.now }
+    requires skew { name.now ≡ codes "linear"
+        → IsNumberIn 0 max_skew (one_of (codes "skew") (rows_of (found_of matches.now))) }
     ensures name { IfSome result (λ task. task_name task ≡ name.now) }
     ensures rows { IfSome result (λ task. FitsRows task (rows_of (found_of matches.now))) }
     ensures none { IfNone result

@@ -17,7 +17,7 @@ use Rattle.epx_tool.specs.declared.question.MapQuestion.{MapQuestion}
 use Rattle.epx_tool.specs.declared.question.MapQuestion.TheVariants.{Report, Resume, Order, Levels}
 use Rattle.epx_tool.specs.declared.question.MapQuestion.TheVariants.{Audit, Graph, Why, Path, Trace}
 use Rattle.epx_tool.specs.declared.question.MapQuestion.TheVariants.{Check, CheckPrefix}
-use Rattle.epx_tool.specs.declared.question.MapQuestion.TheVariants.{Replay, Verify}
+use Rattle.epx_tool.specs.declared.question.MapQuestion.TheVariants.{Replay, Verify, Linear}
 use Rattle.epx_tool.specs.AuditText.{IsAuditText}
 use Rattle.epx_tool.specs.Findings.{FindsIn, SomeWaits}
 use Rattle.epx_views.specs.LevelText.{IsLevelText}
@@ -28,6 +28,8 @@ use Rattle.epx_tool.specs.TaskAnswers.{IsBadInput}
 use Rattle.epx_tool.specs.TaskTexts.{IsTaskText}
 use Rattle.epx_tool.specs.Verdicts.{IsPrefixVerdict, IsSaidVerdict, IsVerdict}
 use Rattle.epx_tool.specs.WithInput.{IsShort, IsRefusalWithInput}
+use Rattle.epx_linear.specs.HistoryTexts.{IsHistoryFault}
+use Rattle.epx_linear.specs.LinearTexts.{IsLinearText, linear_line}
 use Rattle.epx_verify.specs.ListExecutions.{replay_text}
 use Rattle.epx_verify.specs.SaidTexts.{IsSaidFault}
 
@@ -46,6 +48,7 @@ IsTextOf (Check ids) = λ m. IsVerdict m ids.items
 IsTextOf (CheckPrefix ids) = λ m. IsPrefixVerdict m ids.items
 IsTextOf (Replay ids) = λ m text. text ≡ replay_text m ids.items
 IsTextOf (Verify said) = λ m. IsSaidVerdict m said.replies.items said.store
+IsTextOf (Linear history) = λ m. IsLinearText m history
 
 -- it finds something
 abbrev pub FindsOf : MapQuestion → List Instance → List ℕ → Type 0
@@ -57,6 +60,7 @@ FindsOf Audit m text = text ≢ covered_line
 FindsOf (Check ids) m text = text ≢ lawful_line
 FindsOf (CheckPrefix ids) m text = text ≢ lawful_line
 FindsOf (Verify said) m text = text ≢ lawful_line
+FindsOf (Linear history) m text = text ≢ linear_line
 FindsOf _ m text = ⊥
 
 -- the text, and whether it finds something
@@ -76,6 +80,7 @@ pub record TaskAsks (task : Task) (input : List ℕ) (question : MapQuestion) : 
 abbrev pub IsInputFault : Task → List ℕ → BaseFault → Type 0
 IsInputFault about.Resume = IsBaseFault
 IsInputFault about.Verify = IsSaidFault
+IsInputFault (about.Linear skew) = IsHistoryFault
 IsInputFault _ = IsListFault
 
 -- the logs are accepted and the input is read, or they are refused

@@ -112,6 +112,17 @@ returns-in-CheckPrefix-clause-found g c = subst
     (λ a. (a.has_findings ≡ true) ↔ FindsOf question c.args.merged.now a.text.items))
     (sym c.in-CheckPrefix.is) c.prefix_verdict_of.ensures.found
 
+pub returns-in-Linear-clause-text : goal.returns-in-Linear-clause-text
+returns-in-Linear-clause-text g c = subst
+    (λ question. IfOk c.linear_of.result (λ a. IsTextOf question c.args.merged.now a.text.items))
+    (sym c.in-Linear.is) c.linear_of.ensures.text
+
+pub returns-in-Linear-clause-found : goal.returns-in-Linear-clause-found
+returns-in-Linear-clause-found g c = subst
+    (λ question. IfOk c.linear_of.result
+    (λ a. (a.has_findings ≡ true) ↔ FindsOf question c.args.merged.now a.text.items))
+    (sym c.in-Linear.is) c.linear_of.ensures.found
+
 pub returns-in-Verify-clause-found : goal.returns-in-Verify-clause-found
 returns-in-Verify-clause-found g c = subst
     (λ question. IfOk c.said_verdict_of.result

@@ -10,7 +10,7 @@ returns c =
     let name = c.args.name.now in
     let default = c.args.default.now in
     let parser = c.value_parser.result.value_parser in
-    let numbers : parser ≡ Some (Unsigned 1 c.args.most) = search rules in
+    let numbers : parser ≡ Some (Unsigned c.args.least c.args.most) = search rules in
     rw (
       c.value_parser.ensures.others,
       c.default_value.ensures,
@@ -26,4 +26,4 @@ returns c =
       value_names = 1;
       parser = parser;
     }) c.new.ensures.rule
-    ∙ ap (λ p. record (number_rule name default c.args.most) { parser = p }) numbers)
+    ∙ ap (λ p. record (number_rule name default c.args.least c.args.most) { parser = p }) numbers)

@@ -8,8 +8,8 @@ use Rattle.epx_words.proofs.commands.subcommand.Goals as goal
 pub returns : goal.returns
 returns c =
     let start = new_app c.args.name.now in
-    let workers = number_rule (codes "workers") (codes "4") 64 in
-    let cut = number_rule (codes "cut") (codes "256") 65536 in
+    let workers = number_rule (codes "workers") (codes "4") 1 64 in
+    let cut = number_rule (codes "cut") (codes "256") 1 65536 in
     let workers_is : rule_of c.help-workers.result ≡ workers = search rules in
     let cut_is : rule_of c.help-cut.result ≡ cut = search rules in
     let one = with_argument c.with_help.result c.in_ok-arg.field-0 c.help-workers.result start

@@ -1,7 +1,7 @@
 use Rattle.std.proofs.Common.{codes, refl}
 use Rattle.epx_types.proofs.Common.{IfOk-weaker}
 use Rattle.clap.specs.Words.{App, with_subcommand}
-use Rattle.epx_words.specs.App.{base_app, finding_app, input_app, list_app, runs_app}
+use Rattle.epx_words.specs.App.{base_app, finding_app, linear_app, list_app, runs_app}
 use Rattle.epx_words.proofs.CommandLemmas.{with_command}
 use Rattle.epx_words.proofs.commands.with_checks.Goals as goal
 
@@ -17,9 +17,6 @@ to_check = with_subcommand to_audit (list_app (codes "check")).top
 abbrev to_verify : App
 to_verify = with_subcommand to_check (base_app (codes "verify")).top
 
-abbrev to_replay : App
-to_replay = with_subcommand to_verify (input_app (codes "replay")).top
-
 pub returns : goal.returns
 returns c =
     let one = with_command c.in_ok-with_runs.field-0 c.in_ok-resume.resume
@@ -34,10 +31,7 @@ returns c =
     let four = with_command c.in_ok-subcommand-3.field-0 c.in_ok-verify.verify
     c.in_ok-subcommand-4.field-0 to_check (base_app (codes "verify"))
     c.in_ok-subcommand-4.ensures three c.in_ok-verify.ensures refl in
-    let five = with_command c.in_ok-subcommand-4.field-0 c.in_ok-replay.replay
-    c.in_ok-subcommand-5.field-0 to_verify (input_app (codes "replay"))
-    c.in_ok-subcommand-5.ensures four c.in_ok-replay.ensures refl in
-    IfOk-weaker c.subcommand-6.result _ _ (λ made added.
-    with_command c.in_ok-subcommand-5.field-0 c.in_ok-compare.compare made to_replay
-    (finding_app (codes "compare")) added five c.in_ok-compare.ensures refl)
-    c.subcommand-6.ensures
+    IfOk-weaker c.subcommand-5.result _ _ (λ made added.
+    with_command c.in_ok-subcommand-4.field-0 c.in_ok-linear.linear made to_verify
+    (linear_app (codes "linear")) added four c.in_ok-linear.ensures refl)
+    c.subcommand-5.ensures

@@ -1,0 +1,18 @@
+-- Calls that return later are a history as before.
+use Rattle.std.proofs.Common.{◌≢◌, ℕ, List, map, ap, ◌∙◌, sym}
+use Rattle.epx_types.proofs.Common.{AllPairs-slice_get, AllPairs-from_slice_get}
+use Rattle.epx_types.proofs.Common.{slice_get-from_map}
+use Rattle.epx_linear.specs.declared.client_call.ClientCall.{ClientCall}
+use Rattle.epx_linear.specs.ClientCalls.{IsHistory}
+use Rattle.epx_linear.specs.Skews.{later_by}
+
+pub later_history : (skew : ℕ) (h : List ClientCall) → IsHistory h
+    → IsHistory (map (later_by skew) h)
+later_history skew h history =
+    AllPairs-from_slice_get (λ (a b : ClientCall). a.id ≢ b.id) (map (later_by skew) h)
+    (λ i j a b less at to same.
+    let before = slice_get-from_map (later_by skew) h i a at in
+    let after = slice_get-from_map (later_by skew) h j b to in
+    AllPairs-slice_get (λ (a b : ClientCall). a.id ≢ b.id) h history i j before.0 after.0 less
+    before.1 after.1
+    (ap (λ (c : ClientCall). c.id) before.2 ∙ same ∙ sym (ap (λ (c : ClientCall). c.id) after.2)))

@@ -1,0 +1,101 @@
+-- The answer about a history: where it does not fit an execution order.
+use Rattle.std.specs.Prelude.{◌≡◌, ◌&&◌, ℕ, Bool, false, not, List, [], ◌∷◌, ◌++◌, map, filter}
+use Rattle.std.specs.Prelude.{flat_map, zip, codes, Option, Some, None, is_some, option_and_then}
+use Rattle.std.specs.Prelude.{if◌then◌else◌}
+use Rattle.serde_json.specs.Data.{Data, string}
+use Rattle.epx_types.specs.declared.id.Id.{Id}
+use Rattle.epx_types.specs.declared.op.Op.{Op}
+use Rattle.epx_types.specs.declared.reply.Reply.{Reply}
+use Rattle.epx_types.specs.Instances.{Instance}
+use Rattle.epx_types.specs.CommittedMap.{commands_in}
+use Rattle.epx_types.specs.Done.{is_among}
+use Rattle.epx_types.specs.ExecutionOrder.{Ranked, IsExecutionOrder, ranked_ids}
+use Rattle.epx_lines.specs.DependencyList.{rising_ids}
+use Rattle.epx_report.specs.ReportLines.{data_of_number, line_of}
+use Rattle.epx_report.specs.ViewLines.{name_line}
+use Rattle.epx_verify.specs.Differences.{same_reply}
+use Rattle.epx_verify.specs.ListExecutions.{list_execution}
+use Rattle.epx_linear.specs.declared.client_call.ClientCall.{ClientCall}
+use Rattle.epx_linear.specs.ClientCalls.{call_of, calls_in}
+use Rattle.epx_linear.specs.LateCalls.{AreFoundLate}
+
+-- ---- lines
+
+-- nothing is wrong
+abbrev pub linear_line : List ℕ
+linear_line = name_line (codes "linear")
+
+-- a name and an instance
+abbrev pub named_data : List ℕ → Id → List Data
+named_data name x = string name ∷ data_of_number x.replica ∷ data_of_number x.number ∷ []
+
+-- the call of an instance was answered, but not with the reply of the instance
+abbrev pub other_reply_line : Id → List ℕ
+other_reply_line x = line_of (named_data (codes "reply") x)
+
+-- the call of an instance returned, but the instance is not executed
+abbrev pub lost_line : Id → List ℕ
+lost_line x = line_of (named_data (codes "lost") x)
+
+-- the call of x had returned before that of y was invoked, but x is executed after y by a chain of
+-- conflicts
+abbrev pub late_line : Id → Id → List ℕ
+late_line x y = line_of
+    (named_data (codes "late") x ++ data_of_number y.replica ∷ data_of_number y.number ∷ [])
+
+-- ---- what is found
+
+abbrev pub is_other_answer : Option Reply → Reply → Bool
+is_other_answer None reply = false
+is_other_answer (Some answer) reply = not (same_reply answer reply)
+
+-- the call, if there is one, has another answer than this reply
+abbrev pub is_answered_otherwise : Option ClientCall → Reply → Bool
+is_answered_otherwise call reply = is_other_answer (option_and_then (λ c. c.answer) call) reply
+
+abbrev pub lateness : Id → Option Id → List ℕ
+lateness x None = []
+lateness x (Some y) = late_line x y
+
+-- what is wrong with the call of an executed instance, by its reply and by what it is late for
+abbrev pub findings_at : List ClientCall → (Id × Reply) × Option Id → List ℕ
+findings_at h ((x, reply), late) =
+    (if is_answered_otherwise (call_of h x) reply then other_reply_line x else [])
+    ++ lateness x late
+
+-- the call returned, and its instance is not among these
+abbrev pub is_lost : List Id → ClientCall → Bool
+is_lost ids c = is_some c.returned && not (is_among ids c.id)
+
+-- the instances of the lost calls, by rising Id
+abbrev pub lost_ids : List Id → List ClientCall → List Id
+lost_ids ids h = rising_ids (map (λ c. c.id) (filter (is_lost ids) h))
+
+-- first of each executed instance, in the order of execution, then of the lost calls
+abbrev pub findings : List Id → List Reply → List ClientCall → List (Option Id) → List ℕ
+findings ids replies h late =
+    flat_map (findings_at h) (zip (zip ids replies) late) ++ flat_map lost_line (lost_ids ids h)
+
+-- ---- the answer
+
+abbrev pub or_linear : List ℕ → List ℕ
+or_linear [] = linear_line
+or_linear (b ∷ bs) = b ∷ bs
+
+-- the lines of what is found, or one line if nothing is
+abbrev pub linear_text : List Id → List Reply → List ClientCall → List (Option Id) → List ℕ
+linear_text ids replies h late = or_linear (findings ids replies h late)
+
+-- the text says where the history does not fit these commands, executed with these replies
+pub record IsTextOver (ids : List Id) (commands : List (List Op)) (replies : List Reply)
+    (h : List ClientCall) (text : List ℕ) : Type 0 where
+  pub late : List (Option Id)
+  pub found : AreFoundLate commands (calls_in h ids) late
+  pub printed : text ≡ linear_text ids replies h late
+
+-- the text says where the history does not fit the execution order of the map
+pub record IsLinearText (m : List Instance) (h : List ClientCall) (text : List ℕ) : Type 0 where
+  pub order : List Ranked
+  pub ordered : IsExecutionOrder m order
+  pub said : IsTextOver (ranked_ids order) (commands_in m (ranked_ids order))
+      (list_execution m (ranked_ids order)).replies h text
