@@ -125,6 +125,40 @@ class Said:
 
 
 @dataclasses.dataclass(frozen=True)
+class Call:
+    """The call of a client: its instance, when it was invoked and, if an answer came, when this was
+    and what it said, if that is known. Times are whole numbers of one clock. `text` has it as a
+    line of a history."""
+
+    id: Id
+    invoked: int
+    returned: int = None
+    reply: Reply = None
+
+    @property
+    def text(self):
+        end = outcome_of(self.reply) if self.reply else ()
+        row = ("call", self.id.replica, self.id.number, self.invoked, self.returned, *end)
+        return json.dumps(row).encode() + b"\n"
+
+
+@dataclasses.dataclass
+class Linear:
+    """What is found of a history: the calls whose answer is not their reply, those that are
+    executed too late, each with the call before which it had returned, and those that returned and
+    are not executed. `findings` has them as the rows of the answer."""
+
+    replies: list
+    late: list
+    lost: list
+    findings: list
+
+    @property
+    def is_linear(self):
+        return not self.findings
+
+
+@dataclasses.dataclass(frozen=True)
 class Ordered:
     """An instance of the execution order, with its depth and its component's leader."""
 
@@ -195,6 +229,16 @@ def verify(said, logs, workers=4, exit_code=False):
     said = Said(said.replies, said.store) if isinstance(said, Report) else said
     text = said.text if isinstance(said, Said) else said
     return ask("verify", [text, *logs], workers, exit_code, read_wrong)
+
+
+def linear(history, logs, workers=4, skew=0, exit_code=False):
+    """What is found of a history, a path, its bytes or calls, as `Linear`: whether the clients saw
+    one copy. `skew` is added to each time of an answer. With `exit_code` a call that is found is a
+    finding."""
+    is_text = isinstance(history, (str, bytes, os.PathLike))
+    text = history if is_text else b"".join(call.text for call in history)
+    options = ["--skew", str(skew)]
+    return ask("linear", [text, *logs], workers, exit_code, read_linear, options)
 
 
 def compare(logs, workers=4, exit_code=False):
@@ -386,6 +430,17 @@ def read_wrong(text):
     return [row for row in read_rows(text) if row != ("lawful",)]
 
 
+def read_linear(text):
+    """What is found of a history."""
+    found = Linear([], [], [], [row for row in read_rows(text) if row != ("linear",)])
+    for kind, *row in found.findings:
+        if kind == "late":
+            found.late.append((Id(*row[:2]), Id(*row[2:])))
+        else:
+            (found.replies if kind == "reply" else found.lost).append(Id(*row))
+    return found
+
+
 def read_said(text):
     """What a replay prints."""
     found = Said([], {})
@@ -502,6 +557,26 @@ def test_answers(examples, logs):
     assert resume(report(halves[:1]), halves[1:]).store == found.store
 
 
+def test_histories(logs):
+    """Asks about histories, of which some are linear."""
+    replies = report(logs).replies
+    calls = [Call(one.id, at, at + 1, one) for at, one in enumerate(replies)]
+    assert linear([], logs).is_linear and linear(calls, logs) == Linear([], [], [], [])
+    text = b"".join(call.text for call in calls)
+    assert linear(text, logs, exit_code=True).is_linear and linear(iter(calls), logs).is_linear
+    early = dataclasses.replace(calls[0], invoked=9, returned=None, reply=None)
+    wrong = dataclasses.replace(calls[4], reply=Reply(calls[4].id, ()))
+    calls = [early, *calls[1:4], wrong, calls[5], Call(Id(2, 1), 0, 1), Call(Id(2, 2), 0)]
+    found = linear(calls, logs, workers=1)
+    assert not found.is_linear and found.replies == [wrong.id] and found.lost == [Id(2, 1)]
+    assert found.late == [(calls[at].id, early.id) for at in (2, 3, 4, 5)]
+    assert found.findings[0] == ("late", 0, 1, 0, 0) and found.findings[-1] == ("lost", 2, 1)
+    assert linear(calls, logs, skew=5).late == [(calls[2].id, early.id)]
+    assert raised(Finding, lambda: linear(calls, logs, exit_code=True)).answer == found
+    fault = raised(Fault, lambda: linear([Call(Id(0, 0), 2, 1)], logs))
+    assert (fault.number, fault.status) == (9, 1)
+
+
 def test_findings(examples, logs):
     """Asks for findings where there is one, where there is none, and of no logs."""
     unrelated, one = [examples / "unrelated.jsonl"], [examples / "one.jsonl"]
@@ -553,6 +628,7 @@ def test():
         return 2
     logs = sorted(examples.glob("replicas/*.jsonl"))
     test_answers(examples, logs)
+    test_histories(logs)
     test_findings(examples, logs)
     test_follower(examples)
     print("the answers are those of examples/, and the findings as well")

@@ -61,9 +61,10 @@ def operation(rng, key, value):
     return rng.choice((["get", key], ["put", key, value], ["add", key, value]))
 
 
-def cluster(rng, replicas, instances, most_keys=2, first=0):
-    """The logs of a simulated cluster. A command is proposed at a replica and then meets others in
-    any order, until a majority has met it. Each of them keeps the line in its log."""
+def simulate(rng, replicas, instances, most_keys=2, first=0):
+    """The commands of a simulated cluster, and when each of them meets which replica, as rising
+    rows of a time, a position among the commands and a replica. The command of position N is
+    proposed at time N, and then meets others in any order, until a majority has met it."""
     events, commands, numbers = [], [], [first] * replicas
     for at in range(instances):
         proposer = rng.randrange(replicas)
@@ -76,12 +77,21 @@ def cluster(rng, replicas, instances, most_keys=2, first=0):
         events.append((at, at, proposer))
         for other in rng.sample(others, replicas // 2):
             events.append((at + rng.expovariate(0.1), at, other))
-    states, logs = [Replica() for _ in range(replicas)], [[] for _ in range(replicas)]
-    for _, at, replica in sorted(events):
+    events.sort()
+    states = [Replica() for _ in range(replicas)]
+    for _, at, replica in events:
         states[replica].meet(commands[at])
-        logs[replica].append(commands[at])
     for command in commands:
         command["deps"] = [rng.choice((None, -1)) if it is None else it for it in command["deps"]]
+    return commands, events
+
+
+def cluster(rng, replicas, instances, most_keys=2, first=0):
+    """The logs of a simulated cluster. Each replica keeps the lines of what it meets."""
+    commands, events = simulate(rng, replicas, instances, most_keys, first)
+    logs = [[] for _ in range(replicas)]
+    for _, at, replica in events:
+        logs[replica].append(commands[at])
     return logs
 
 
@@ -97,6 +107,19 @@ def named_by(commands, line, kind):
         if is_named and other is not line:
             named.append((other["r"], other["i"]))
     return sorted(named)
+
+
+def with_pairs(commands):
+    """The lines of commands by place, with pairs in place of numbers, which mean the conflicting
+    instances up to them."""
+    return {
+        place_of(line): line | {"deps": named_by(commands, line, Conflicting)} for line in commands
+    }
+
+
+def log_of(lines):
+    """A log of lines by place."""
+    return "".join(text_of(line) + "\n" for line in lines.values())
 
 
 def executed(rng, commands, named):

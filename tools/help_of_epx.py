@@ -7,7 +7,7 @@ import re
 TOP = pathlib.Path(__file__).resolve().parent.parent
 PRINTED = TOP / "crates/epx_cases/stdout"
 # The names of the command line that are paths.
-PATHS = ("LOG", "BASE", "LIST", "SAID", "STATE")
+PATHS = ("LOG", "BASE", "LIST", "SAID", "HISTORY", "STATE")
 
 
 @dataclasses.dataclass(frozen=True)

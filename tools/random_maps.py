@@ -8,6 +8,8 @@ import subprocess
 
 # The status of an answer that finds something, with `--exit-code`.
 FOUND = 5
+# The answers that find nothing.
+NOTHING = [["covered"]], [["lawful"]], [["linear"]]
 SMALL = 14
 OPERATIONS = ["get", "put", "del", "add", "is", "floor", "copy"]
 
@@ -30,6 +32,7 @@ class Map:
             numbers[replica] += 1
         self.reached = {x: self.all_reached(x) for x in self.entries}
         self.ready = sorted(x for x in self.entries if self.reached[x] <= self.entries.keys())
+        self.order = execution_order({x: self.entries[x]["seq"] for x in self.ready}, self.reached)
 
     def add(self, rng, x, keys, dense):
         ops = [self.operation(rng, x, keys) for _ in range(rng.randrange(3))]
@@ -131,6 +134,18 @@ class Map:
         return one_component and (self.entries[y]["seq"], y) > (self.entries[x]["seq"], x)
 
 
+def execution_order(ready, reached):
+    """The ready instances, given with their sequence numbers, in execution order. What an instance
+    reaches has the instance itself too."""
+    keys = {}
+    # what is reached and does not reach back reaches less
+    for x in sorted(ready, key=lambda it: len(reached[it])):
+        component = {y for y in reached[x] if x in reached[y]}
+        depth = max((keys[y][0] + 1 for y in reached[x] - component), default=0)
+        keys[x] = depth, min(component), ready[x], x
+    return sorted(ready, key=keys.get)
+
+
 def changed(rng, order, names):
     """A list that is the order, or nearly."""
     listed = list(order)
@@ -152,7 +167,7 @@ def answer(program, *words):
     """The lines of an answer, which ends with the status of what it finds."""
     done = subprocess.run([program, *map(str, words)], capture_output=True, check=False)
     lines = [json.loads(line) for line in done.stdout.splitlines()]
-    is_found = "--exit-code" in words and lines not in ([["covered"]], [["lawful"]])
+    is_found = "--exit-code" in words and lines not in NOTHING
     if done.returncode != (FOUND if is_found else 0):
         raise SystemExit(
             f"{words}: status {done.returncode}: {done.stderr.decode(errors='replace')}"

@@ -12,6 +12,8 @@ everywhere, and the exit status is 1 where one of these does not hold:
 - the logs say the same, which `compare` finds, and nothing waits
 - the stores that the replicas saved are that of the report
 - the logs are covered, which `audit` finds
+- the clients saw one copy, which `linear` finds of the times at which they sent their commands and
+  had the replies
 - what each replica executed, in its order, is lawful, which `check` finds; while the others still
   ran, it was for the replicas that ran so far (`check --prefix`)
 """
@@ -27,6 +29,7 @@ import shutil
 import subprocess
 import sys
 import tempfile
+import time
 
 import cluster
 from replica import find_program
@@ -63,7 +66,10 @@ class Progress:
 
 
 class Client:
-    """Sends random commands to one replica, each after the reply to the one before."""
+    """Sends random commands to one replica, each after the reply to the one before.
+
+    Of each instance it has the reply, the command, and when it sent this and had the reply, in
+    nanoseconds of one clock; of what was not answered the command, and when it was sent."""
 
     def __init__(self, number, replica, folder, rng):
         self.number, self.replica, self.rng = number, replica, rng
@@ -96,23 +102,24 @@ class Client:
                 with contextlib.closing(writer):
                     while count < MOST and not enough.is_set():
                         count += 1
-                        ops = self.command(count)
-                        self.unknown.append(ops)
-                        await self.send(reader, writer, ops)
+                        await self.send(reader, writer, self.command(count))
                         await progress.add(self.replica)
             # the replica is gone: it has another port when it is back
             await asyncio.sleep(0.02)
 
     async def send(self, reader, writer, ops):
+        invoked = time.monotonic_ns()
+        self.unknown.append((ops, invoked))
         writer.write(json.dumps(ops).encode() + b"\n")
         reply = (await reader.readline()).decode()
+        returned = time.monotonic_ns()
         if not reply.endswith("\n"):
             raise ConnectionError("whether the command is executed is not known")
         self.unknown.pop()
         row = json.loads(reply)
         if row[0] != "reply":
             raise Wrong(f"{ops} is answered by {reply}")
-        self.replies[row[1], row[2]] = (reply, ops)
+        self.replies[row[1], row[2]] = (reply, ops, invoked, returned)
 
 
 class Cluster:
@@ -225,6 +232,20 @@ async def run(given, folder):
     return replicas, clients, counts
 
 
+def history_of(clients, commands):
+    """The calls of clients, as lines. What was not answered is looked for among the commands of the
+    logs, by its end."""
+    names = {json.dumps(ops[-1]): name for name, ops in commands.items() if ops}
+    rows = []
+    for client in clients:
+        for name, (reply, _, *times) in client.replies.items():
+            rows.append(["call", *name, *times, *json.loads(reply)[3:]])
+        for ops, invoked in client.unknown:
+            name = names.get(json.dumps(ops[-1]))
+            rows += [["call", *name, invoked, None]] if name else []
+    return "".join(json.dumps(row) + "\n" for row in rows)
+
+
 def compare(replicas, clients):
     """Compares what clients and replicas have with what epx says of all logs."""
     logs = [replicas.file(number, "log.jsonl") for number in replicas.numbers]
@@ -242,13 +263,16 @@ def compare(replicas, clients):
     rows = [json.loads(line) for log in logs for line in log.read_text().splitlines()]
     commands = {(row["r"], row["i"]): row["ops"] for row in rows if row["status"] == "committed"}
     for client in clients:
-        for name, (reply, ops) in client.replies.items():
+        for name, (reply, ops, *_) in client.replies.items():
             if replies.get(name) != reply or commands[name] != ops:
                 raise Wrong(f"{ops} was answered by {reply}; of {commands[name]} the report has "
                             f"{replies.get(name)}")  # fmt: skip
     ends = collections.Counter(json.dumps(ops[-1]) for ops in commands.values() if ops)
     if max(ends.values()) > 1:
         raise Wrong(f"a command is committed twice: {ends.most_common(1)}")
+    history = replicas.folder / "history"
+    history.write_text(history_of(clients, commands))
+    replicas.epx("linear", "--exit-code", history, *logs)
 
 
 def main():
