@@ -1,12 +1,11 @@
 -- A list is replayed to exactly one text, and what a replica said has exactly one verdict. It is
 -- that of a lawful list alone exactly where all is right.
-use Rattle.std.proofs.Common.{◌≡◌, ◌⊎◌, ◌∙◌, ◌++◌, ◌∷◌, ℕ, List, [], Ok, refl, sym, ap}
+use Rattle.std.proofs.Common.{◌≡◌, ◌⊎◌, ◌∙◌, ◌++◌, ◌∷◌, ℕ, List, [], refl, sym, ap}
 use Rattle.std.proofs.Common.{inl, inr, append-nil, arith, length, subst}
 use Rattle.epx_types.proofs.Common.{Contents, Instance, IsLawfulPrefix, IsRising, ids_of}
 use Rattle.epx_types.proofs.Common.{length-append}
 use Rattle.epx_types.specs.declared.id.Id.{Id}
 use Rattle.epx_types.specs.declared.reply.Reply.{Reply}
-use Rattle.epx_merge.specs.Acceptance.{IsAccepted}
 use Rattle.epx_merge.proofs.UniquenessLemmas.{accepted_unique}
 use Rattle.epx_ranking.proofs.PrefixLemmas.{prefix_has_no_fault}
 use Rattle.epx_report.specs.ReportReadings.{replied_ids}
