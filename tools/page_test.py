@@ -1,0 +1,273 @@
+"""The test of `tools/page`: what a browser shows of logs must be what epx says of them. A module,
+and no tool itself."""
+
+import json
+import pathlib
+import random
+import re
+import subprocess
+import tempfile
+
+import page_looks
+from browser import find_browser
+from command_line import TOP, counted, say
+from executions import Tally, execute
+from histories import Executed, history_of, random_calls
+from page_refusals import try_refusals
+from page_looks import Shown, try_keys, try_looks
+from random_logs import covered_instances, text_of
+from random_maps import Map, answer
+
+EXAMPLES = ("one", "operations", "replicas", "statuses", "unrelated", "arriving")
+FOLDERS = ("replicas", "bank", "halves")
+RANDOM, HISTORIES, LARGE, POSITIONS = 12, 12, 5_000, 20
+# Opening took under a second where it was measured. A busy machine takes longer.
+MOST_SECONDS = 20
+EDGE = 2**63 - 1
+# Keys that could end an element of HTML or a text, or turn what is beside them.
+KEYS = ["</script><script>throw 1</script>", "<!--", "&lt;", '"', "\\", "a b", "@data@", "\u202eabc",
+        "\0\n\t", "\u2028", "ключ", "鍵", "__proto__", "x" * 64, "null"]  # fmt: skip
+
+
+class Case:
+    """Logs with a page of them, and what epx says of them."""
+
+    def __init__(self, program, folder, logs, history=None):
+        self.program, self.folder, self.logs, self.history = program, folder, logs, history
+        self.path, self.list = folder / "page.html", folder / "list"
+        self.path.unlink(missing_ok=True)
+        words = ["--history", history] if history else []
+        call = [TOP / "tools/page", *words, *logs, "--out", self.path, "--program", program]
+        subprocess.run(call, stderr=subprocess.DEVNULL, check=True)
+        self.report = self.ask("run")
+        self.order = [name_of(row) for row in self.report if row[0] == "reply"]
+        self.read_graph()
+
+    def ask(self, word, *more):
+        return answer(self.program, word, *more, *self.logs)
+
+    def read_graph(self):
+        """Reads the picture word by word: its boxes, arrows and clusters, and what has which
+        style."""
+        call = [self.program, "graph", *self.logs]
+        text = subprocess.run(call, capture_output=True, text=True, check=True).stdout
+        self.boxes, self.arrows, self.clusters = {}, set(), {}
+        for line in text.splitlines()[2:-1]:
+            names = re.findall(r'"(\d+\.\d+)"', line)
+            if "->" in line:
+                self.arrows.add(tuple(names))
+                continue
+            style = re.search(r"style=(\w+)", line)
+            self.boxes[names[0]] = style[1] if style else "solid"
+            if "subgraph" in line:
+                leader = re.search(r'"cluster (\S+)"', line)[1]
+                self.clusters.setdefault(leader, []).append(names[0])
+
+    def store(self, position):
+        """The store that `replay` prints after so many instances of the order."""
+        listed = [name.split(".") for name in self.order[:position]]
+        self.list.write_text("".join(f"[{r},{i}]\n" for r, i in listed))
+        rows = self.ask("replay", self.list)
+        return [[row[1], str(row[2])] for row in rows if row[0] == "store"]
+
+
+def name_of(row):
+    return f"{row[1]}.{row[2]}"
+
+
+def try_graph(told, shown, case):
+    """Each box in turn has the focus: boxes, arrows, texts and frames must be those of epx."""
+    styles = {"executed": "solid", "waiting": "dashed", "missing": "dotted"}
+    boxes = shown.each_box()
+    told.expect("sets of boxes", {box["id"]: styles[box["kind"]] for box in boxes}, case.boxes)
+    told.expect("orders", [box["id"] for box in boxes][: len(case.order)], case.order)
+    for box in boxes:
+        for word, at in ("deps", 0), ("users", 1):
+            wanted = {arrow for arrow in case.arrows if arrow[at] == box["id"]}
+            told.expect("sets of arrows", set(map(tuple, box[word])), wanted)
+    told.expect("sets of frames", shown.frames(), {
+        leader: sorted(names) for leader, names in case.clusters.items()})  # fmt: skip
+    ends = {name_of(row): f"{row[3]} {json.dumps(row[4])}"
+            for row in case.report if row[0] == "reply"}  # fmt: skip
+    ends |= {name_of(row): f"needs {row[3]}.{row[4]}"
+             for row in case.report if row[0] == "waiting"}  # fmt: skip
+    told.expect("sets of replies", {box["id"]: box["end"] for box in boxes if box["id"] in ends},
+                ends)  # fmt: skip
+
+
+def try_list(told, shown, case):
+    """The text of all instances must have the same boxes and arrows."""
+    rows = shown.list_rows()
+    told.expect("lists", sorted(row[1] for row in rows), sorted(case.boxes))
+    split = lambda text: text.split(", ") if text else []
+    for place, turn in (4, lambda pair: pair), (5, lambda pair: pair[::-1]):
+        found = {turn((row[1], other)) for row in rows for other in split(row[place])}
+        told.expect("lists", found, case.arrows)
+
+
+def try_stores(told, shown, case, positions):
+    """The slider must show the store that `replay` prints, and mark what changed since the position
+    before."""
+    for position in positions:
+        before = case.store(position - 1) if position else []
+        wanted = case.store(position)
+        changed = [pair[0] for pair in wanted if pair not in before]
+        told.expect("stores", shown.store(position), [wanted, changed])
+
+
+def all_positions(case, rng):
+    """All positions in order, so that stores go on, and then some, so that they go back."""
+    count = len(case.order)
+    return [*range(count + 1), count, 0, *rng.sample(range(count + 1), min(count, 5))]
+
+
+def try_case(told, shown, case, positions):
+    shown.open(case.path)
+    try_graph(told, shown, case)
+    try_list(told, shown, case)
+    try_stores(told, shown, case, positions)
+    told.expect("consoles", shown.take_errors(), [])
+
+
+def example_logs():
+    for name in EXAMPLES:
+        yield [TOP / f"examples/{name}.jsonl"]
+    for name in FOLDERS:
+        yield sorted((TOP / "examples" / name).glob("*.jsonl"))
+
+
+def random_logs(rng, folder):
+    """Random logs: covered ones with instances that are lost, and ones with any dependencies."""
+    for number in range(RANDOM):
+        path = folder / f"random-{number}"
+        if number % 2:
+            path.write_text(Map(rng, 14).text())
+        else:
+            instances = covered_instances(rng, rng.randrange(1, 40))
+            kept = [one for one in instances if rng.random() < 0.95]
+            path.write_text(text_of(kept))
+        yield [path]
+
+
+def edge_logs(folder):
+    """Logs with keys and numbers at their limits, and logs of nothing."""
+    path, empty, many = folder / "edge", folder / "empty", folder / "many"
+    entries = [{"r": 255, "i": 2**64 - 1, "seq": 2**64 - 1, "deps": [[0, 2**64 - 2]],
+                "ops": [["put", key, EDGE - at] for at, key in enumerate(KEYS)]},
+               {"r": 0, "i": 2**64 - 2, "seq": 0, "deps": [[255, 2**64 - 1]],
+                "ops": [["copy", KEYS[0], KEYS[1]], ["del", KEYS[2]], ["get", KEYS[0]],
+                        ["add", KEYS[4], -EDGE], ["is", "none", None]]},
+               {"r": 7, "i": 0, "seq": 0, "deps": [], "ops": []}]  # fmt: skip
+    path.write_text("".join(json.dumps(entry) + "\n" for entry in entries))
+    empty.write_text("")
+    # as many keys as a line may have, each of 64 bytes that JSON writes as six each
+    wide = [["put", chr(1) * 62 + f"{at:02}", at] for at in range(64)]
+    lines = [{"r": 1, "i": at, "seq": at, "deps": [], "ops": wide} for at in range(30)]
+    many.write_text("".join(json.dumps(line) + "\n" for line in lines))
+    yield from ([path], [empty], [many], [path, empty, path])
+
+
+def try_history(told, shown, case):
+    """The page of a history must have what `linear` finds, each late call with its arrow."""
+    shown.open(case.path)
+    rows = [row for row in case.ask("linear", case.history) if row[0] != "linear"]
+    late = {(f"{row[1]}.{row[2]}", f"{row[3]}.{row[4]}") for row in rows if row[0] == "late"}
+    told.expect("late arrows", shown.late_arrows(), late)
+    wanted = {}
+    for row in rows:
+        if name_of(row) in case.boxes:
+            wanted.setdefault(name_of(row), []).append(
+                {"reply": "other reply"}.get(row[0], row[0]))  # fmt: skip
+    told.expect("marked boxes", shown.marked(), wanted)
+    told.expect("items of findings", shown.findings(), [name_of(row) for row in rows])
+    told.expect("consoles", shown.take_errors(), [])
+
+
+def try_histories(told, shown, program, rng, folder):
+    clients = TOP / "examples/clients"
+    try_history(told, shown, Case(program, folder, [clients / "log.jsonl"],
+                                  clients / "seen.history"))  # fmt: skip
+    for _ in range(HISTORIES):
+        given, log, history = Map(rng, 10), folder / "log", folder / "history"
+        ops_of = {name: entry["ops"] for name, entry in given.entries.items()}
+        done = Executed(given.order, execute(given.order, ops_of)[0], ops_of)
+        others = sorted(given.entries.keys() - {*given.order}) + [(7, 0), (9, 9)]
+        log.write_text(given.text())
+        history.write_text(history_of(rng, random_calls(rng, done, others)))
+        try_history(told, shown, Case(program, folder, [log], history))
+
+
+def try_blockers(told, shown, program, folder):
+    """What to recover first must be what `blockers` says. A program that has no such subcommand
+    gets one here, which says it of the example."""
+    logs = sorted((TOP / "examples/replicas").glob("*.jsonl"))
+    call = [program, "help", "blockers"]
+    if subprocess.run(call, capture_output=True, check=False).returncode:
+        stub = folder / "epx"
+        lines = '["blocks",2,2,1,1]\n["several",0]'
+        stub.write_text(f"#!/bin/sh\ncase \"$1 $2\" in 'help blockers') exit 0;; blockers*)\n"
+                        f"echo '{lines}'; exit 0;; esac\nexec '{program}' \"$@\"\n")  # fmt: skip
+        stub.chmod(0o755)
+        shown.open(Case(program, folder, logs).path)
+        told.expect("pages without blockers", shown.blockers(), None)
+        program = str(stub)
+    case = Case(program, folder, logs)
+    shown.open(case.path)
+    rows = [row for row in case.ask("blockers") if row[0] == "blocks"]
+    wanted = [[name_of(row), f"blocks {row[3]}, named by {row[4]}"] for row in rows]
+    told.expect("pages with blockers", shown.blockers(), wanted)
+
+
+def try_large(told, shown, program, rng, folder):
+    """Opens a page of many instances, and returns the seconds."""
+    words = ["--instances", str(LARGE), "--seed", "7", "--out", folder / "bank"]
+    subprocess.run([TOP / "tools/bank", *words], stderr=subprocess.DEVNULL,
+                   stdout=subprocess.DEVNULL, check=True)  # fmt: skip
+    case = Case(program, folder, sorted((folder / "bank").glob("*.jsonl")))
+    seconds = [shown.open(case.path) for _ in range(3)]
+    told.expect("large pages", min(seconds) < MOST_SECONDS, True)
+    told.expect("few elements", shown.count_boxes() < 200, True)
+    try_list(told, shown, case)
+    positions = [0, len(case.order), *rng.sample(range(len(case.order)), POSITIONS)]
+    try_stores(told, shown, case, positions)
+    for name in (case.order[0], case.order[-1], case.order[len(case.order) // 2], *case.boxes):
+        if name in (case.order[0], case.order[-1]) or rng.random() < 0.004:
+            arrows = shown.focus(name)
+            told.expect("sets of arrows", arrows, {it for it in case.arrows if name in it})
+    told.expect("consoles", shown.take_errors(), [])
+    return sorted(seconds)[1]
+
+
+def try_pages(told, shown, program, rng, folder):
+    """Opens pages of all kinds. Returns the seconds that the large one took."""
+    sets = [*example_logs(), *random_logs(rng, folder), *edge_logs(folder)]
+    for logs in counted("sets of logs, each with a page", sets):
+        case = Case(program, folder, logs)
+        try_case(told, shown, case, all_positions(case, rng))
+    say("histories of clients")
+    try_histories(told, shown, program, rng, folder)
+    try_blockers(told, shown, program, folder)
+    say("keys, colours and narrow windows")
+    replicas = Case(program, folder, sorted((TOP / "examples/replicas").glob("*.jsonl")))
+    try_keys(told, shown, replicas.path)
+    try_looks(told, shown, replicas.path)
+    clients = TOP / "examples/clients"
+    late = Case(program, folder, [clients / "log.jsonl"], clients / "seen.history")
+    try_looks(told, shown, late.path)
+    say(f"a page of {LARGE:,} instances")
+    return try_large(told, shown, program, rng, folder)
+
+
+def test(program, seed):
+    """Tries pages in a browser, where one is installed, and what must be refused."""
+    told, rng, name = Tally(), random.Random(seed), find_browser()
+    more = "the pages skipped, since no Chromium is installed"
+    with tempfile.TemporaryDirectory(prefix="epx-page-test-") as room:
+        folder = pathlib.Path(room)
+        try_refusals(told, program, folder / "refusals")
+        if name:
+            with page_looks.Shown(name) as shown:
+                seconds = try_pages(told, shown, program, rng, folder)
+            more = f"{LARGE:,} instances open in {seconds:.1f} s"
+    print(f"tools/page: seed {seed}: {told.text()}; {more}")
+    return 1 if told.wrong else 0
