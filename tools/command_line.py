@@ -12,7 +12,8 @@ import threading
 import time
 
 TOP = pathlib.Path(__file__).resolve().parent.parent
-PROGRAM = TOP / "crates/epx/out/epx"
+# The archive of a release has PROVED.md, and the program beside it.
+PROGRAM = TOP / ("epx" if (TOP / "PROVED.md").exists() else "crates/epx/out/epx")
 NAME = f"tools/{pathlib.Path(sys.argv[0]).name}"
 # The seconds between two lines that say how far a tool is.
 OFTEN = 10
@@ -74,11 +75,11 @@ def built(program):
     return str(path)
 
 
-def load_test(module):
-    """The test of a tool, which a module of the repository has."""
+def load_test(module, name="test"):
+    """The test of a tool, or what else a module of the repository does for one."""
     if not (TOP / f"tools/{module}.py").is_file():
         stop("the test is a part of the repository, and of no archive")
-    return importlib.import_module(module).test
+    return getattr(importlib.import_module(module), name)
 
 
 def counted(what, items):

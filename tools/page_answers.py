@@ -79,7 +79,7 @@ class Answers:
         return done.stdout.decode()
 
     def rows(self, *words):
-        """The lines of an answer, read as JSON. A key may have what other languages end lines by."""
+        """The lines of an answer, read as JSON. Keys may have other ends of lines, as U+2028."""
         return [json.loads(line) for line in self.text(*words).split("\n")[:-1]]
 
     def has_blockers(self):

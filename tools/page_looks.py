@@ -99,6 +99,7 @@ ROLES = """
   return [[...document.querySelectorAll("button, input, [role=grid], [role=gridcell]")]
       .filter((it) => !named(it)).map((it) => it.outerHTML),
     cells.every((it) => it.closest("[role=row]") && it.closest("[role=grid]")),
+    cells.every((it) => !(Number(it.nextElementSibling?.ariaColIndex) <= it.ariaColIndex)),
     cells.filter((it) => it.tabIndex === 0).length, document.documentElement.lang];
 })()
 """
@@ -225,7 +226,7 @@ def try_looks(told, shown, path):
             told.expect("colours", shown.value(PALE), [True, []])
             shown.value("focusBox(Math.min(2, boxes.length - 1)), setLevel(4)")
             told.expect("colours", shown.value(PALE), [True, []])
-        told.expect("roles", shown.value(ROLES), [[], True, 1, "en"])
+        told.expect("roles", shown.value(ROLES), [[], True, True, 1, "en"])
         pictures.add(shown.screenshot())
         shown.resize(340, 700)
         wide = "document.documentElement.scrollWidth - document.documentElement.clientWidth"

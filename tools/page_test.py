@@ -1,6 +1,7 @@
 """The test of `tools/page`: what a browser shows of logs must be what epx says of them. A module,
 and no tool itself."""
 
+import functools
 import json
 import pathlib
 import random
@@ -25,8 +26,8 @@ RANDOM, HISTORIES, LARGE, POSITIONS = 12, 12, 5_000, 20
 MOST_SECONDS = 20
 EDGE = 2**63 - 1
 # Keys that could end an element of HTML or a text, or turn what is beside them.
-KEYS = ["</script><script>throw 1</script>", "<!--", "&lt;", '"', "\\", "a b", "@data@", "\u202eabc",
-        "\0\n\t", "\u2028", "ключ", "鍵", "__proto__", "x" * 64, "null"]  # fmt: skip
+KEYS = ["</script><script>throw 1</script>", "<!--", "&lt;", '"', "\\", "a b", "@data@", "\0\n\t",
+        "\u202eabc", "\u2028", "ключ", "鍵", "__proto__", "x" * 64, "null"]  # fmt: skip
 
 
 class Case:
@@ -63,6 +64,7 @@ class Case:
                 leader = re.search(r'"cluster (\S+)"', line)[1]
                 self.clusters.setdefault(leader, []).append(names[0])
 
+    @functools.cache
     def store(self, position):
         """The store that `replay` prints after so many instances of the order."""
         listed = [name.split(".") for name in self.order[:position]]

@@ -3,6 +3,7 @@
 const grid = document.getElementById("lanes");
 const axis = document.getElementById("axis");
 const backdrop = element("div", "backdrop");
+backdrop.setAttribute("aria-hidden", "true");
 const drawn = new Map();
 const state = { active: 0, hovered: null, isCleared: true };
 let region = null;
@@ -58,6 +59,21 @@ function makeBox(box) {
   return made;
 }
 
+// Makes the boxes that are not there, each behind those that are left of it in its lane.
+function addBoxes(places) {
+  const next = rows.map((row) => row.children[1]);
+  for (const at of places) {
+    const { lane } = boxes[at];
+    while (next[lane] && Number(next[lane].dataset.at) < at) {
+      next[lane] = next[lane].nextElementSibling;
+    }
+    if (drawn.has(at)) continue;
+    const made = makeBox(boxes[at]);
+    drawn.set(at, made);
+    rows[lane].insertBefore(made, next[lane] ?? null);
+  }
+}
+
 function syncBoxes(first, last) {
   for (const [at, made] of drawn) {
     if ((at < first || at > last) && at !== state.active) {
@@ -65,14 +81,11 @@ function syncBoxes(first, last) {
       drawn.delete(at);
     }
   }
-  const wanted = boxes.length ? [state.active] : [];
-  for (let at = first; at <= last; at++) wanted.push(at);
-  for (const at of wanted) {
-    if (drawn.has(at)) continue;
-    const made = makeBox(boxes[at]);
-    drawn.set(at, made);
-    rows[boxes[at].lane].append(made);
-  }
+  const places = [];
+  for (let at = first; at <= last; at++) places.push(at);
+  if (state.active < first) places.unshift(state.active);
+  if (state.active > last && boxes.length) places.push(state.active);
+  addBoxes(places);
 }
 
 function markBoxes() {
@@ -135,7 +148,8 @@ function draw(isForced) {
   const right = Math.min(left + width, contentWidth());
   const isInside = region && left >= region.left && right <= region.right;
   if (!isInside || isForced) {
-    region = { left: Math.max(0, left - width), right: Math.min(left + 2 * width, Math.max(contentWidth(), width)) };
+    const end = Math.max(contentWidth(), width);
+    region = { left: Math.max(0, left - width), right: Math.min(left + 2 * width, end) };
     region.columns = columnsBetween(region.left, region.right);
     const { first, last } = region.columns;
     syncBoxes(first, last);
@@ -151,8 +165,10 @@ function resize() {
   for (const made of drawn.values()) made.remove();
   drawn.clear();
   const { width, height, lane, shows } = zoom();
-  const sizes = { "--box-width": width, "--box-height": height, "--lane": lane, "--axis": AXIS,
-    "--head": headWidth(), "--content": contentWidth(), "--height": contentHeight() };
+  const sizes = {
+    "--box-width": width, "--box-height": height, "--lane": lane, "--axis": AXIS,
+    "--head": headWidth(), "--content": contentWidth(), "--height": contentHeight(),
+  };
   for (const [name, value] of Object.entries(sizes)) grid.style.setProperty(name, `${value}px`);
   grid.dataset.shows = shows;
   // what was drawn would keep the lanes as wide as they were

@@ -36,7 +36,11 @@ function factsOf(box) {
 
 function opsOf(box) {
   if (!box.ops.length) return ["none"];
-  return [element("ol", "ops", ...box.ops.map((op) => element("li", "", element("code", "", op))))];
+  const items = box.ops.map((op) => element("li", "", element("code", "", op)));
+  const made = element("ol", "ops", ...items);
+  // from 0, as a reply counts them that aborts
+  made.start = 0;
+  return [made];
 }
 
 function orNothing(children) {

@@ -15,9 +15,9 @@ function showBlockers() {
   const missing = boxes.filter((box) => box.kind === "missing");
   missing.sort((a, b) => b.alone - a.alone || b.named - a.named || a.at - b.at);
   const several = counted(data.several, "instance waits", "instances wait");
-  const words = missing.length ? `${several} for more than one missing instance.` : "Nothing waits.";
+  const all = `${several} for more than one missing instance.`;
   const items = missing.map((box) => element("li", "", ...links([box.at]), `: ${blockWords(box)}`));
-  fill("blockers", words, items);
+  fill("blockers", missing.length ? all : "Nothing waits.", items);
 }
 
 function findingItem([kind, id, other]) {
@@ -39,8 +39,8 @@ function showFindings() {
   for (const shown of document.querySelectorAll(".of-history")) shown.hidden = !latePairs.length;
   if (data.findings === undefined) return;
   const words = data.findings.length
-    ? `Of the calls in ${data.history} ${counted(data.findings.length, "line", "lines")} of faults:`
-    : `The calls in ${data.history} are as from one copy.`;
+    ? `Of the calls in ${data.history}:`
+    : `One copy, by the calls in ${data.history}.`;
   fill("findings", words, data.findings.map(findingItem));
 }
 
@@ -51,7 +51,7 @@ function showCounts() {
   document.getElementById("title").textContent = title;
   const parts = counted(data.components, "component", "components");
   const waiting = data.waiting ? counted(data.waiting, "waits", "wait") : "none waits";
-  const words = `${counted(count, "instance is", "instances are")} executed, in ${parts}; ${waiting}.`;
+  const words = `${counted(count, "instance is", "instances are")} executed, in ${parts}`;
   const names = data.logs.length > 1 ? ` Logs: ${data.logs.join(", ")}.` : "";
-  document.getElementById("counts").textContent = words + names;
+  document.getElementById("counts").textContent = `${words}; ${waiting}.${names}`;
 }

@@ -1,6 +1,6 @@
 // The same content as a table of texts, which is made when it is opened.
-const HEADS = ["Position", "Instance", "Operations", "Reply", "Depends on", "Needed by", "Component",
-  "Writes"];
+const HEADS = ["Position", "Instance", "Operations", "Reply", "Depends on", "Needed by",
+  "Component", "Writes"];
 
 function listCells(box) {
   const isExecuted = box.kind === "executed";
