@@ -11,7 +11,8 @@ NODE = re.compile(
     re.M,
 )
 ARROW = re.compile(r'^  "(\S+)" -> "(\S+)";$', re.M)
-PLAIN_KEY = re.compile(r"[\w.:/@#-]+")
+# Neither a number nor null, which are values.
+PLAIN_KEY = re.compile(r"(?!null\Z)[^\W\d][\w.:/@#-]*")
 KINDS = {None: "executed", "dashed": "waiting", "dotted": "missing"}
 
 

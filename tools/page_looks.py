@@ -10,7 +10,9 @@ boxes.map((box) => {
   const arrows = (kind) => [...document.querySelectorAll(`g path.${kind}`)]
     .map((path) => [path.dataset.from, path.dataset.to]);
   return { id: made.dataset.id, kind: made.classList[1], deps: arrows("dep"),
-    users: arrows("user"), end: made.querySelector(".reply").textContent };
+    users: arrows("user"), end: made.querySelector(".reply").textContent,
+    ops: [...made.querySelectorAll(".op")].map((op) => op.textContent),
+    all: [...document.querySelectorAll("#details .ops li")].map((op) => op.textContent) };
 })
 """
 # The boxes within each frame, by what is drawn.
@@ -103,6 +105,24 @@ ROLES = """
     cells.filter((it) => it.tabIndex === 0).length, document.documentElement.lang];
 })()
 """
+# The places of the boxes that are drawn, and whether they fill what is visible, after a scroll.
+SCROLLED = """
+(async () => {
+  setLevel(%d);
+  grid.scrollLeft = %f * grid.scrollWidth;
+  await new Promise((done) => requestAnimationFrame(() => setTimeout(done)));
+  const { left, right } = grid.getBoundingClientRect();
+  const seen = [...document.querySelectorAll(".box")]
+    .map((box) => [box.getBoundingClientRect(), Number(box.dataset.at)])
+    .filter(([it]) => it.right > left && it.left < right);
+  const places = seen.map(([, at]) => at).sort((a, b) => a - b);
+  const isWhole = places.every((at, index) => !index || at === places[index - 1] + 1);
+  const rects = seen.map(([it]) => it);
+  const room = zoom().pitch + 2 * ZONE_GAP;
+  return isWhole && Math.min(...rects.map((it) => it.left)) < left + headWidth() + room
+    && Math.max(...rects.map((it) => it.right)) > right - room;
+})()
+"""
 ACTIVE = "document.activeElement.dataset.id ?? document.activeElement.id"
 # Keys in turn, each with the box that has the focus then, in the page of examples/replicas.
 KEYS = (
@@ -141,6 +161,10 @@ class Shown(Browser):
     def focus(self, name):
         """Goes to a box by its name. Returns the arrows that are shown."""
         return set(map(tuple, self.value(FOCUS % name)))
+
+    def is_whole(self, level, share):
+        """Whether all boxes are drawn that are visible after a scroll to a share of the width."""
+        return self.value(SCROLLED % (level, share))
 
     def late_arrows(self):
         script = "[...document.querySelectorAll('g path.late')].map((it) => it.dataset)"
@@ -198,6 +222,12 @@ def try_keys(told, shown, path):
     for key, wanted in ("ArrowRight", "2"), ("End", "6"), ("ArrowLeft", "5"), ("Home", "0"):
         shown.press(key)
         told.expect("keys", [key, shown.value(position)], [key, wanted])
+    for name, wanted in ("smaller", "70 %"), ("smaller", "35 %"), ("larger", "70 %"):
+        shown.value(f"document.getElementById('{name}').click()")
+        told.expect("keys", shown.value("document.getElementById('zoom').textContent"), wanted)
+    shown.value("document.querySelector('header .link').click()")
+    told.expect("keys", shown.value(ACTIVE), "2.1")
+    shown.press("Escape")
     try_pointer(told, shown)
     told.expect("consoles", shown.take_errors(), [])
 

@@ -14,6 +14,7 @@ from browser import find_browser
 from command_line import TOP, counted, say
 from executions import Tally, execute
 from histories import Executed, history_of, random_calls
+from logs import is_committed
 from page_refusals import try_refusals
 from page_looks import Shown, try_keys, try_looks
 from random_logs import covered_instances, text_of
@@ -43,6 +44,8 @@ class Case:
         self.report = self.ask("run")
         self.order = [name_of(row) for row in self.report if row[0] == "reply"]
         self.read_graph()
+        lines = [json.loads(line) for log in logs for line in log.read_bytes().split(b"\n") if line]
+        self.ops = {f"{line['r']}.{line['i']}": line["ops"] for line in lines if is_committed(line)}
 
     def ask(self, word, *more):
         return answer(self.program, word, *more, *self.logs)
@@ -77,6 +80,14 @@ def name_of(row):
     return f"{row[1]}.{row[2]}"
 
 
+def shown_operation(op):
+    """An operation as the page has it, whose keys are in quotes where they are no plain words."""
+    keys = op[1:3] if op[0] == "copy" else op[1:2]
+    is_plain = lambda key: key.replace("_", "a").isalpha() and key != "null"
+    words = [key if is_plain(key) else json.dumps(key) for key in keys]
+    return " ".join([op[0], *words, *map(json.dumps, op[1 + len(keys) :])])
+
+
 def try_graph(told, shown, case):
     """Each box in turn has the focus: boxes, arrows, texts and frames must be those of epx."""
     styles = {"executed": "solid", "waiting": "dashed", "missing": "dotted"}
@@ -89,6 +100,12 @@ def try_graph(told, shown, case):
             told.expect("sets of arrows", set(map(tuple, box[word])), wanted)
     told.expect("sets of frames", shown.frames(), {
         leader: sorted(names) for leader, names in case.clusters.items()})  # fmt: skip
+    for box in boxes:
+        ops = [shown_operation(op) for op in case.ops.get(box["id"], [])]
+        told.expect("operations", box["all"], ops)
+        short = ops if len(ops) <= 3 else [*ops[:2], f"and {len(ops) - 2} more"]
+        short = short or ([] if box["kind"] == "missing" else ["no operations"])
+        told.expect("operations", box["ops"], short)
     ends = {name_of(row): f"{row[3]} {json.dumps(row[4])}"
             for row in case.report if row[0] == "reply"}  # fmt: skip
     ends |= {name_of(row): f"needs {row[3]}.{row[4]}"
@@ -230,6 +247,9 @@ def try_large(told, shown, program, rng, folder):
     told.expect("large pages", min(seconds) < MOST_SECONDS, True)
     told.expect("few elements", shown.count_boxes() < 200, True)
     try_list(told, shown, case)
+    for share in (0, 0.3, 0.999, 1):
+        for level in range(5):
+            told.expect("scrolls", shown.is_whole(level, share), True)
     positions = [0, len(case.order), *rng.sample(range(len(case.order)), POSITIONS)]
     try_stores(told, shown, case, positions)
     for name in (case.order[0], case.order[-1], case.order[len(case.order) // 2], *case.boxes):

@@ -41,7 +41,7 @@ module:
 | [docs/INSTALL.md](docs/INSTALL.md) | where the files go |
 | [examples/](examples/README.md) | logs with what epx prints of them |
 | `share/` | the manual page, completions, and all texts of help |
-| `tools/` | the Python module, `page` of [docs/CLI.md](docs/CLI.md#a-page), and `expand` and `texts` |
+| `tools/` | the Python module, `expand` and `texts`, and `page` of [CLI.md](docs/CLI.md#a-page) |
 | [PROVED.md](PROVED.md) | what is proved of the program, and what is trusted |
 | [CHANGELOG.md](CHANGELOG.md) | what each version can do |
 """

@@ -12,7 +12,7 @@ function idOrLink(id) {
 
 function showBlockers() {
   if (data.several === undefined) return;
-  const missing = boxes.filter((box) => box.kind === "missing");
+  const missing = boxes.filter((box) => box.alone !== undefined);
   missing.sort((a, b) => b.alone - a.alone || b.named - a.named || a.at - b.at);
   const several = counted(data.several, "instance waits", "instances wait");
   const all = `${several} for more than one missing instance.`;
@@ -44,14 +44,21 @@ function showFindings() {
   fill("findings", words, data.findings.map(findingItem));
 }
 
+// How many wait, as a link to the first of them.
+function waitingLink() {
+  if (!data.waiting) return "none waits";
+  const made = links([count])[0];
+  made.textContent = counted(data.waiting, "waits", "wait");
+  return made;
+}
+
 function showCounts() {
   const logs = data.logs.length === 1 ? data.logs[0] : `${data.logs.length} logs`;
   const title = `The execution of ${logs}`;
   document.title = `epx: ${title}`;
   document.getElementById("title").textContent = title;
   const parts = counted(data.components, "component", "components");
-  const waiting = data.waiting ? counted(data.waiting, "waits", "wait") : "none waits";
   const words = `${counted(count, "instance is", "instances are")} executed, in ${parts}`;
   const names = data.logs.length > 1 ? ` Logs: ${data.logs.join(", ")}.` : "";
-  document.getElementById("counts").textContent = `${words}; ${waiting}.${names}`;
+  document.getElementById("counts").replaceChildren(`${words}; `, waitingLink(), `.${names}`);
 }

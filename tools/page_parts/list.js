@@ -3,17 +3,16 @@ const HEADS = ["Position", "Instance", "Operations", "Reply", "Depends on", "Nee
   "Component", "Writes"];
 
 function listCells(box) {
-  const isExecuted = box.kind === "executed";
   const faults = box.faults ? ` (${box.faults.join(", ")})` : "";
   return [
-    isExecuted ? `${box.at}` : box.kind,
+    box.kind === "executed" ? `${box.at}` : box.kind,
     box.id,
     box.ops ? box.ops.join(", ") : "",
     outcome(box) + faults,
     names(box.deps).join(", "),
     names(box.users).join(", "),
     box.frame ?? "",
-    isExecuted && box.writes.length ? wroteWords(box) : "",
+    writeWords(box),
   ];
 }
 

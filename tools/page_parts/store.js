@@ -53,12 +53,12 @@ function moveStore(to) {
   if (position > 0) mark(boxes[position - 1], true);
 }
 
-function wroteWords(box) {
-  const words = box.writes.map(([key, after, before]) => {
-    if (before === after) return `${data.shown[key]} again, ${after ?? "absent"}`;
+// What a command wrote: each key with its value before and after.
+function writeWords(box) {
+  return box.writes.map(([key, after, before]) => {
+    if (before === after) return `${data.shown[key]}: ${after ?? "absent"} again`;
     return `${data.shown[key]}: ${before ?? "absent"} → ${after ?? "absent"}`;
-  });
-  return words.length ? `${box.id} wrote ${words.join("; ")}.` : `${box.id} wrote nothing.`;
+  }).join("; ");
 }
 
 function showPosition() {
@@ -69,7 +69,7 @@ function showPosition() {
   slider.value = position;
   slider.setAttribute("aria-valuetext", box ? `after ${words}, ${box.id}` : "the empty store");
   const isEmpty = current.every((value) => value === null);
-  const wrote = box ? wroteWords(box) : "Nothing is executed.";
+  const wrote = box ? `${box.id} wrote ${writeWords(box) || "nothing"}.` : "Nothing is executed.";
   document.getElementById("wrote").textContent = isEmpty ? `${wrote} The store is empty.` : wrote;
   document.getElementById("store").hidden = isEmpty;
 }
