@@ -47,9 +47,29 @@ STORE = """
   const slider = document.getElementById("position");
   slider.value = %d;
   slider.dispatchEvent(new Event("input"));
-  const rows = [...document.querySelectorAll("#store tbody tr")].filter((row) => !row.hidden);
+  const rows = [...document.querySelectorAll("#store tbody tr[data-key]")];
   return [rows.map((row) => [row.dataset.key, row.cells[1].textContent]),
     rows.filter((row) => row.className === "changed").map((row) => row.dataset.key)];
+})()
+"""
+# The rows of a long store, of which few are drawn, while it is scrolled.
+LONG_STORE = """
+(async () => {
+  const room = document.getElementById("store").parentElement, found = new Map();
+  let most = 0;
+  for (let top = 0; top < room.scrollHeight; top += room.clientHeight / 2) {
+    room.scrollTop = top;
+    await new Promise((done) => requestAnimationFrame(() => setTimeout(done)));
+    const { top: begin, bottom: end } = room.getBoundingClientRect();
+    const rows = [...room.querySelectorAll("tr[data-key]")];
+    most = Math.max(most, rows.length);
+    for (const row of rows) {
+      const rect = row.getBoundingClientRect();
+      if (rect.bottom <= begin || rect.top >= end) continue;
+      found.set(row.dataset.key, row.cells[1].textContent);
+    }
+  }
+  return [[...found], most];
 })()
 """
 FOCUS = """
@@ -118,7 +138,7 @@ SCROLLED = """
   const places = seen.map(([, at]) => at).sort((a, b) => a - b);
   const isWhole = places.every((at, index) => !index || at === places[index - 1] + 1);
   const rects = seen.map(([it]) => it);
-  const room = zoom().pitch + 2 * ZONE_GAP;
+  const room = zoom().pitch + 2 * ZONE_GAP + 2 * WORD;
   return isWhole && Math.min(...rects.map((it) => it.left)) < left + headWidth() + room
     && Math.max(...rects.map((it) => it.right)) > right - room;
 })()
@@ -157,6 +177,10 @@ class Shown(Browser):
 
     def store(self, position):
         return self.value(STORE % position)
+
+    def long_store(self):
+        """The rows of a store that is scrolled from its head to its end, and the most elements."""
+        return self.value(LONG_STORE)
 
     def focus(self, name):
         """Goes to a box by its name. Returns the arrows that are shown."""

@@ -23,6 +23,7 @@ from random_maps import Map, answer
 EXAMPLES = ("one", "operations", "replicas", "statuses", "unrelated", "arriving")
 FOLDERS = ("replicas", "bank", "halves")
 RANDOM, HISTORIES, LARGE, POSITIONS = 12, 12, 5_000, 20
+MANY_KEYS = 2_000
 # Opening took under a second where it was measured. A busy machine takes longer.
 MOST_SECONDS = 20
 EDGE = 2**63 - 1
@@ -237,6 +238,20 @@ def try_blockers(told, shown, program, folder):
     told.expect("pages with blockers", shown.blockers(), wanted)
 
 
+def try_long_store(told, shown, program, folder):
+    """A store of many keys, of which the page draws those that are near what is visible."""
+    path = folder / "keys"
+    keys = [f"k{at:04}" for at in range(MANY_KEYS)]
+    ops = [[["put", key, at] for at, key in enumerate(keys[begin : begin + 64], begin)]
+           for begin in range(0, MANY_KEYS, 64)]  # fmt: skip
+    lines = [{"r": 0, "i": at, "seq": at, "deps": [], "ops": put} for at, put in enumerate(ops)]
+    path.write_text("".join(json.dumps(line) + "\n" for line in lines))
+    case = Case(program, folder, [path])
+    shown.open(case.path)
+    rows, most = shown.long_store()
+    told.expect("long stores", [rows, most < MANY_KEYS], [case.store(len(case.order)), True])
+
+
 def try_large(told, shown, program, rng, folder):
     """Opens a page of many instances, and returns the seconds."""
     words = ["--instances", str(LARGE), "--seed", "7", "--out", folder / "bank"]
@@ -269,6 +284,7 @@ def try_pages(told, shown, program, rng, folder):
     say("histories of clients")
     try_histories(told, shown, program, rng, folder)
     try_blockers(told, shown, program, folder)
+    try_long_store(told, shown, program, folder)
     say("keys, colours and narrow windows")
     replicas = Case(program, folder, sorted((TOP / "examples/replicas").glob("*.jsonl")))
     try_keys(told, shown, replicas.path)

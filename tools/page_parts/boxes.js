@@ -108,7 +108,7 @@ function axisLabels(first, last) {
     if (kind === "executed" ? at % step : !isFirst) continue;
     const words = { waiting: "waiting", missing: "in no log" }[kind] ?? at.toLocaleString("en");
     const label = element("span", kind, words);
-    label.style.left = `${columnX(at)}px`;
+    label.style.left = `${kind === "missing" ? missingX() : columnX(at)}px`;
     if (kind !== "executed") label.style.width = "max-content";
     made.push(label);
   }

@@ -9,6 +9,7 @@ const ZOOMS = [
 const OPS_SHOWN = 3;
 const AXIS = 26;
 const ZONE_GAP = 18;
+const WORD = 60;
 const narrow = window.matchMedia("(max-width: 600px)");
 let level = narrow.matches ? 3 : 4;
 
@@ -36,8 +37,16 @@ function rectOf(box) {
   return { x: columnX(box.at), y, width, height };
 }
 
+// Where the word over the missing instances is. Between narrow boxes it may not meet the one over
+// those that wait.
+function missingX() {
+  const x = columnX(count + data.waiting);
+  return data.waiting ? Math.max(x, columnX(count) + WORD) : x;
+}
+
 function contentWidth() {
-  return columnX(boxes.length) + 2;
+  const isWaiting = boxes.length > count;
+  return Math.max(columnX(boxes.length) + 2, isWaiting ? missingX() + WORD : 0);
 }
 
 function contentHeight() {

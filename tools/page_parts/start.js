@@ -40,6 +40,7 @@ function listen() {
       draw(false);
     });
   });
+  storeRoom.addEventListener("scroll", scrollStore);
   window.addEventListener("resize", () => resize());
 }
 
@@ -47,7 +48,6 @@ function start() {
   grid.setAttribute("aria-rowcount", rows.length);
   grid.setAttribute("aria-colcount", boxes.length);
   grid.append(backdrop, ...rows, picture);
-  document.getElementById("store").tBodies[0].append(...storeRows);
   document.getElementById("position").max = count;
   const arrows = boxes.reduce((sum, box) => sum + box.deps.length, 0);
   allArrows.checked = arrows <= FEW_ARROWS;
