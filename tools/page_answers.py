@@ -23,13 +23,12 @@ def written_keys(ops):
 class Answers:
     """Asks epx about copies of logs, so that each answer is about the same bytes.
 
-    It has the rows of `run`, `order`, and, with a history, of `linear`; the text of `graph`; the
-    rows of `blockers`, or None where the program has no such subcommand; the operations of each
-    instance, by its Id; the calls of the history; and what each executed command wrote."""
+    It has the rows of `run` and `order`; the text of `graph`; the rows of `blockers`, or None where
+    the program has no such subcommand; the operations of each instance, by its Id; what each
+    executed command wrote; and, of a history, its calls and the rows of `linear`."""
 
-    def __init__(self, program, folder, logs, history):
-        self.program, self.folder, self.names = program, folder, {}
-        self.logs, self.history = [str(log) for log in logs], history and str(history)
+    def __init__(self, program, folder, logs):
+        self.program, self.folder, self.names, self.logs = program, folder, {}, logs
         self.copies = [self.copy(log) for log in self.logs]
         self.run = self.rows("run", "--explain", "--", *self.copies)
         if sum(self.run[0][1:4:2]) > MOST:
@@ -37,9 +36,7 @@ class Answers:
         self.order = self.rows("order", "--", *self.copies)
         self.graph = self.text("graph", "--", *self.copies)
         self.blockers = self.rows("blockers", "--", *self.copies) if self.has_blockers() else None
-        self.linear, self.calls = None, {}
-        if history:
-            self.ask_history()
+        self.history, self.linear, self.calls = None, None, {}
         self.ops = self.read_operations()
         self.writes = self.ask_writes()
 
@@ -86,9 +83,11 @@ class Answers:
         call = [self.program, "help", "blockers"]
         return subprocess.run(call, capture_output=True, check=False).returncode == 0
 
-    def ask_history(self):
-        copy = self.copy(self.history)
-        self.linear = self.rows("linear", "--explain", "--", copy, *self.copies)
+    def ask_history(self, history, skew):
+        """Reads a history, once epx took it, with the `--skew` of `linear` or None."""
+        self.history, copy = history, self.copy(history)
+        words = [] if skew is None else [f"--skew={skew}"]
+        self.linear = self.rows("linear", "--explain", *words, "--", copy, *self.copies)
         for line in self.lines(copy):
             self.calls[f"{line[1]}.{line[2]}"] = line[3:]
 
@@ -96,7 +95,7 @@ class Answers:
         """The values of the lines of a file that epx took."""
         with open(path, "rb") as file:
             texts = file.read().split(b"\n")
-        return [json.loads(text) for text in texts if not is_blank(text)]
+        return [json.loads(text.decode()) for text in texts if not is_blank(text)]
 
     def read_operations(self):
         """The operations of each committed instance. All lines of one have the same."""

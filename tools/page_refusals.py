@@ -15,6 +15,8 @@ REFUSED = (
     (["log", "--out", "log"], 2, "tools/page: log is log, which would be overwritten"),
     (["log", "--out", "link"], 2, "tools/page: link is log, which would be overwritten"),
     (["log", "--history", "past", "--out", "past"], 2, "tools/page: past is past, which would"),
+    (["log", "--skew", "1", "--out", "made"], 2, "tools/page: --skew is for a HISTORY, and none"),
+    (["log", "--history", "past", "--skew", "x", "--out", "made"], 2, "error: invalid value 'x'"),
     (["log", "--out", "folder"], 2, "tools/page: folder is no file"),
     (["log", "--out", "/dev/null"], 2, "tools/page: /dev/null is no file"),
     (["log", "--out", "log/made"], 1, "tools/page: "),

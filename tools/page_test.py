@@ -35,11 +35,12 @@ KEYS = ["</script><script>throw 1</script>", "<!--", "&lt;", '"', "\\", "a b", "
 class Case:
     """Logs with a page of them, and what epx says of them."""
 
-    def __init__(self, program, folder, logs, history=None):
+    def __init__(self, program, folder, logs, history=None, skew=()):
         self.program, self.folder, self.logs, self.history = program, folder, logs, history
         self.path, self.list = folder / "page.html", folder / "list"
         self.path.unlink(missing_ok=True)
-        words = ["--history", history] if history else []
+        words = ["--history", history, *skew] if history else []
+        self.skew = skew
         call = [TOP / "tools/page", *words, *logs, "--out", self.path, "--program", program]
         subprocess.run(call, stderr=subprocess.DEVNULL, check=True)
         self.report = self.ask("run")
@@ -190,7 +191,7 @@ def edge_logs(folder):
 def try_history(told, shown, case):
     """The page of a history must have what `linear` finds, each late call with its arrow."""
     shown.open(case.path)
-    rows = [row for row in case.ask("linear", case.history) if row[0] != "linear"]
+    rows = [row for row in case.ask("linear", *case.skew, case.history) if row[0] != "linear"]
     late = {(f"{row[1]}.{row[2]}", f"{row[3]}.{row[4]}") for row in rows if row[0] == "late"}
     told.expect("late arrows", shown.late_arrows(), late)
     wanted = {}
@@ -214,7 +215,8 @@ def try_histories(told, shown, program, rng, folder):
         others = sorted(given.entries.keys() - {*given.order}) + [(7, 0), (9, 9)]
         log.write_text(given.text())
         history.write_text(history_of(rng, random_calls(rng, done, others)))
-        try_history(told, shown, Case(program, folder, [log], history))
+        skew = rng.choice([[], ["--skew", "1"]])
+        try_history(told, shown, Case(program, folder, [log], history, skew))
 
 
 def try_blockers(told, shown, program, folder):

@@ -10,6 +10,7 @@ let region = null;
 const rows = data.lanes.map((replica, at) => {
   const head = element("div", "head", element("b", "", `${replica}`));
   head.setAttribute("role", "rowheader");
+  head.setAttribute("aria-colindex", 1);
   head.setAttribute("aria-label", `replica ${replica}`);
   const committed = lanes[at].filter((place) => boxes[place].kind !== "missing").length;
   head.append(element("span", "count", counted(committed, "instance", "instances")));
@@ -53,7 +54,7 @@ function makeBox(box) {
   made.dataset.at = box.at;
   made.dataset.id = box.id;
   made.setAttribute("role", "gridcell");
-  made.setAttribute("aria-colindex", box.at + 1);
+  made.setAttribute("aria-colindex", box.at + 2);
   made.setAttribute("aria-label", sentence(box));
   made.style.left = `${columnX(box.at)}px`;
   return made;

@@ -46,7 +46,7 @@ function listen() {
 
 function start() {
   grid.setAttribute("aria-rowcount", rows.length);
-  grid.setAttribute("aria-colcount", boxes.length);
+  grid.setAttribute("aria-colcount", boxes.length + 1);
   grid.append(backdrop, ...rows, picture);
   document.getElementById("position").max = count;
   const arrows = boxes.reduce((sum, box) => sum + box.deps.length, 0);
