@@ -6,7 +6,7 @@ import tempfile
 
 from browser import find_browser
 from command_line import TOP, stop
-from page_looks import Shown
+from page_shown import Shown
 from page_test import Case
 
 SIZE = 1530, 1100

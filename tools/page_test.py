@@ -9,14 +9,14 @@ import re
 import subprocess
 import tempfile
 
-import page_looks
 from browser import find_browser
 from command_line import TOP, counted, say
 from executions import Tally, execute
 from histories import Executed, history_of, random_calls
 from logs import is_committed
+from page_looks import try_keys, try_looks
 from page_refusals import try_refusals
-from page_looks import Shown, try_keys, try_looks
+from page_shown import Shown
 from random_logs import covered_instances, text_of
 from random_maps import Map, answer
 
@@ -82,12 +82,22 @@ def name_of(row):
     return f"{row[1]}.{row[2]}"
 
 
+def shown_key(key):
+    """A key as the page has it: in quotes where it is no plain word."""
+    is_plain = key.replace("_", "a").isalpha() and key != "null"
+    return key if is_plain else json.dumps(key)
+
+
 def shown_operation(op):
-    """An operation as the page has it, whose keys are in quotes where they are no plain words."""
     keys = op[1:3] if op[0] == "copy" else op[1:2]
-    is_plain = lambda key: key.replace("_", "a").isalpha() and key != "null"
-    words = [key if is_plain(key) else json.dumps(key) for key in keys]
-    return " ".join([op[0], *words, *map(json.dumps, op[1 + len(keys) :])])
+    return " ".join([op[0], *map(shown_key, keys), *map(json.dumps, op[1 + len(keys) :])])
+
+
+def written_keys(ops):
+    """The keys that operations write, each once, in the order of the operations."""
+    keys = [op[-1] if op[0] == "copy" else op[1] for op in ops
+            if op[0] in ("put", "del", "add", "copy")]  # fmt: skip
+    return list(dict.fromkeys(keys))
 
 
 def try_graph(told, shown, case):
@@ -126,6 +136,21 @@ def try_list(told, shown, case):
         told.expect("lists", found, case.arrows)
 
 
+def wrote_words(case, position):
+    """What the page says of the last of so many instances: what it wrote, by the stores before it
+    and after it."""
+    end = "" if case.store(position) else " The store is empty."
+    if not position:
+        return f"Nothing is executed.{end}"
+    name, parts = case.order[position - 1], []
+    before, after = (dict(case.store(at)) for at in (position - 1, position))
+    is_abort = any(row[3] == "abort" for row in case.report if name_of(row) == name)
+    for key in [] if is_abort else written_keys(case.ops[name]):
+        old, new = before.get(key, "absent"), after.get(key, "absent")
+        parts.append(f"{shown_key(key)}: {f'{new} again' if old == new else f'{old} → {new}'}")
+    return f"{name} wrote {'; '.join(parts) or 'nothing'}.{end}"
+
+
 def try_stores(told, shown, case, positions):
     """The slider must show the store that `replay` prints, and mark what changed since the position
     before."""
@@ -133,7 +158,8 @@ def try_stores(told, shown, case, positions):
         before = case.store(position - 1) if position else []
         wanted = case.store(position)
         changed = [pair[0] for pair in wanted if pair not in before]
-        told.expect("stores", shown.store(position), [wanted, changed])
+        words = wrote_words(case, position)
+        told.expect("stores", shown.store(position), [wanted, changed, words])
 
 
 def all_positions(case, rng):
@@ -306,7 +332,7 @@ def test(program, seed):
         folder = pathlib.Path(room)
         try_refusals(told, program, folder / "refusals")
         if name:
-            with page_looks.Shown(name) as shown:
+            with Shown(name) as shown:
                 seconds = try_pages(told, shown, program, rng, folder)
             more = f"{LARGE:,} instances open in {seconds:.1f} s"
     print(f"tools/page: seed {seed}: {told.text()}; {more}")
