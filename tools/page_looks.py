@@ -87,6 +87,10 @@ def try_keys(told, shown, path):
     shown.value("document.querySelector('header .link').click()")
     told.expect("keys", shown.value(ACTIVE), "2.1")
     shown.press("Escape")
+    shown.value("focusBox(2)")
+    shown.resize(900, 700)
+    told.expect("keys", shown.value(f"resize(), {ACTIVE}"), "0.1")
+    shown.press("Escape")
     try_pointer(told, shown)
     told.expect("consoles", shown.take_errors(), [])
 

@@ -87,11 +87,12 @@ function syncBoxes(first, last) {
 
 function markBoxes() {
   const box = boxes[selected()];
+  const deps = new Set(box?.deps), users = new Set(box?.users);
   for (const [at, made] of drawn) {
     made.tabIndex = at === state.active ? 0 : -1;
     made.classList.toggle("selected", box !== undefined && at === box.at);
-    made.classList.toggle("is-dep", box !== undefined && box.deps.includes(at));
-    made.classList.toggle("is-user", box !== undefined && box.users.includes(at));
+    made.classList.toggle("is-dep", deps.has(at));
+    made.classList.toggle("is-user", users.has(at));
     made.setAttribute("aria-selected", box !== undefined && at === box.at);
   }
 }

@@ -68,6 +68,7 @@ function draw(isForced) {
 
 // Draws all anew after a change of sizes.
 function resize() {
+  const hasFocus = drawn.get(state.active) === document.activeElement;
   for (const made of drawn.values()) made.remove();
   drawn.clear();
   const { width, height, lane, shows } = zoom();
@@ -85,4 +86,5 @@ function resize() {
   document.getElementById("smaller").disabled = level === 0;
   document.getElementById("larger").disabled = level === ZOOMS.length - 1;
   draw(true);
+  if (hasFocus) drawn.get(state.active).focus({ preventScroll: true });
 }
