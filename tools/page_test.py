@@ -27,6 +27,9 @@ MANY_KEYS = 2_000
 # Opening took under a second where it was measured. A busy machine takes longer.
 MOST_SECONDS = 20
 EDGE = 2**63 - 1
+# Instances of which all wait, each with its dependencies, and what `blockers` says of them.
+BLOCKED = ((0, 0, [[6, 0]]), (0, 1, [[0, 0]]), (1, 0, [[5, 0]]), (2, 0, [[5, 0], [6, 0]]))
+BLOCKERS = [["blocks", 5, 0, 1, 2], ["blocks", 6, 0, 2, 2], ["several", 1]]
 # Keys that could end an element of HTML or a text, or turn what is beside them.
 KEYS = ["</script><script>throw 1</script>", "<!--", "&lt;", '"', "\\", "a b", "@data@", "\0\n\t",
         "\u202eabc", "\u2028", "ключ", "鍵", "__proto__", "x" * 64, "null"]  # fmt: skip
@@ -246,24 +249,36 @@ def try_histories(told, shown, program, rng, folder):
 
 
 def try_blockers(told, shown, program, folder):
-    """What to recover first must be what `blockers` says. A program that has no such subcommand
-    gets one here, which says it of the example."""
-    logs = sorted((TOP / "examples/replicas").glob("*.jsonl"))
-    call = [program, "help", "blockers"]
-    if subprocess.run(call, capture_output=True, check=False).returncode:
-        stub = folder / "epx"
-        lines = '["blocks",2,2,1,1]\n["several",0]'
-        stub.write_text(f"#!/bin/sh\ncase \"$1 $2\" in 'help blockers') exit 0;; blockers*)\n"
-                        f"echo '{lines}'; exit 0;; esac\nexec '{program}' \"$@\"\n")  # fmt: skip
-        stub.chmod(0o755)
-        shown.open(Case(program, folder, logs).path)
+    """What to recover first must be what `blockers` says, the one that blocks most first. A program
+    that has no such subcommand gets one here, which says it of this log."""
+    path = folder / "blocked"
+    path.write_text("".join(
+        json.dumps({"r": r, "i": i, "seq": 0, "deps": deps, "ops": []}) + "\n"
+        for r, i, deps in BLOCKED))  # fmt: skip
+    if not has_blockers(program):
+        shown.open(Case(program, folder, [path]).path)
         told.expect("pages without blockers", shown.blockers(), None)
-        program = str(stub)
-    case = Case(program, folder, logs)
+        program = with_blockers(program, folder / "epx")
+    case = Case(program, folder, [path])
+    told.expect("answers of blockers", case.ask("blockers"), BLOCKERS)
     shown.open(case.path)
-    rows = [row for row in case.ask("blockers") if row[0] == "blocks"]
+    rows = sorted(BLOCKERS[:-1], key=lambda row: -row[3])
     wanted = [[name_of(row), f"blocks {row[3]}, named by {row[4]}"] for row in rows]
     told.expect("pages with blockers", shown.blockers(), wanted)
+
+
+def has_blockers(program):
+    call = [program, "help", "blockers"]
+    return subprocess.run(call, capture_output=True, check=False).returncode == 0
+
+
+def with_blockers(program, path):
+    """A program that has the subcommand, with one answer."""
+    lines = "\n".join(map(json.dumps, BLOCKERS))
+    path.write_text(f"#!/bin/sh\ncase \"$1 $2\" in 'help blockers') exit 0;; blockers*)\n"
+                    f"echo '{lines}'; exit 0;; esac\nexec '{program}' \"$@\"\n")  # fmt: skip
+    path.chmod(0o755)
+    return str(path)
 
 
 def try_long_store(told, shown, program, folder):
