@@ -308,6 +308,7 @@ def try_large(told, shown, program, rng, folder):
     for share in (0, 0.3, 0.999, 1):
         for level in range(5):
             told.expect("scrolls", shown.is_whole(level, share), True)
+    told.expect("few elements", shown.count_boxes() < 200, True)
     positions = [0, len(case.order), *rng.sample(range(len(case.order)), POSITIONS)]
     try_stores(told, shown, case, positions)
     for name in (case.order[0], case.order[-1], case.order[len(case.order) // 2], *case.boxes):
