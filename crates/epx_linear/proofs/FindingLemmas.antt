@@ -13,7 +13,6 @@ use Rattle.epx_types.proofs.Common.{Contains-cons, Contains-head, Contains-map}
 use Rattle.epx_types.proofs.Common.{Contains-filter, id_cmp, is_among}
 use Rattle.epx_types.proofs.Common.{is_among_cases, length-map, match_ordering, slice_get_within}
 use Rattle.epx_types.proofs.Common.{slice_get-get_or}
-use Rattle.epx_types.specs.declared.command.Command.{Command}
 use Rattle.epx_types.specs.declared.id.Id.{Id}
 use Rattle.epx_types.specs.declared.op.Op.{Op}
 use Rattle.epx_types.specs.declared.reply.Reply.{Reply}
@@ -317,13 +316,12 @@ module _ (ids : List Id) (commands : List (List Op)) (replies : List Reply)
 
 -- ---- texts as they are written
 
-pub none_zipped : (commands : List Command) (replies : List Reply)
-    → (length commands ≡ 0) ⊎ (length replies ≡ 0)
-    → length (zip (map (λ c. c.id) commands) replies) ≡ 0
+pub none_zipped : (ids : List Id) (replies : List Reply)
+    → (length ids ≡ 0) ⊎ (length replies ≡ 0) → length (zip ids replies) ≡ 0
 none_zipped [] replies e = refl
-none_zipped (c ∷ commands) [] e = refl
-none_zipped (c ∷ commands) (r ∷ replies) (inl e) = absurd (cc e)
-none_zipped (c ∷ commands) (r ∷ replies) (inr e) = absurd (cc e)
+none_zipped (x ∷ ids) [] e = refl
+none_zipped (x ∷ ids) (r ∷ replies) (inl e) = absurd (cc e)
+none_zipped (x ∷ ids) (r ∷ replies) (inr e) = absurd (cc e)
 
 pub or_linear-none : (text : List ℕ) → length text ≡ 0 → linear_line ≡ or_linear text
 or_linear-none [] e = refl

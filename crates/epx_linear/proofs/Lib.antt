@@ -9,7 +9,10 @@ pub mod AnswerLemmas
 pub mod LinearLemmas
 pub mod FoundExistsLemmas
 mod CallLineLemmas
+mod CallRowLemmas
+mod CallTokenLemmas
 mod CallTableLemmas
+mod SpanRankLemmas
 mod LostCallLemmas
 pub mod SkewLemmas
 pub mod HistoryLemmas

@@ -1,122 +1,178 @@
--- Instances marked as executed, by their positions in a table.
-use Rattle.std.proofs.Common.{◌≡◌, ◌≢◌, ◌⊎◌, inl, inr, ℕ, zero, suc, Bool, true, false}
-use Rattle.std.proofs.Common.{List, [], ◌∷◌, ◌++◌, length, map, get_or, set, replicate, Some}
-use Rattle.std.proofs.Common.{Contains, AllPairs, slice_get, refl, sym, ap, ap₂, subst}
-use Rattle.std.proofs.Common.{◌∙◌, zip, filter, arith}
+-- Instances marked as executed, by the places of their calls.
+use Rattle.std.proofs.Common.{◌≡◌, ◌≢◌, ◌⊎◌, inl, inr, ℕ, suc, ◌<◌, Bool, true, false}
+use Rattle.std.proofs.Common.{List, [], ◌∷◌, ◌++◌, length, map, get_or, set, replicate, Option}
+use Rattle.std.proofs.Common.{Some, None, option_and_then, Contains, slice_get, refl, sym, ap, ap₂}
+use Rattle.std.proofs.Common.{subst, ◌∙◌, zip, filter, arith}
 use Rattle.epx_types.proofs.Common.{is_among, is_among_cases, Contains-append_left}
 use Rattle.epx_types.proofs.Common.{Contains-append_right, Contains-append_cases, Contains-head}
-use Rattle.epx_types.proofs.Common.{Contains-slice_get}
+use Rattle.epx_types.proofs.Common.{Contains-slice_get, slice_get-from_Contains}
+use Rattle.epx_types.proofs.Common.{slice_get-from_map, slice_get-get_or, get_or_from_slice_get}
 use Rattle.epx_types.proofs.Common.{Contains-cons_cases, Contains-nil, length-set, length-map}
 use Rattle.epx_types.proofs.Common.{get_or-set_same, get_or-set_other, slice_get_within, cases_eq}
-use Rattle.epx_types.proofs.Common.{length-replicate, get_or-replicate}
-use Rattle.epx_types.proofs.Common.{cases_Bool}
+use Rattle.epx_types.proofs.Common.{length-replicate, get_or-replicate, cases_Bool}
+use Rattle.epx_types.proofs.lists.ListPositionLemmas.{slice_get-map}
 use Rattle.epx_lines.specs.DependencyList.{rising_ids}
 use Rattle.epx_types.specs.declared.id.Id.{Id}
 use Rattle.epx_linear.specs.declared.client_call.ClientCall.{ClientCall}
+use Rattle.epx_linear.specs.ClientCalls.{IsHistory, HasCall, call_of, calls_at, calls_in}
 use Rattle.epx_linear.specs.LinearTexts.{is_lost, lost_ids}
 use Rattle.epx_linear.specs.inner.HistoryReadings.{called_ids}
-use Rattle.epx_linear.specs.inner.MarkedCalls.{unmarked_ids}
-use Rattle.epx_linear.proofs.RankLemmas.{position_is}
+use Rattle.epx_linear.specs.inner.MarkedCalls.{AreMarked, unmarked_ids}
+use Rattle.epx_linear.proofs.RankLemmas.{call_of-found, call_of-finds, one_place, place_of_call}
 
--- an Id is marked exactly if it is among these
-abbrev pub AreMarked : List Id → List Id → List Bool → Type 0
-AreMarked keys xs marks = marks ≡ map (is_among xs) keys
+-- ---- marks
 
-marks_at : (keys xs : List Id) (marks : List Bool) → length marks ≡ length keys
-    → ((j : ℕ) (y : Id) → slice_get keys j ≡ Some y → (d : Bool) → get_or marks j d ≡ is_among xs y)
-    → AreMarked keys xs marks
-marks_at [] xs [] len each = refl
-marks_at [] xs (b ∷ marks) len each = absurd (omega (arith, len))
-marks_at (y ∷ keys) xs [] len each = absurd (omega (arith, len))
-marks_at (y ∷ keys) xs (b ∷ marks) len each =
-    ap₂ (λ c cs. c ∷ cs) (each 0 y refl b)
-    (marks_at keys xs marks (omega (arith, len)) (λ j z at d. each (suc j) z at d))
+-- no call is marked
+pub none_marked : (n : ℕ) → AreMarked n [] (replicate n false)
+none_marked n = record {
+  whole = length-replicate n false;
+  each = λ j low. inr (
+    slice_get-get_or (replicate n false) j false (omega (arith, low, length-replicate n false))
+        ∙ ap Some (get_or-replicate n j false false low),
+    Contains-nil (Some j),
+  );
+}
 
-mark_at : (keys xs : List Id) (j : ℕ) (y : Id) (d : Bool) → slice_get keys j ≡ Some y
-    → get_or (map (is_among xs) keys) j d ≡ is_among xs y
-mark_at [] xs j y d at = absurd (cc at)
-mark_at (z ∷ keys) xs zero y d at = let same : z ≡ y = cc at in ap (is_among xs) same
-mark_at (z ∷ keys) xs (suc j) y d at = mark_at keys xs j y d at
+-- one more place
+module _ (n : ℕ) (places : List (Option ℕ)) (place : Option ℕ) (marks : List Bool)
+    (are : AreMarked n places marks) where
+  earlier : (j : ℕ) → Contains places (Some j) → Contains (places ++ place ∷ []) (Some j)
+  earlier j has = Contains-append_left places (place ∷ []) (Some j) has
 
--- one more Id
-same_answer : (xs ys : List Id) (y : Id) → (Contains xs y → Contains ys y)
-    → (Contains ys y → Contains xs y) → is_among xs y ≡ is_among ys y
-same_answer xs ys y to from =
-    elim (is_among_cases xs y) [
-      | inl found ↦ elim (is_among_cases ys y) [
-        | inl also ↦ found.0 ∙ sym also.0
-        | inr none ↦ absurd (none.1 (to found.1))
+  not_among : (j : ℕ) → place ≢ Some j → (¬ Contains places (Some j))
+      → ¬ Contains (places ++ place ∷ []) (Some j)
+  not_among j other none has =
+      elim (Contains-append_cases places (place ∷ []) (Some j) has) [
+        | inl old ↦ none old
+        | inr new ↦ elim (Contains-cons_cases place [] (Some j) new) [
+          | inl same ↦ other same
+          | inr later ↦ Contains-nil (Some j) later
+        ]
       ]
-      | inr none ↦ elim (is_among_cases ys y) [
-        | inl found ↦ absurd (none.1 (from found.1))
-        | inr also ↦ none.0 ∙ sym also.0
+
+  -- no call is at it
+  pub not_marked : ((j : ℕ) → j < n → place ≢ Some j) → AreMarked n (places ++ place ∷ []) marks
+  not_marked other = record {
+    whole = are.whole;
+    each = λ j low. elim (are.each j low) [
+      | inl there ↦ inl (there.0, earlier j there.1)
+      | inr absent ↦ inr (absent.0, not_among j (other j low) absent.1)
+    ];
+  }
+
+  -- the call at it is marked
+  pub marked : (k : ℕ) → place ≡ Some k → k < n
+      → AreMarked n (places ++ place ∷ []) (set marks k true)
+  marked k is within = record {
+    whole = length-set marks k true ∙ are.whole;
+    each = λ j low. elim (cases_eq j k) [
+      | inl same ↦ inl (
+        slice_get-get_or (set marks k true) j false
+            (omega (arith, low, are.whole, length-set marks k true))
+            ∙ ap Some (ap (λ i. get_or (set marks k true) i false) same
+            ∙ get_or-set_same marks k true false (omega (arith, within, are.whole))),
+        subst (Contains (places ++ place ∷ [])) (is ∙ ap Some (sym same))
+            (Contains-append_right places (place ∷ []) place (Contains-head place [])),
+      )
+      | inr other ↦ elim (are.each j low) [
+        | inl there ↦ inl (kept j low other true there.0, earlier j there.1)
+        | inr absent ↦ inr (
+          kept j low other false absent.0,
+          not_among j (λ e. let both : Some k ≡ Some j = sym is ∙ e in other (sym (cc both)))
+              absent.1,
+        )
       ]
-    ]
-
-among_other : (xs : List Id) (x y : Id) → x ≢ y → is_among xs y ≡ is_among (xs ++ x ∷ []) y
-among_other xs x y apart = same_answer xs (xs ++ x ∷ []) y
-    (Contains-append_left xs (x ∷ []) y)
-    (λ has. elim (Contains-append_cases xs (x ∷ []) y has) [
-      | inl old ↦ old
-      | inr new ↦ elim (Contains-cons_cases x [] y new) [
-        | inl same ↦ absurd (apart same)
-        | inr later ↦ absurd (Contains-nil y later)
-      ]
-    ])
-
-among_last : (xs : List Id) (x : Id) → is_among (xs ++ x ∷ []) x ≡ true
-among_last xs x =
-    elim (is_among_cases (xs ++ x ∷ []) x) [
-      | inl found ↦ found.0
-      | inr none ↦ absurd (none.1
-          (Contains-append_right xs (x ∷ []) x (Contains-head x [])))
-    ]
-
-module _ (keys xs : List Id) (x : Id) (marks : List Bool) (are : AreMarked keys xs marks) where
-  -- the Id has no position, so no mark changes
-  pub not_marked : (¬ Contains keys x) → AreMarked keys (xs ++ x ∷ []) marks
-  not_marked absent = marks_at keys (xs ++ x ∷ []) marks
-      (ap length are ∙ length-map keys (is_among xs)) (λ j y at d.
-      ap (λ (bs : List Bool). get_or bs j d) are ∙ mark_at keys xs j y d at
-      ∙ among_other xs x y (λ same. absent (subst (Contains keys) (sym same)
-      (Contains-slice_get keys j y at))))
-
-  -- the mark at its position is set
-  pub marked : (k : ℕ) → AllPairs (λ v w. v ≢ w) keys → slice_get keys k ≡ Some x
-      → AreMarked keys (xs ++ x ∷ []) (set marks k true)
-  marked k once here = marks_at keys (xs ++ x ∷ []) (set marks k true)
-      (length-set marks k true ∙ len) (λ j y at d.
-      elim (cases_eq j k) [
-        | inl same ↦
-            let both : Some y ≡ Some x = sym at ∙ ap (slice_get keys) same ∙ here in
-            let alike : y ≡ x = cc both in
-            ap (λ i. get_or (set marks k true) i d) same
-            ∙ get_or-set_same marks k true d
-            (omega (arith, slice_get_within keys k x here, len))
-            ∙ sym (ap (is_among (xs ++ x ∷ [])) alike ∙ among_last xs x)
-        | inr other ↦
-            get_or-set_other marks k j true d other
-            ∙ ap (λ (bs : List Bool). get_or bs j d) are ∙ mark_at keys xs j y d at
-            ∙ among_other xs x y (λ same. other
-            (one_place k j (subst (λ z. slice_get keys k ≡ Some z) same here) at))
-      ])
+    ];
+  }
     where
-      len : length marks ≡ length keys
-      len = ap length are ∙ length-map keys (is_among xs)
+      kept : (j : ℕ) → j < n → j ≢ k → (b : Bool) → slice_get marks j ≡ Some b
+          → slice_get (set marks k true) j ≡ Some b
+      kept j low other b read = slice_get-get_or (set marks k true) j false
+          (omega (arith, low, are.whole, length-set marks k true))
+          ∙ ap Some (get_or-set_other marks k j true false other
+          ∙ get_or_from_slice_get marks j b false read)
 
-      one_place : {y : Id} (k j : ℕ) → slice_get keys k ≡ Some y → slice_get keys j ≡ Some y
-          → j ≡ k
-      one_place {y} k j p q =
-          let both : Some k ≡ Some j =
-          sym (position_is keys once y k p) ∙ position_is keys once y j q in
-          sym (cc both)
+-- ---- marks by the places of instances
 
--- none is marked
-pub none_marked : (keys : List Id) (n : ℕ) → n ≡ length keys
-    → AreMarked keys [] (replicate n false)
-none_marked keys n len = marks_at keys [] (replicate n false) (length-replicate n false ∙ len)
-    (λ j y at d. get_or-replicate n j false d
-    (omega (arith, len, slice_get_within keys j y at)))
+module _ (h : List ClientCall) (history : IsHistory h) (places : List (Option ℕ)) (ids : List Id)
+    (same : calls_at h places ≡ calls_in h ids) where
+  -- the call at a place is that of one of the instances
+  called_if_placed : (j : ℕ) (c : ClientCall) → slice_get h j ≡ Some c
+      → Contains places (Some j) → Contains ids c.id
+  called_if_placed j c at has =
+      let from = slice_get-from_Contains places (Some j) has in
+      let read : slice_get (calls_in h ids) from.0 ≡ Some (Some c) =
+      subst (λ (l : List (Option ClientCall)). slice_get l from.0 ≡ Some (Some c)) same
+      (slice_get-map (option_and_then (slice_get h)) places from.0 (Some j) from.1
+      ∙ ap Some at) in
+      let x = slice_get-from_map (call_of h) ids from.0 (Some c) read in
+      subst (Contains ids) (sym (call_of-found h x.0 c x.2).1)
+      (Contains-slice_get ids from.0 x.0 x.1)
+
+  -- the call of an instance is at one of the places
+  placed_if_called : (j : ℕ) (c : ClientCall) → slice_get h j ≡ Some c
+      → Contains ids c.id → Contains places (Some j)
+  placed_if_called j c at has =
+      let from = slice_get-from_Contains ids c.id has in
+      let read : HasCall (calls_at h places) from.0 c =
+      subst (λ (l : List (Option ClientCall)). slice_get l from.0 ≡ Some (Some c)) (sym same)
+      (slice_get-map (call_of h) ids from.0 c.id from.1
+      ∙ ap Some (call_of-finds h history c (Contains-slice_get h j c at))) in
+      let place = place_of_call h places from.0 c read in
+      let one : place.0 ≡ j = one_place h history place.0 j c c place.2 at refl in
+      subst (λ k. Contains places (Some k)) one
+      (Contains-slice_get places from.0 (Some place.0) place.1)
+
+  pub marks_are : (marks : List Bool) → AreMarked (length h) places marks
+      → marks ≡ map (is_among ids) (called_ids h)
+  marks_are marks are = by_positions marks (map (is_among ids) (called_ids h))
+      (are.whole ∙ sym (length-map (called_ids h) (is_among ids)
+      ∙ length-map h (λ (c : ClientCall). c.id))) (λ j b read.
+      let low : j < length h = omega (arith, slice_get_within marks j b read, are.whole) in
+      let c : ClientCall = get_or h j none in
+      let at : slice_get h j ≡ Some c = slice_get-get_or h j none low in
+      slice_get-map (is_among ids) (called_ids h) j c.id
+      (slice_get-map (λ (c : ClientCall). c.id) h j c at)
+      ∙ ap Some (elim (are.each j low) [
+        | inl there ↦ among_yes c.id (called_if_placed j c at there.1)
+            ∙ bit j true b there.0 read
+        | inr absent ↦ among_no c.id (λ has. absent.1 (placed_if_called j c at has))
+            ∙ bit j false b absent.0 read
+      ]))
+    where
+      none : ClientCall
+      none = record {
+        id = record { replica = 0; number = 0 };
+        invoked = 0;
+        returned = None;
+        answer = None;
+      }
+
+      among_yes : (x : Id) → Contains ids x → is_among ids x ≡ true
+      among_yes x has = elim (is_among_cases ids x) [
+        | inl found ↦ found.0
+        | inr absent ↦ absurd (absent.1 has)
+      ]
+
+      among_no : (x : Id) → (¬ Contains ids x) → is_among ids x ≡ false
+      among_no x absent = elim (is_among_cases ids x) [
+        | inl found ↦ absurd (absent found.1)
+        | inr not_there ↦ not_there.0
+      ]
+
+      bit : (j : ℕ) (a b : Bool) → slice_get marks j ≡ Some a → slice_get marks j ≡ Some b → a ≡ b
+      bit j a b p q = let both : Some a ≡ Some b = sym p ∙ q in cc both
+
+      by_positions : (xs ys : List Bool) → length xs ≡ length ys
+          → ((j : ℕ) (b : Bool) → slice_get xs j ≡ Some b → slice_get ys j ≡ Some b) → xs ≡ ys
+      by_positions [] [] len each = refl
+      by_positions [] (y ∷ ys) len each = absurd (omega (arith, len))
+      by_positions (x ∷ xs) [] len each = absurd (omega (arith, len))
+      by_positions (x ∷ xs) (y ∷ ys) len each =
+          let first : Some y ≡ Some x = each 0 x refl in
+          let head : x ≡ y = sym (cc first) in
+          ap₂ (λ b bs. b ∷ bs) head
+          (by_positions xs ys (omega (arith, len)) (λ j b read. each (suc j) b read))
 
 -- ---- calls with their marks
 
@@ -138,10 +194,9 @@ unmarked_are_lost ids (c ∷ h) =
       | inr kept ↦ rw kept (unmarked_are_lost ids h)
     ]
 
-pub lost_by_marks : (ids keys : List Id) (h : List ClientCall) (marks : List Bool)
-    (lost : List Id) → keys ≡ called_ids h → marks ≡ map (is_among ids) keys
-    → lost ≡ rising_ids (unmarked_ids (zip h marks)) → lost ≡ lost_ids ids h
-lost_by_marks ids keys h marks lost are_keys are_marks is =
-    is ∙ ap (λ bs. rising_ids (unmarked_ids (zip h bs)))
-    (are_marks ∙ ap (map (is_among ids)) are_keys)
+pub lost_by_marks : (ids : List Id) (h : List ClientCall) (marks : List Bool) (lost : List Id)
+    → marks ≡ map (is_among ids) (called_ids h) → lost ≡ rising_ids (unmarked_ids (zip h marks))
+    → lost ≡ lost_ids ids h
+lost_by_marks ids h marks lost are_marks is =
+    is ∙ ap (λ bs. rising_ids (unmarked_ids (zip h bs))) are_marks
     ∙ ap rising_ids (unmarked_are_lost ids h)

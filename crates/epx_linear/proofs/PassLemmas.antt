@@ -8,10 +8,10 @@ use Rattle.epx_types.specs.declared.op.Op.{Op}
 use Rattle.epx_apply.specs.KeyTables.{Table, IsKeyTableOf, IsLeastAbove}
 use Rattle.epx_linear.specs.declared.client_call.ClientCall.{ClientCall}
 use Rattle.epx_linear.specs.declared.spans.Span.{Span}
-use Rattle.epx_linear.specs.ClientCalls.{IsHistory, IsInvokedUpTo, calls_in}
+use Rattle.epx_linear.specs.ClientCalls.{IsHistory, IsInvokedUpTo, calls_at}
 use Rattle.epx_linear.specs.LateCalls.{IsFoundLate, AreFoundLate}
 use Rattle.epx_linear.specs.inner.Spans.{id_of_span, times_of_call, times_of_span}
-use Rattle.epx_linear.specs.inner.Spans.{AreSpansOf, IsLateRank}
+use Rattle.epx_linear.specs.inner.Spans.{AreSpansOf, AreRanksOf, IsLateRank}
 use Rattle.epx_linear.proofs.LatestLemmas.{IsGreatest, HaveGreatest, next_greatest}
 use Rattle.epx_linear.proofs.LatestLemmas.{one_more_greatest}
 use Rattle.epx_linear.proofs.RankLemmas.{own_rank, rank_of_call, call_of_rank, rank_up_to}
@@ -24,20 +24,21 @@ one_span spans r q a b e at to =
     let one : Some a ≡ Some b = sym at ∙ ap (slice_get spans) place ∙ to in
     cc one
 
-module _ (commands : List (List Op)) (ids : List Id) (h : List ClientCall)
-    (history : IsHistory h) (spans : List Span) (are : AreSpansOf h spans) (j m : ℕ)
-    (is : IsGreatest commands (own_rank spans ids) j m) where
+module _ (commands : List (List Op)) (places : List (Option ℕ)) (h : List ClientCall)
+    (history : IsHistory h) (spans : List Span) (are : AreSpansOf h spans) (ranks : List ℕ)
+    (ranked : AreRanksOf spans ranks) (j m : ℕ)
+    (is : IsGreatest commands (own_rank ranks places) j m) where
   abbrev calls : List (Option ClientCall)
-  calls = calls_in h ids
+  calls = calls_at h places
 
   abbrev own : ℕ → ℕ
-  own i = own_rank spans ids i
+  own i = own_rank ranks places i
 
   late_found : (x : Id) → IsLateRank spans (own j) m x → IsFoundLate commands calls j (Some x)
   late_found x (a', b', (r, at_r, this), (q, at_q, last), (t, returned, less), named) =
-      let a = call_of_rank h history spans are ids j r at_r in
+      let a = call_of_rank h history spans are ranks ranked places j r at_r in
       let from = is.reached in
-      let b = call_of_rank h history spans are ids from.0 q (from.2 ∙ at_q) in
+      let b = call_of_rank h history spans are ranks ranked places from.0 q (from.2 ∙ at_q) in
       let same_a : a.1 ≡ a' = one_span spans r r a.1 a' refl a.3 this in
       let same_b : b.1 ≡ b' = one_span spans q q b.1 b' refl b.3 last in
       let times_a : times_of_call a.0 ≡ times_of_span a' = a.4 ∙ ap times_of_span same_a in
@@ -50,10 +51,10 @@ module _ (commands : List (List Op)) (ids : List Id) (h : List ClientCall)
         record {
           among = (from.0, from.1, b.2);
           latest = λ k c up has.
-              let s = rank_of_call h history spans are ids k c has in
+              let s = rank_of_call h history spans are ranks ranked places k c has in
               let low = is.above k up in
               calls_up_to c b.0 s.0 b' s.2 times_b
-              (rank_up_to h history spans are ids s.1.0 q s.0 b'
+              (rank_up_to h history spans are ranks ranked places s.1.0 q s.0 b'
               (omega (arith, low, s.1.1, at_q)) s.1.2 last);
         },
         (
@@ -66,15 +67,15 @@ module _ (commands : List (List Op)) (ids : List Id) (h : List ClientCall)
 
   none_found : ((x : Id) → ¬ IsLateRank spans (own j) m x) → IsFoundLate commands calls j None
   none_found none i (a, b, at_j, at_i, up, (t, returned, less)) =
-      let s = rank_of_call h history spans are ids j a at_j in
-      let p = rank_of_call h history spans are ids i b at_i in
+      let s = rank_of_call h history spans are ranks ranked places j a at_j in
+      let p = rank_of_call h history spans are ranks ranked places i b at_i in
       let from = is.reached in
       let low = is.above i up in
       let q : (q : ℕ) × (m ≡ suc q) = above_zero m (omega (arith, low, p.1.1)) in
-      let last = call_of_rank h history spans are ids from.0 q.0 (from.2 ∙ q.1) in
+      let last = call_of_rank h history spans are ranks ranked places from.0 q.0 (from.2 ∙ q.1) in
       let up_to : IsInvokedUpTo b last.0 =
       calls_up_to b last.0 p.0 last.1 p.2 last.4
-      (rank_up_to h history spans are ids p.1.0 q.0 p.0 last.1
+      (rank_up_to h history spans are ranks ranked places p.1.0 q.0 p.0 last.1
       (omega (arith, low, p.1.1, q.1)) p.1.2 last.3) in
       let invoked : last.0.invoked ≡ last.1.invoked =
       ap (λ (u : ℕ × (Id × Option ℕ)). u.0) last.4 in
@@ -106,32 +107,37 @@ module _ (commands : List (List Op)) (ids : List Id) (h : List ClientCall)
 
 -- ---- the positions so far
 
-pub record HaveFound (commands : List (List Op)) (ids : List Id) (spans : List Span) (i : ℕ)
+pub record HaveFound (commands : List (List Op)) (places : List (Option ℕ)) (spans : List Span)
+    (ranks : List ℕ) (i : ℕ)
     (table : Table) (found : List (Option Id)) : Type 0 where
   pub done : List (List Op × ℕ)
   pub count : length done ≡ i
   pub table_of : IsKeyTableOf done [] table
-  pub greatest : HaveGreatest commands (own_rank spans ids) done
+  pub greatest : HaveGreatest commands (own_rank ranks places) done
   pub whole : length found ≡ i
-  pub each : (h : List ClientCall) → IsHistory h → AreSpansOf h spans → (j : ℕ) → j < i
-      → IsFoundLate commands (calls_in h ids) j (slice_index_or found j None)
+  pub each : (h : List ClientCall) → IsHistory h → AreSpansOf h spans
+      → AreRanksOf spans ranks → (j : ℕ) → j < i
+      → IsFoundLate commands (calls_at h places) j (slice_index_or found j None)
 
-pub none_yet : (commands : List (List Op)) (ids : List Id) (spans : List Span) (table : Table)
+pub none_yet : (commands : List (List Op)) (places : List (Option ℕ)) (spans : List Span)
+    (ranks : List ℕ) (table : Table)
     (found : List (Option Id)) → IsKeyTableOf [] [] table → found ≡ []
-    → HaveFound commands ids spans 0 table found
-none_yet commands ids spans table found is none = record {
+    → HaveFound commands places spans ranks 0 table found
+none_yet commands places spans ranks table found is none = record {
   done = [];
   count = refl;
   table_of = is;
   greatest = λ j ops m e. absurd (cc e);
   whole = ap length none;
-  each = λ h history are j low. absurd (omega (arith, low));
+  each = λ h history are ranked j low. absurd (omega (arith, low));
 }
 
-module _ (commands : List (List Op)) (ids : List Id) (spans : List Span) (i : ℕ) (table : Table)
-    (found : List (Option Id)) (is : HaveFound commands ids spans i table found) (ops : List Op)
+module _ (commands : List (List Op)) (places : List (Option ℕ)) (spans : List Span)
+    (ranks : List ℕ) (i : ℕ) (table : Table)
+    (found : List (Option Id)) (is : HaveFound commands places spans ranks i table found)
+    (ops : List Op)
     (at : ops ≡ slice_index_or commands i []) (above own m : ℕ)
-    (least : IsLeastAbove is.done ops above) (is_own : own ≡ own_rank spans ids i)
+    (least : IsLeastAbove is.done ops above) (is_own : own ≡ own_rank ranks places i)
     (is_m : m ≡ max own (above - 1)) where
   abbrev n : ℕ
   n = length is.done
@@ -139,55 +145,58 @@ module _ (commands : List (List Op)) (ids : List Id) (spans : List Span) (i : �
   here : ops ≡ slice_index_or commands n []
   here = at ∙ ap (λ k. slice_index_or commands k []) (sym is.count)
 
-  own_here : own ≡ own_rank spans ids n
-  own_here = is_own ∙ ap (own_rank spans ids) (sym is.count)
+  own_here : own ≡ own_rank ranks places n
+  own_here = is_own ∙ ap (own_rank ranks places) (sym is.count)
 
-  either : (m ≡ own_rank spans ids n) ⊎ (suc m ≡ above)
+  either : (m ≡ own_rank ranks places n) ⊎ (suc m ≡ above)
   either =
       elim (cases_lt own (above - 1)) [
         | inl high ↦ inr (omega (arith, high, is_m))
         | inr low ↦ inl (omega (arith, low, is_m, own_here))
       ]
 
-  pub greatest_here : IsGreatest commands (own_rank spans ids) n m
-  greatest_here = next_greatest commands (own_rank spans ids) is.done is.greatest ops above m here
+  pub greatest_here : IsGreatest commands (own_rank ranks places) n m
+  greatest_here = next_greatest commands (own_rank ranks places) is.done is.greatest ops above m
+      here
       least (omega (arith, is_m, own_here)) (omega (arith, is_m)) either
 
   pub one_more_found : (table' : Table) (o : Option Id) (found' : List (Option Id))
       → IsKeyTableOf (is.done ++ (ops, m) ∷ []) [] table'
       → MatchOption o ((x : Id) → ¬ IsLateRank spans own m x) (IsLateRank spans own m)
-      → found' ≡ found ++ o ∷ [] → HaveFound commands ids spans (i + 1) table' found'
+      → found' ≡ found ++ o ∷ [] → HaveFound commands places spans ranks (i + 1) table' found'
   one_more_found table' o found' noted late more = record {
     done = is.done ++ (ops, m) ∷ [];
     count = omega (arith, length_push is.done (ops, m), is.count);
     table_of = noted;
-    greatest = one_more_greatest commands (own_rank spans ids) is.done is.greatest ops above m here
+    greatest = one_more_greatest commands (own_rank ranks places) is.done is.greatest ops above m
+        here
         least greatest_here;
     whole = ap length more ∙ omega (arith, length_push found o, is.whole);
-    each = λ h history are j low. elim (cases_lt j i) [
+    each = λ h history are ranked j low. elim (cases_lt j i) [
       | inl old ↦
-          subst (IsFoundLate commands (calls_in h ids) j)
+          subst (IsFoundLate commands (calls_at h places) j)
           (sym (ap (λ (l : List (Option Id)). slice_index_or l j None) more
           ∙ get_or_append_left found (o ∷ []) None j (omega (arith, old, is.whole))))
-          (is.each h history are j old)
+          (is.each h history are ranked j old)
       | inr new ↦
           let place : i ≡ j = omega (arith, low, new) in
-          let this : IsFoundLate commands (calls_in h ids) n o =
-          found_at commands ids h history spans are n m greatest_here o
+          let this : IsFoundLate commands (calls_at h places) n o =
+          found_at commands places h history spans are ranks ranked n m greatest_here o
           (subst (λ k. MatchOption o ((x : Id) → ¬ IsLateRank spans k m x)
           (IsLateRank spans k m)) own_here late) in
-          subst (IsFoundLate commands (calls_in h ids) j)
+          subst (IsFoundLate commands (calls_at h places) j)
           (sym (ap (λ (l : List (Option Id)). slice_index_or l j None) more
           ∙ get_or_push found o None j (is.whole ∙ place)))
-          (subst (λ k. IsFoundLate commands (calls_in h ids) k o) (is.count ∙ place) this)
+          (subst (λ k. IsFoundLate commands (calls_at h places) k o) (is.count ∙ place) this)
     ];
   }
 
-pub all_found : (commands : List (List Op)) (ids : List Id) (spans : List Span) (i : ℕ)
-    (table : Table) (found : List (Option Id)) → HaveFound commands ids spans i table found
+pub all_found : (commands : List (List Op)) (places : List (Option ℕ)) (spans : List Span)
+    (ranks : List ℕ) (i : ℕ)
+    (table : Table) (found : List (Option Id)) → HaveFound commands places spans ranks i table found
     → i ≡ length commands → (h : List ClientCall) → IsHistory h → AreSpansOf h spans
-    → AreFoundLate commands (calls_in h ids) found
-all_found commands ids spans i table found is all h history are = record {
+    → AreRanksOf spans ranks → AreFoundLate commands (calls_at h places) found
+all_found commands places spans ranks i table found is all h history are ranked = record {
   whole = is.whole ∙ all;
-  each = λ j low. is.each h history are j (omega (arith, low, all));
+  each = λ j low. is.each h history are ranked j (omega (arith, low, all));
 }

@@ -1,13 +1,12 @@
 -- The ranks of instances among the spans of a history.
 use Rattle.std.proofs.Common.{◌≡◌, ◌≢◌, inl, inr, ℕ, zero, suc, ◌<◌, ◌≤◌, true, false, List}
-use Rattle.std.proofs.Common.{[], ◌∷◌, length, map, get_or, Option, Some, None, slice_get}
-use Rattle.std.proofs.Common.{Contains, AllPairs, position, is_eq, refl, sym, ap, subst, ◌∙◌}
+use Rattle.std.proofs.Common.{[], ◌∷◌, length, Option, Some, None, slice_get}
+use Rattle.std.proofs.Common.{Contains, AllPairs, position, is_eq, option_and_then, refl, sym, ap}
+use Rattle.std.proofs.Common.{subst, ◌∙◌}
 use Rattle.std.proofs.Common.{arith, Bool, nat_lt}
 use Rattle.std.specs.List.{position_or_len}
 use Rattle.std.proofs.lemmas.Bool.Decides.{nat_tests}
 use Rattle.std.specs.Cmp.{Equal-is, tied_itself}
-use Rattle.std.proofs.lemmas.List.Quantifiers.{position-Some}
-use Rattle.std.proofs.lemmas.Option.{slice_get-get_or}
 use Rattle.epx_types.proofs.Common.{cases_lt, cases_Bool, slice_get_within, UpTo}
 use Rattle.epx_types.proofs.Common.{AllPairs-slice_get, AllPairs-head, AllPairs-tail}
 use Rattle.epx_types.proofs.Common.{slice_get-from_map, slice_get-from_Contains, Contains-nil}
@@ -18,9 +17,9 @@ use Rattle.epx_types.proofs.lists.ListPositionLemmas.{slice_get-map}
 use Rattle.epx_types.specs.declared.id.Id.{Id}
 use Rattle.epx_linear.specs.declared.client_call.ClientCall.{ClientCall}
 use Rattle.epx_linear.specs.declared.spans.Span.{Span}
-use Rattle.epx_linear.specs.ClientCalls.{IsHistory, HasCall, IsInvokedUpTo, call_of, calls_in}
+use Rattle.epx_linear.specs.ClientCalls.{IsHistory, HasCall, IsInvokedUpTo, call_of, calls_at}
 use Rattle.epx_linear.specs.inner.Spans.{id_of_span, times_of_call, times_of_span, IsSpanUpTo}
-use Rattle.epx_linear.specs.inner.Spans.{AreSpansOf, HasRank, rank_at, rank_in}
+use Rattle.epx_linear.specs.inner.Spans.{AreSpansOf, AreRanksOf, HasRank, number_or_zero, rank_at}
 use Rattle.epx_linear.proofs.SpanLemmas.{same_id}
 
 -- ---- look-ups in a history
@@ -95,69 +94,85 @@ position_is ids once x r at =
 
 -- ---- ranks
 
--- the rank of the instance at a position of an order
-abbrev pub rank_of_some : List Span → Option Id → ℕ
-rank_of_some spans None = 0
-rank_of_some spans (Some x) = rank_in (map id_of_span spans) x
+-- the rank at the place of a position
+abbrev pub own_rank : List ℕ → List (Option ℕ) → ℕ → ℕ
+own_rank ranks places i = rank_at ranks (option_and_then (λ o. o) (slice_get places i))
 
-abbrev pub own_rank : List Span → List Id → ℕ → ℕ
-own_rank spans ids i = rank_of_some spans (slice_get ids i)
+-- two calls of one instance are one
+pub one_place : (h : List ClientCall) → IsHistory h → (j k : ℕ) (a b : ClientCall)
+    → slice_get h j ≡ Some a → slice_get h k ≡ Some b → a.id ≡ b.id → j ≡ k
+one_place h history j k a b at to same =
+    elim (cases_lt j k) [
+      | inl less ↦ absurd (AllPairs-slice_get (λ (c d : ClientCall). c.id ≢ d.id) h history j k a b
+          less at to same)
+      | inr more ↦ elim (cases_lt k j) [
+        | inl less ↦ absurd (AllPairs-slice_get (λ (c d : ClientCall). c.id ≢ d.id) h history k j
+            b a less to at (sym same))
+        | inr upto ↦ omega (arith, more, upto)
+      ]
+    ]
+
+-- the place of the call at a position
+pub place_of_call : (h : List ClientCall) (places : List (Option ℕ)) (i : ℕ) (c : ClientCall)
+    → HasCall (calls_at h places) i c
+    → (k : ℕ) × (slice_get places i ≡ Some (Some k)) × (slice_get h k ≡ Some c)
+place_of_call h places i c has =
+    let from = slice_get-from_map (option_and_then (slice_get h)) places i (Some c) has in
+    by from.0 from.1 from.2
+  where
+    by : (o : Option ℕ) → slice_get places i ≡ Some o → option_and_then (slice_get h) o ≡ Some c
+        → (k : ℕ) × (slice_get places i ≡ Some (Some k)) × (slice_get h k ≡ Some c)
+    by None at read = absurd (cc read)
+    by (Some k) at read = (k, at, read)
 
 module _ (h : List ClientCall) (history : IsHistory h) (spans : List Span)
-    (are : AreSpansOf h spans) (ids : List Id) where
+    (are : AreSpansOf h spans) (ranks : List ℕ) (ranked : AreRanksOf spans ranks)
+    (places : List (Option ℕ)) where
   -- the call at a position has a span
-  pub rank_of_call : (i : ℕ) (c : ClientCall) → HasCall (calls_in h ids) i c
-      → (s : Span) × HasRank spans (own_rank spans ids i) s
+  pub rank_of_call : (i : ℕ) (c : ClientCall) → HasCall (calls_at h places) i c
+      → (s : Span) × HasRank spans (own_rank ranks places i) s
       × (times_of_call c ≡ times_of_span s)
   rank_of_call i c has =
-      let at = slice_get-from_map (call_of h) ids i (Some c) has in
-      let found = call_of-found h at.0 c at.2 in
-      let span = are.whole c found.0 in
+      let at = place_of_call h places i c has in
+      let span = are.whole c (Contains-slice_get h at.0 c at.2) in
       let place = slice_get-from_Contains spans span.0 span.1 in
-      let named : id_of_span span.0 ≡ at.0 =
-      sym (ap (λ (t : ℕ × (Id × Option ℕ)). t.1.0) span.2) ∙ found.1 in
-      let rank : position (same_id at.0) (map id_of_span spans) ≡ Some place.0 =
-      position_is (map id_of_span spans) are.once at.0 place.0
-      (slice_get-map id_of_span spans place.0 span.0 place.1 ∙ ap Some named) in (
-        span.0,
-        (place.0, ap (rank_of_some spans) at.1 ∙ ap rank_at rank, place.1),
-        span.2,
-      )
+      let own = are.each span.0 span.1 in
+      let same : span.0.at ≡ at.0 = one_place h history span.0.at at.0 own.0 c own.1 at.2
+      (ap (λ (t : ℕ × (Id × Option ℕ)). t.1.0) (own.2 ∙ sym span.2)) in
+      let rank : own_rank ranks places i ≡ suc place.0 =
+      ap (λ o. rank_at ranks (option_and_then (λ p. p) o)) at.1
+      ∙ ap number_or_zero (ap (slice_get ranks) (sym same)
+      ∙ ranked.each place.0 span.0 place.1) in
+      (span.0, (place.0, rank, place.1), span.2)
 
   -- a rank above 0 is that of the call at the position
-  pub call_of_rank : (i r : ℕ) → own_rank spans ids i ≡ suc r
-      → (c : ClientCall) × (s : Span) × HasCall (calls_in h ids) i c
+  pub call_of_rank : (i r : ℕ) → own_rank ranks places i ≡ suc r
+      → (c : ClientCall) × (s : Span) × HasCall (calls_at h places) i c
       × (slice_get spans r ≡ Some s) × (times_of_call c ≡ times_of_span s)
-  call_of_rank i r e = at_id (slice_get ids i) refl e where
-    at_id : (o : Option Id) → slice_get ids i ≡ o → rank_of_some spans o ≡ suc r
-        → (c : ClientCall) × (s : Span) × HasCall (calls_in h ids) i c
+  call_of_rank i r e = at_place (slice_get places i) refl e where
+    Found : Type 0
+    Found = (c : ClientCall) × (s : Span) × HasCall (calls_at h places) i c
         × (slice_get spans r ≡ Some s) × (times_of_call c ≡ times_of_span s)
-    at_id None at e = absurd (omega (arith, e))
-    at_id (Some x) at e = at_place (position (same_id x) (map id_of_span spans)) refl e where
-      at_place : (o : Option ℕ) → position (same_id x) (map id_of_span spans) ≡ o
-          → rank_at o ≡ suc r
-          → (c : ClientCall) × (s : Span) × HasCall (calls_in h ids) i c
-          × (slice_get spans r ≡ Some s) × (times_of_call c ≡ times_of_span s)
-      at_place None found e = absurd (omega (arith, e))
-      at_place (Some q) found e =
-          let same : q ≡ r = omega (arith, e) in
-          let passes = position-Some (same_id x) (map id_of_span spans) q x found in
-          let y : Id = get_or (map id_of_span spans) q x in
-          let named : x ≡ y = (ids_decide x y).0 passes.1 in
-          let read : slice_get (map id_of_span spans) q ≡ Some y =
-          slice_get-get_or (map id_of_span spans) q x passes.0 in
-          let span = slice_get-from_map id_of_span spans q y read in
-          let call = are.each span.0 (Contains-slice_get spans q span.0 span.1) in
-          let id : call.0.id ≡ x =
-          ap (λ (t : ℕ × (Id × Option ℕ)). t.1.0) call.2 ∙ span.2 ∙ sym named in
-          let known : call_of h x ≡ Some call.0 =
-          ap (call_of h) (sym id) ∙ call_of-finds h history call.0 call.1 in (
-            call.0,
-            span.0,
-            slice_get-map (call_of h) ids i x at ∙ ap Some known,
-            subst (λ k. slice_get spans k ≡ Some span.0) same span.1,
-            call.2,
-          )
+
+    at_rank : (k : ℕ) → slice_get places i ≡ Some (Some k) → (o : Option ℕ)
+        → slice_get ranks k ≡ o → number_or_zero o ≡ suc r → Found
+    at_rank k at None read e = absurd (omega (arith, e))
+    at_rank k at (Some n) read e =
+        let span = ranked.no_other k r (read ∙ ap Some e) in
+        let own = are.each span.0 (Contains-slice_get spans r span.0 span.1) in
+        let call : slice_get h k ≡ Some own.0 = ap (slice_get h) (sym span.2) ∙ own.1 in (
+          own.0,
+          span.0,
+          slice_get-map (option_and_then (slice_get h)) places i (Some k) at ∙ ap Some call,
+          span.1,
+          own.2,
+        )
+
+    at_place : (o : Option (Option ℕ)) → slice_get places i ≡ o
+        → rank_at ranks (option_and_then (λ p. p) o) ≡ suc r → Found
+    at_place None at e = absurd (omega (arith, e))
+    at_place (Some None) at e = absurd (omega (arith, e))
+    at_place (Some (Some k)) at e = at_rank k at (slice_get ranks k) refl e
 
   -- a span with no greater rank is up to the other
   pub rank_up_to : (p q : ℕ) (a b : Span) → p ≤ q → slice_get spans p ≡ Some a

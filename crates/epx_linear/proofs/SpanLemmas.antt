@@ -17,6 +17,7 @@ use Rattle.epx_types.proofs.Common.{ordering_then, ranks_by, sorted_far}
 use Rattle.epx_types.proofs.Common.{cases_lt, cases_Bool, length-map, map-append, take_more}
 use Rattle.epx_types.proofs.Common.{slice_get_within, AllPairs-slice_get, AllPairs-from_slice_get}
 use Rattle.epx_types.proofs.Common.{slice_get-from_map, slice_get-from_Contains, Contains-map}
+use Rattle.epx_types.proofs.Common.{Contains-slice_get, map_push}
 use Rattle.epx_types.proofs.Common.{Contains-from_map, Contains-permutation, IsPermutation-map}
 use Rattle.epx_types.proofs.Common.{IsPermutation-sym, IsDistinct-IsPermutation, id_cmp, UpTo}
 use Rattle.epx_types.proofs.Common.{AllPairs-from_IsDistinct, IsDistinct-from_AllPairs}
@@ -29,7 +30,7 @@ use Rattle.epx_linear.specs.declared.client_call.ClientCall.{ClientCall}
 use Rattle.epx_linear.specs.declared.spans.Span.{Span}
 use Rattle.epx_linear.specs.ClientCalls.{IsHistory}
 use Rattle.epx_linear.specs.inner.Spans.{id_of_span, times_of_call, times_of_span, IsSpanUpTo}
-use Rattle.epx_linear.specs.inner.Spans.{AreSpansOf}
+use Rattle.epx_linear.specs.inner.Spans.{AreSpansOf, HavePlaces}
 
 abbrev pub same_id : Id → Id → Bool
 same_id = id_eq.eq-value.it
@@ -83,13 +84,14 @@ module _ {X : Type 0} (id_of : X → Id) (xs : List X)
 abbrev pub span_cmp : Span → Span → Ordering
 span_cmp a b = ordering_then (nat_cmp a.invoked b.invoked)
     (ordering_then (id_cmp (id_of_span b) (id_of_span a))
-    (option_cmp nat_cmp a.returned b.returned))
+    (ordering_then (option_cmp nat_cmp a.returned b.returned) (nat_cmp a.at b.at)))
 
 span_cmp_total : IsTotalOrder span_cmp
 span_cmp_total =
     then_total (on_total (λ (s : Span). s.invoked) nat_cmp_total)
     (then_total (on_total id_of_span (back_total id_cmp_total))
-    (on_total (λ (s : Span). s.returned) (options_total nat_cmp_total)))
+    (then_total (on_total (λ (s : Span). s.returned) (options_total nat_cmp_total))
+    (on_total (λ (s : Span). s.at) nat_cmp_total)))
 
 abbrev lower : Span → Span → Bool
 lower a b = is_lt (span_cmp a b)
@@ -97,7 +99,8 @@ lower a b = is_lt (span_cmp a b)
 -- a span that is not below another is up to it
 up_to : (a b : Span) → lower b a ≡ false → IsSpanUpTo a b
 up_to a b not_below =
-    let opt : Ordering = option_cmp nat_cmp b.returned a.returned in
+    let opt : Ordering =
+    ordering_then (option_cmp nat_cmp b.returned a.returned) (nat_cmp b.at a.at) in
     let x = id_of_span a in
     let y = id_of_span b in
     let rest : Ordering = ordering_then (id_cmp x y) opt in
@@ -149,16 +152,34 @@ same_ids (c ∷ h) (s ∷ spans) e =
     ap₂ (λ (x : Id) (xs : List Id). x ∷ xs) (ap (λ (t : ℕ × (Id × Option ℕ)). t.1.0) first)
     (same_ids h spans rest)
 
+-- items in another order have other Ids as before
+pub apart_moved : {X : Type 0} (id_of : X → Id) (old new : List X)
+    → AllPairs (λ x y. x ≢ y) (map id_of old) → IsPermutation old new
+    → AllPairs (λ x y. x ≢ y) (map id_of new)
+apart_moved id_of old new before moved =
+    AllPairs-from_IsDistinct {eq = same_id} ids_decide (map id_of new)
+    (IsDistinct-IsPermutation same_id ids_flip (map id_of old) (map id_of new)
+    (IsPermutation-map id_of old new moved)
+    (IsDistinct-from_AllPairs {eq = same_id} ids_decide (map id_of old) before))
+
+-- one more span
+pub span_more : (h : List ClientCall) (i : ℕ) (d : ClientCall) → i < length h
+    → (spans : List Span) → map times_of_span spans ≡ map times_of_call (take i h) → (s : Span)
+    → times_of_span s ≡ times_of_call (get_or h i d)
+    → map times_of_span (spans ++ s ∷ []) ≡ map times_of_call (take (i + 1) h)
+span_more h i d within spans before s is =
+    map_push times_of_span spans s
+    ∙ ap₂ (λ (l : List (ℕ × (Id × Option ℕ))) (t : ℕ × (Id × Option ℕ)). l ++ t ∷ []) before is
+    ∙ sym (ap (map times_of_call) (take_more h i d within)
+    ∙ map_push times_of_call (take i h) (get_or h i d))
+
 module _ (h : List ClientCall) (history : IsHistory h) (old new : List Span)
-    (same : map times_of_span old ≡ map times_of_call h) (moved : IsPermutation old new) where
-  pub spans_apart : AllPairs (λ x y. x ≢ y) (map id_of_span new)
-  spans_apart =
-      let before : AllPairs (λ x y. x ≢ y) (map id_of_span old) =
-      subst (AllPairs (λ x y. x ≢ y)) (sym (same_ids h old same)) (ids_apart h history) in
-      AllPairs-from_IsDistinct {eq = same_id} ids_decide (map id_of_span new)
-      (IsDistinct-IsPermutation same_id ids_flip (map id_of_span old) (map id_of_span new)
-      (IsPermutation-map id_of_span old new moved)
-      (IsDistinct-from_AllPairs {eq = same_id} ids_decide (map id_of_span old) before))
+    (same : map times_of_span old ≡ map times_of_call h)
+    (places : (k : ℕ) (s : Span) → slice_get old k ≡ Some s → s.at ≡ k)
+    (moved : IsPermutation old new) where
+  spans_apart : AllPairs (λ x y. x ≢ y) (map id_of_span new)
+  spans_apart = apart_moved id_of_span old new
+      (subst (AllPairs (λ x y. x ≢ y)) (sym (same_ids h old same)) (ids_apart h history)) moved
 
   pub as_many : length new ≡ length h
   as_many = length_permutation old new moved ∙ sym (length-map old times_of_span)
@@ -168,10 +189,14 @@ module _ (h : List ClientCall) (history : IsHistory h) (old new : List Span)
   sorted_spans sorted = record {
     each = λ s in_new.
         let in_old = Contains-permutation new old s (IsPermutation-sym old new moved) in_new in
-        let from = Contains-from_map times_of_call h (times_of_span s)
-        (subst (λ (l : List (ℕ × (Id × Option ℕ))). Contains l (times_of_span s)) same
-        (Contains-map times_of_span old s in_old)) in
-        (from.0, from.1, from.2);
+        let at = slice_get-from_Contains old s in_old in
+        let from = slice_get-from_map times_of_call h at.0 (times_of_span s)
+        (subst (λ (l : List (ℕ × (Id × Option ℕ))). slice_get l at.0 ≡ Some (times_of_span s)) same
+        (slice_get-map times_of_span old at.0 s at.1)) in (
+          from.0,
+          subst (λ k. slice_get h k ≡ Some from.0) (sym (places at.0 s at.1)) from.1,
+          from.2,
+        );
     whole = λ c in_h.
         let from = Contains-from_map times_of_span old (times_of_call c)
         (subst (λ (l : List (ℕ × (Id × Option ℕ))). Contains l (times_of_call c)) (sym same)
@@ -185,3 +210,34 @@ module _ (h : List ClientCall) (history : IsHistory h) (old new : List Span)
         (sym (ap₂ lower (get_or_from_slice_get new q b a to) (get_or_from_slice_get new r a a at))
         ∙ far);
   }
+
+-- the spans of a history have different places
+pub spans_have_places : (h : List ClientCall) (spans : List Span) → AreSpansOf h spans
+    → length spans ≡ length h → HavePlaces spans
+spans_have_places h spans are len = record {
+  within = λ r s at.
+      let c = are.each s (Contains-slice_get spans r s at) in
+      omega (arith, len, slice_get_within h s.at c.0 c.1);
+  apart = λ r q s t at to same.
+      let c = are.each s (Contains-slice_get spans r s at) in
+      let d = are.each t (Contains-slice_get spans q t to) in
+      let both : Some c.0 ≡ Some d.0 = sym c.1 ∙ ap (slice_get h) same ∙ d.1 in
+      let call : c.0 ≡ d.0 = cc both in
+      let id : id_of_span s ≡ id_of_span t =
+      ap (λ (u : ℕ × (Id × Option ℕ)). u.1.0) (sym c.2 ∙ ap times_of_call call ∙ d.2) in
+      one_place r q (id_of_span s) (slice_get-map id_of_span spans r s at)
+      (slice_get-map id_of_span spans q t to ∙ ap Some (sym id));
+}
+  where
+    one_place : (r q : ℕ) (x : Id) → slice_get (map id_of_span spans) r ≡ Some x
+        → slice_get (map id_of_span spans) q ≡ Some x → r ≡ q
+    one_place r q x at to =
+        elim (cases_lt r q) [
+          | inl less ↦ absurd (AllPairs-slice_get (λ v w. v ≢ w) (map id_of_span spans) are.once r q
+              x x less at to refl)
+          | inr more ↦ elim (cases_lt q r) [
+            | inl less ↦ absurd (AllPairs-slice_get (λ v w. v ≢ w) (map id_of_span spans) are.once
+                q r x x less to at refl)
+            | inr upto ↦ omega (arith, more, upto)
+          ]
+        ]

@@ -1,6 +1,6 @@
 -- Calls of clients, and the position of each in an execution order.
 use Rattle.std.specs.Prelude.{◌≡◌, ◌≢◌, ◌⊎◌, ℕ, ◌<◌, List, map, Option, Some, AllPairs, find}
-use Rattle.std.specs.Prelude.{slice_get}
+use Rattle.std.specs.Prelude.{option_and_then, slice_get}
 use Rattle.std.specs.Ordering.{is_eq}
 use Rattle.epx_types.specs.declared.id.Id.{Id}
 use Rattle.epx_types.specs.Ids.{id_cmp, UpTo}
@@ -16,6 +16,10 @@ call_of h x = find (λ c. is_eq (id_cmp c.id x)) h
 -- the call at each position of an order, None if the history has no call of the instance
 abbrev pub calls_in : List ClientCall → List Id → List (Option ClientCall)
 calls_in h ids = map (call_of h) ids
+
+-- the calls at some places of a history
+abbrev pub calls_at : List ClientCall → List (Option ℕ) → List (Option ClientCall)
+calls_at h places = map (option_and_then (slice_get h)) places
 
 -- the call at position i is c
 abbrev pub HasCall : List (Option ClientCall) → ℕ → ClientCall → Type 0

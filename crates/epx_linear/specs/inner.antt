@@ -2,3 +2,5 @@
 pub mod Spans
 pub mod HistoryReadings
 pub mod MarkedCalls
+pub mod CallRows
+pub mod AnswerTokens

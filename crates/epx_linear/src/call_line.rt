@@ -1,12 +1,12 @@
-//! Reads a line of a history.
+//! Reads a line of a history from its JSON value.
 ghost use Rattle.std.specs.Prelude.{◌≡◌, IfOk};
 ghost use Rattle.serde_json.specs.View.{view};
 ghost use Rattle.epx_report.specs.Forms.{is_text};
 ghost use Rattle.epx_linear.specs.HistoryLines.{time_from, time_or_null, is_up_to, call_with};
-ghost use Rattle.epx_linear.specs.HistoryLines.{call_alone, answered_call, call_from, call_line_of};
+ghost use Rattle.epx_linear.specs.HistoryLines.{call_alone, answered_call, call_from};
 
 use crate::client_call::ClientCall;
-use epx_lines::{MAX_LINE_BYTES, read_id_parts, read_json};
+use epx_lines::read_id_parts;
 use epx_types::{Memory, Reply};
 use epx_verify::read_reply;
 use serde_json::Value;
@@ -44,7 +44,7 @@ fn read_time_or_null(value: &Value) -> Option<Option<u64>>
 }
 
 /// Whether a call did not return before it was invoked.
-fn is_up_to(invoked: u64, returned: Option<u64>) -> bool
+pub(crate) fn is_up_to(invoked: u64, returned: Option<u64>) -> bool
     ensures { result ≡ is_up_to invoked returned }
 {
     match returned {
@@ -124,8 +124,9 @@ fn read_answered_call(
     Ok(read_call_with(name, replica, number, invoked, returned, answer))
 }
 
+/// Reads the call of a line. None if it says no call.
 #[tactic(auto, unfolding(crate::specs::HistoryLines::call_from))]
-fn read_call_value(alloc: Global, value: &Value) -> Result<Option<ClientCall>, Memory>
+pub(crate) fn read_call_value(alloc: Global, value: &Value) -> Result<Option<ClientCall>, Memory>
     ensures { IfOk result (λ o. o ≡ call_from (view value.now)) }
 {
     let Some(parts) = value.as_array() else {
@@ -139,18 +140,4 @@ fn read_call_value(alloc: Global, value: &Value) -> Result<Option<ClientCall>, M
         [a, b] => read_answered_call(alloc, name, r, i, invoked, returned, a, b),
         _ => Ok(None),
     }
-}
-
-/// Reads the call of a line, without its line feed. None if it says no call.
-#[tactic(auto, unfolding(crate::specs::HistoryLines::call_line_of))]
-pub(crate) fn read_call_line(alloc: Global, bytes: &[u8]) -> Result<Option<ClientCall>, Memory>
-    ensures { IfOk result (λ o. o ≡ call_line_of bytes.now) }
-{
-    if bytes.len() > MAX_LINE_BYTES {
-        return Ok(None);
-    }
-    let Some(value) = read_json(alloc, bytes)? else {
-        return Ok(None);
-    };
-    read_call_value(alloc, &value)
 }

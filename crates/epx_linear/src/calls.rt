@@ -1,36 +1,53 @@
 //! Histories of client calls.
-ghost use Rattle.std.specs.Prelude.{◌≡◌, map};
-ghost use Rattle.epx_linear.specs.ClientCalls.{IsHistory};
+ghost use Rattle.std.specs.Prelude.{◌≡◌, map, option_and_then, slice_get};
+ghost use Rattle.epx_linear.specs.ClientCalls.{IsHistory, call_of};
 ghost use Rattle.epx_linear.specs.Skews.{later_by};
+ghost use Rattle.epx_linear.specs.inner.CallRows.{AreCallRows};
+ghost use Rattle.epx_linear.specs.inner.HistoryReadings.{called_ids};
 
+use crate::call_table::CallTable;
 use crate::client_call::ClientCall;
 use crate::skew::add_skew;
+use epx_types::Id;
 use std::marker::Model;
 
 /// Calls of which no two are of one instance.
 #[derive(Debug, Drop)]
 pub struct History {
     calls: Vec<ClientCall>,
+    table: CallTable,
 }
 
 impl Model for History {
     ghost use Rattle.std.specs.Prelude.{List};
     ghost use Rattle.epx_linear.specs.ClientCalls.{IsHistory};
     ghost use Rattle.epx_linear.specs.declared.client_call.ClientCall.{ClientCall};
+    ghost use Rattle.epx_linear.specs.inner.CallRows.{AreCallRows};
+    ghost use Rattle.epx_linear.specs.inner.HistoryReadings.{called_ids};
 
     ghost Value = { List ClientCall };
 
     ghost view = { λ h. h.calls.items };
 
-    ghost invariant = { λ h. IsHistory h.calls.items };
+    ghost invariant = { λ h. IsHistory h.calls.items
+        × AreCallRows (called_ids h.calls.items) h.table };
 }
 
 impl History {
-    pub(crate) fn new(calls: Vec<ClientCall>) -> History
-        requires { IsHistory calls.items }
+    /// Returns the history of calls. The table has their instances.
+    pub(crate) fn new(calls: Vec<ClientCall>, table: CallTable) -> History
+        requires history { IsHistory calls.items }
+        requires table { AreCallRows (called_ids calls.items) table }
         ensures { result ≡ calls.items }
     {
-        History { calls }
+        History { calls, table }
+    }
+
+    /// Returns the place of the call of an instance: its position among the calls.
+    pub(crate) fn find(&self, id: Id) -> Option<usize>
+        ensures { option_and_then (slice_get self.now) result ≡ call_of self.now id }
+    {
+        self.table.find(id)
     }
 
     /// The calls, in the order of their lines.
@@ -47,8 +64,8 @@ impl History {
     pub fn later_by(self, skew: u64) -> History
         ensures { result ≡ map (later_by skew) self }
     {
-        let mut calls = self.calls;
+        let History { mut calls, table } = self;
         add_skew(&mut calls, skew);
-        History { calls }
+        History { calls, table }
     }
 }

@@ -5,7 +5,8 @@ ghost use Rattle.epx_linear.specs.ClientCalls.{IsHistory};
 ghost use Rattle.epx_linear.specs.HistoryTexts.{IsHistoryText, IsHistoryFault};
 ghost use Rattle.epx_linear.specs.inner.HistoryReadings.{called_ids, after_call, after_call_line};
 
-use crate::call_line::read_call_line;
+use crate::call_reader::CallReader;
+use crate::call_table::CallTable;
 use crate::calls::History;
 use crate::client_call::ClientCall;
 use crate::history_parts::{Unread, read_pieces};
@@ -45,6 +46,7 @@ fn take_call(
 /// again.
 fn take_line(
     alloc: Global,
+    reader: &mut CallReader,
     calls: &mut Vec<ClientCall>,
     ids: &mut IndexSet<Id, Seed>,
     bytes: &[u8],
@@ -57,7 +59,7 @@ fn take_line(
     if is_blank_line(bytes) {
         return Ok(true);
     }
-    match read_call_line(alloc, bytes)? {
+    match reader.read(alloc, bytes)? {
         Some(call) => take_call(calls, ids, call),
         None => Ok(false),
     }
@@ -68,13 +70,14 @@ fn read_in_order(alloc: Global, seed: Seed, bytes: &[u8]) -> Result<Vec<ClientCa
     ensures history { IfOk result (λ calls. IsHistoryText bytes.now calls.items) }
     ensures bad { IfErr result (λ f. IsHistoryFault bytes.now f) }
 {
+    let mut reader = CallReader::new(alloc);
     let mut calls = Vec::new(alloc);
     let mut ids = IndexSet::with_hasher(alloc, seed);
     let mut rest = bytes;
     let mut line = 1;
     while !rest.is_empty() {
         let (next, more) = cut_line(rest);
-        if !take_line(alloc, &mut calls, &mut ids, next)? {
+        if !take_line(alloc, &mut reader, &mut calls, &mut ids, next)? {
             return Err(BaseFault::Bad { line });
         }
         rest = more;
@@ -83,62 +86,31 @@ fn read_in_order(alloc: Global, seed: Seed, bytes: &[u8]) -> Result<Vec<ClientCa
     Ok(calls)
 }
 
-/// Whether no two of the calls are of the same instance.
-fn are_apart(alloc: Global, seed: Seed, calls: &[ClientCall]) -> Result<bool, Memory>
-    ensures { IfOk result (λ apart. apart ≡ true → IsHistory calls.now) }
-{
-    let mut ids = IndexSet::with_hasher(alloc, seed);
-    for call in calls {
-        if !ids.insert(call.id)? {
-            return Ok(false);
-        }
-    }
-    Ok(true)
-}
-
 /// The history, if the bytes are one. The plan's workers read the lines.
 fn read_together<R: Threads + Sync>(
     rt: &R,
     alloc: Global,
-    seed: Seed,
     bytes: &[u8],
     plan: Plan,
-) -> Result<Vec<ClientCall>, Unread>
-    ensures { IfOk result (λ calls. IsHistoryText bytes.now calls.items) }
+) -> Result<History, Unread>
+    ensures { IfOk result (IsHistoryText bytes.now) }
 {
     let lines = cut_lines(alloc, bytes)?;
     if lines.len() > MAX_LINES {
         return Err(Unread);
     }
     let calls = read_pieces(rt, alloc, &lines, plan)?;
-    if !are_apart(alloc, seed, &calls)? {
-        return Err(Unread);
+    match CallTable::of(rt, alloc, &calls)? {
+        Some(table) => Ok(History::new(calls, table)),
+        None => Err(Unread),
     }
-    Ok(calls)
-}
-
-/// The calls of a history.
-fn read_by<R: Threads + Sync>(
-    rt: &R,
-    alloc: Global,
-    seed: Seed,
-    bytes: &[u8],
-    plan: Plan,
-) -> Result<Vec<ClientCall>, BaseFault>
-    ensures history { IfOk result (λ calls. IsHistoryText bytes.now calls.items) }
-    ensures bad { IfErr result (λ f. IsHistoryFault bytes.now f) }
-{
-    if let Ok(calls) = read_together(rt, alloc, seed, bytes, plan) {
-        return Ok(calls);
-    }
-    read_in_order(alloc, seed, bytes)
 }
 
 /// Reads a history, one call on each line, in the order of the lines. Blank lines are skipped but
 /// counted. The plan's workers read the lines. If they are no history, or there is too little
-/// memory for that, they are read again, one after another. Takes time linear in the bytes. Returns
-/// `Bad` with the first line that is not blank, and says no call or calls an instance again,
-/// counted from 1. Returns `Memory` only if an allocation fails.
+/// memory for that, they are read again, one after another. Takes time n log n in the calls, and
+/// linear in the bytes. Returns `Bad` with the first line that is not blank, and says no call or
+/// calls an instance again, counted from 1. Returns `Memory` only if an allocation fails.
 pub fn read_history<R: Threads + RandomSource + Sync>(
     rt: &R,
     alloc: Global,
@@ -148,6 +120,10 @@ pub fn read_history<R: Threads + RandomSource + Sync>(
     ensures history { IfOk result (IsHistoryText bytes.now) }
     ensures bad { IfErr result (λ f. IsHistoryFault bytes.now f) }
 {
-    let calls = read_by(rt, alloc, Seed::draw(rt), bytes, plan)?;
-    Ok(History::new(calls))
+    if let Ok(history) = read_together(rt, alloc, bytes, plan) {
+        return Ok(history);
+    }
+    let calls = read_in_order(alloc, Seed::draw(rt), bytes)?;
+    let table = CallTable::new(rt, alloc, &calls)?;
+    Ok(History::new(calls, table))
 }

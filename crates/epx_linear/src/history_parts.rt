@@ -4,7 +4,7 @@ ghost use Rattle.epx_types.specs.Pieces.{piece_count};
 ghost use Rattle.epx_claims.specs.inner.PieceItems.{items_of_piece};
 ghost use Rattle.epx_linear.specs.inner.HistoryReadings.{said_calls};
 
-use crate::call_line::read_call_line;
+use crate::call_reader::CallReader;
 use crate::client_call::ClientCall;
 use epx_claims::{FreeGate, append_parts, claimed_map};
 use epx_lines::is_blank_line;
@@ -30,10 +30,11 @@ fn read_lines(alloc: Global, lines: &[&[u8]]) -> Result<Option<Vec<ClientCall>>,
         (λ read. IfSome read (λ calls. map Some calls.items
         ≡ said_calls (map (λ l. l.now) lines.now))) }
 {
+    let mut reader = CallReader::new(alloc);
     let mut calls = Vec::with_capacity(alloc, lines.len())?;
     for line in lines {
         if !is_blank_line(line) {
-            let Some(call) = read_call_line(alloc, line)? else {
+            let Some(call) = reader.read(alloc, line)? else {
                 return Ok(None);
             };
             calls.push(call)?;

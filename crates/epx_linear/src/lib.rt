@@ -5,7 +5,10 @@
 mod answer;
 pub mod call_answers;
 mod call_line;
+mod call_places;
+mod call_reader;
 mod call_table;
+mod call_tokens;
 mod calls;
 pub mod client_call;
 mod history;

@@ -1,33 +1,26 @@
 //! The calls that returned, and whose instances are not executed.
-ghost use Rattle.std.specs.Prelude.{◌≡◌, ◌≢◌, map, zip, AllPairs, IfOk};
-ghost use Rattle.epx_types.specs.Done.{is_among};
+ghost use Rattle.std.specs.Prelude.{◌≡◌, List, zip, IfOk};
+ghost use Rattle.epx_types.specs.declared.id.Id.{Id};
 ghost use Rattle.epx_lines.specs.DependencyList.{rising_ids};
-ghost use Rattle.epx_linear.specs.ClientCalls.{IsHistory};
+ghost use Rattle.epx_linear.specs.ClientCalls.{IsHistory, calls_at, calls_in};
 ghost use Rattle.epx_linear.specs.LinearTexts.{lost_ids};
-ghost use Rattle.epx_linear.specs.inner.HistoryReadings.{called_ids};
-ghost use Rattle.epx_linear.specs.inner.MarkedCalls.{unmarked_ids};
+ghost use Rattle.epx_linear.specs.inner.MarkedCalls.{AreMarked, unmarked_ids};
 
 use crate::client_call::ClientCall;
-use epx_seed::Seed;
-use epx_types::{Command, Id, Memory};
-use indexmap::IndexSet;
+use epx_types::{Id, Memory};
 use std::alloc::Global;
 use std::collections::BTreeSet;
 
-/// Returns for each instance of a table whether it is among those of the commands.
-fn are_executed(
-    alloc: Global,
-    ids: &IndexSet<Id, Seed>,
-    commands: &[Command],
-) -> Result<Vec<bool>, Memory>
-    requires { AllPairs (λ x y. x ≢ y) ids.now.keys }
-    ensures { IfOk result
-        (λ v. v.items ≡ map (is_among (map (λ c. c.id) commands.now)) ids.now.keys) }
+/// Returns for each of so many calls whether its place is among these.
+fn are_executed(alloc: Global, calls: usize, places: &[Option<usize>]) -> Result<Vec<bool>, Memory>
+    ensures { IfOk result (λ marks. AreMarked calls places.now marks.items) }
 {
-    let mut executed = vec![in alloc; false; ids.len()]?;
-    for command in commands {
-        if let Some(position) = ids.get_index_of(&command.id) {
-            executed[position] = true;
+    let mut executed = vec![in alloc; false; calls]?;
+    for place in places {
+        if let Some(at) = *place {
+            if at < calls {
+                executed[at] = true;
+            }
         }
     }
     Ok(executed)
@@ -47,19 +40,18 @@ fn sort_lost(alloc: Global, history: &[ClientCall], executed: &[bool]) -> Result
     Ok(lost.into_iter().collect(alloc)?)
 }
 
-/// Returns the instances of the calls that returned and are not executed, by rising Id. The table
-/// has the instances of the calls, in their order.
+/// Returns the instances of the calls that returned and are not executed, by rising Id. The calls
+/// of those that are executed are at these places.
 pub(crate) fn lost_ids(
     alloc: Global,
-    ids: &IndexSet<Id, Seed>,
-    commands: &[Command],
     history: &[ClientCall],
+    places: &[Option<usize>],
 ) -> Result<Vec<Id>, Memory>
-    requires history { IsHistory history.now }
-    requires ids { ids.now.keys ≡ called_ids history.now }
-    ensures { IfOk result
-        (λ v. v.items ≡ lost_ids (map (λ c. c.id) commands.now) history.now) }
+    requires { IsHistory history.now }
+    ensures { IfOk result (λ v. (ids : List Id)
+        → calls_at history.now places.now ≡ calls_in history.now ids
+        → v.items ≡ lost_ids ids history.now) }
 {
-    let executed = are_executed(alloc, ids, commands)?;
+    let executed = are_executed(alloc, history.len(), places)?;
     sort_lost(alloc, history, &executed)
 }

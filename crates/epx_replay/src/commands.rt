@@ -26,8 +26,9 @@ fn commands_of_piece<'a>(
     commands_of(alloc, merged, &ids[start..end])
 }
 
-/// The commands of some instances. The plan's workers look the instances up, piece by piece.
-pub(crate) fn all_commands<'a, R: Threads + Sync>(
+/// The commands of some instances, with their operations borrowed from the map. The plan's workers
+/// look the instances up, piece by piece.
+pub fn all_commands<'a, R: Threads + Sync>(
     rt: &R,
     alloc: Global,
     merged: &'a Merged,

@@ -9,4 +9,5 @@ mod reply_parts;
 mod store_lines;
 
 pub use batches::replay;
+pub use commands::all_commands;
 pub use store_lines::append_store_lines;

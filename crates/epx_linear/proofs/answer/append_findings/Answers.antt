@@ -1,13 +1,29 @@
-use Rattle.std.proofs.Common.{inl, inr}
+use Rattle.std.proofs.Common.{inl, inr, ap, arith, length, option_and_then, slice_get}
+use Rattle.epx_types.proofs.Common.{length-map}
 use Rattle.epx_report.proofs.PairLemmas.{printed_to_end}
+use Rattle.epx_linear.specs.ClientCalls.{call_of}
 use Rattle.epx_linear.specs.LinearTexts.{findings_at}
 use Rattle.epx_linear.proofs.FindingLemmas.{none_zipped}
 use Rattle.epx_linear.proofs.answer.append_findings.Goals as goal
 
--- the loop ends at the end of one of the lists
+-- the loop ends at the end of one of the lists, and there are as many places as instances
 pub returns : goal.returns
-returns c = printed_to_end (findings_at c.args.history.now) _ _ _ _ c.loop-command.invariant
+returns c =
+    let h = c.args.history.now in
+    let it = c.loop-id.id-iterator in
+    let is = c.loop-id.invariant in
+    let as_many = ap length is.places in
+    printed_to_end (findings_at h) _ _ _ _ is.text
     (elim c.in-None.ensures.steps [
-      | inl a ↦ inl (none_zipped _ _ (elim a.1 [ inl x ↦ inl x.1.0 | inr y ↦ inr y.1.0 ]))
-      | inr b ↦ inr b.1.0
+      | inl pairs ↦ elim pairs.1 [
+        | inl named ↦ inl (none_zipped _ _ (elim named.1 [ inl x ↦ inl x.1.0 | inr y ↦ inr y.1.0 ]))
+        | inr late ↦ inr late.1.0
+      ]
+      | inr places ↦ inl (none_zipped _ _ (inl (omega (
+        arith,
+        places.1.0,
+        as_many,
+        length-map it.b.rest.now (option_and_then (slice_get h)),
+        length-map it.a.a.a.rest.now (call_of h),
+      ))))
     ])

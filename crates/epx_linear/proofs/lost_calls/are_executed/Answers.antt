@@ -1,44 +1,42 @@
-use Rattle.std.proofs.Common.{◌≡◌, ◌∙◌, ◌+◌, ◌++◌, ◌∷◌, [], map, take}
-use Rattle.std.proofs.Common.{sym, ap, subst, arith}
-use Rattle.epx_types.proofs.Common.{take_more, map-append, slice_get-from_Contains}
-use Rattle.epx_types.specs.declared.command.Command.{Command}
-use Rattle.epx_linear.proofs.LostCallLemmas.{AreMarked, none_marked, not_marked, marked}
-use Rattle.epx_linear.proofs.RankLemmas.{position_is}
-use Rattle.epx_linear.proofs.CallTableLemmas.{at_position}
-use Rattle.epx_linear.proofs.lost_calls.are_executed.Goals.{in-Some, in_default}
+use Rattle.std.proofs.Common.{◌≡◌, ◌∙◌, ◌+◌, ◌++◌, ◌∷◌, [], ℕ, Option, Some, None}
+use Rattle.std.proofs.Common.{get_or, subst, sym, take, arith}
+use Rattle.epx_types.proofs.Common.{take_more}
+use Rattle.epx_linear.specs.inner.MarkedCalls.{AreMarked}
+use Rattle.epx_linear.proofs.LostCallLemmas.{none_marked, not_marked, marked}
+use Rattle.epx_linear.proofs.lost_calls.are_executed.Goals.{in-Some+then-at-calls}
+use Rattle.epx_linear.proofs.lost_calls.are_executed.Goals.{in-Some+else-at-calls, in_default}
 use Rattle.epx_linear.proofs.lost_calls.are_executed.Goals as goal
 
-pub loop-command-init : goal.loop-command-init
-loop-command-init c =
-    subst (AreMarked c.args.ids.now.keys [])
+pub loop-place-init : goal.loop-place-init
+loop-place-init c =
+    subst (AreMarked c.args.calls [])
     (sym (c.in_ok-executed.ensures.items_if_clones_equal (λ y same. same)))
-    (none_marked c.args.ids.now.keys c.len.result (omega (arith, c.len.ensures.len)))
+    (none_marked c.args.calls)
 
-pub loop-command-preserved : goal.loop-command-preserved
-loop-command-preserved c =
-    let keys = c.args.ids.now.keys in
-    let commands = c.args.commands.now in
-    let i = c.loop-command.command-index in
-    let x = c.command-item.result.id in
-    let before = map (λ (c : Command). c.id) (take i commands) in
-    let marks = c.loop-command.executed.items in
-    let index = c.get_index_of.ensures.index in
-    let longer : before ++ x ∷ [] ≡ map (λ (c : Command). c.id) (take (i + 1) commands) =
-    sym (ap (map (λ (c : Command). c.id)) (take_more commands i c.command-item.result
-    c.loop-command-test.true)
-    ∙ map-append (λ (c : Command). c.id) (take i commands) _
-    ∙ ap (λ y. before ++ y ∷ []) (ap (λ (c : Command). c.id) (sym c.command-item.is))) in
-    let now : AreMarked keys (before ++ x ∷ []) c.match-get_index_of.executed.items =
-    elim c.match-get_index_of.branch [
-      | in-Some w ↦
-          subst (AreMarked keys (before ++ x ∷ [])) (sym (ap (λ v. v.items) w.executed-is))
-          (marked keys before x marks c.loop-command.invariant w.in-Some.position c.requires
-          (at_position keys x w.in-Some.position (sym w.in-Some.is ∙ index)))
+pub loop-place-preserved : goal.loop-place-preserved
+loop-place-preserved c =
+    let n = c.args.calls in
+    let places = c.args.places.now in
+    let i = c.loop-place.place-index in
+    let marks = c.loop-place.executed.items in
+    let before = take i places in
+    let place : Option ℕ = get_or places i None in
+    let is = c.loop-place.invariant in
+    let longer : take (i + 1) places ≡ before ++ place ∷ [] =
+    take_more places i None c.loop-place-test.true in
+    let now : AreMarked n (before ++ place ∷ []) c.match-place.executed.items =
+    elim c.match-place.branch [
+      | in-Some+then-at-calls w ↦
+          subst (λ v. AreMarked n (before ++ place ∷ []) v.items) (sym w.executed-is)
+          (marked n before place marks is w.in-Some.at w.in-Some.is w.if-at-calls.true)
+      | in-Some+else-at-calls w ↦
+          subst (λ v. AreMarked n (before ++ place ∷ []) v.items) (sym w.executed-is)
+          (not_marked n before place marks is (λ j low e.
+          let both : Some w.in-Some.at ≡ Some j = sym w.in-Some.is ∙ e in
+          let same : w.in-Some.at ≡ j = cc both in
+          omega (arith, w.if-at-calls.false, low, same)))
       | in_default w ↦
-          subst (AreMarked keys (before ++ x ∷ [])) (sym (ap (λ v. v.items) w.executed-is))
-          (not_marked keys before x marks c.loop-command.invariant
-          (λ has.
-          let at = slice_get-from_Contains keys x has in
-          w.in_default.not-Some at.0 (index ∙ position_is keys c.requires x at.0 at.1)))
+          subst (λ v. AreMarked n (before ++ place ∷ []) v.items) (sym w.executed-is)
+          (not_marked n before place marks is (λ j low e. w.in_default.not-Some j e))
     ] in
-    subst (λ xs. AreMarked keys xs c.match-get_index_of.executed.items) longer now
+    subst (λ l. AreMarked n l c.match-place.executed.items) (sym longer) now

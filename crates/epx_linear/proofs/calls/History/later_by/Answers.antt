@@ -1,8 +1,15 @@
-use Rattle.std.proofs.Common.{sym, subst}
+use Rattle.std.proofs.Common.{◌∙◌, sym, subst, ap}
 use Rattle.epx_linear.specs.ClientCalls.{IsHistory}
-use Rattle.epx_linear.proofs.SkewLemmas.{later_history}
+use Rattle.epx_linear.specs.inner.CallRows.{AreCallRows}
+use Rattle.epx_linear.specs.inner.HistoryReadings.{called_ids}
+use Rattle.epx_linear.proofs.SkewLemmas.{later_history, later_ids}
 use Rattle.epx_linear.proofs.calls.History.later_by.Goals as goal
 
 pub invariant_of-result : goal.invariant_of-result
-invariant_of-result c = subst IsHistory (sym c.add_skew.ensures)
-    (later_history c.args.skew c.self.inside.calls.items c.self.invariant)
+invariant_of-result c =
+    let calls = c.self.inside.calls.items in
+    let is = c.self.invariant in (
+      subst IsHistory (sym c.add_skew.ensures) (later_history c.args.skew calls is.0),
+      subst (λ ids. AreCallRows ids c.self.inside.table)
+          (sym (ap called_ids c.add_skew.ensures ∙ later_ids c.args.skew calls)) is.1,
+    )
