@@ -8,7 +8,7 @@ _epx_offer() {
 
 # Offers subcommands: all of them where none begins as a misspelt word does.
 _epx_offer_commands() {
-    local commands="run order levels graph resume audit check verify linear replay compare why trace follow help"
+    local commands="run order levels blockers graph resume audit check verify linear replay compare why trace follow help"
     _epx_offer "$commands"
     [ "${#COMPREPLY[@]}" -gt 0 ] || read -ra COMPREPLY <<<"$commands"
 }
@@ -21,7 +21,7 @@ _epx() {
     esac
     # the options of the subcommand, and how many names that are no paths come first
     case ${COMP_WORDS[1]} in
-        run|order|levels|resume|audit|verify|compare) options=" --workers --cut --explain --exit-code --help " firsts=0 ;;
+        run|order|levels|blockers|resume|audit|verify|compare) options=" --workers --cut --explain --exit-code --help " firsts=0 ;;
         graph|replay) options=" --workers --cut --explain --help " firsts=0 ;;
         check) options=" --workers --cut --explain --exit-code --prefix --help " firsts=0 ;;
         linear) options=" --workers --cut --explain --exit-code --skew --help " firsts=0 ;;

@@ -18,7 +18,7 @@ function __epx_at_path
     set -l words (commandline -opc)
     set -l firsts
     switch "$words[2]"
-        case run order levels graph resume audit check verify linear replay compare follow
+        case run order levels blockers graph resume audit check verify linear replay compare follow
             set firsts 0
         case why trace
             set firsts 1
@@ -54,10 +54,11 @@ complete -c epx -n 'test (count (commandline -opc)) -eq 1; and not __fish_contai
 complete -c epx -n __epx_at_command -a run -d 'Prints the report: replies, what must wait, the final store'
 complete -c epx -n __epx_at_command -a order -d 'Prints the execution order'
 complete -c epx -n __epx_at_command -a levels -d 'Prints the conflict levels of the commands'
+complete -c epx -n __epx_at_command -a blockers -d 'Says what to recover first: how many each missing instance blocks'
 complete -c epx -n __epx_at_command -a graph -d 'Prints the dependency graph, to be drawn by Graphviz'
 complete -c epx -n __epx_at_command -a resume -d 'Goes on from an earlier report, and prints the report'
 complete -c epx -n __epx_at_command -a audit -d 'Says whether the logs are covered'
-complete -c epx -n __epx_at_command -a check -d 'Says whether a list of instances is an order that the protocol allows'
+complete -c epx -n __epx_at_command -a check -d 'Says whether a list is an order that the protocol allows'
 complete -c epx -n __epx_at_command -a verify -d 'Says whether what a replica said is right'
 complete -c epx -n __epx_at_command -a linear -d 'Says whether clients saw one copy: whether a history is linear'
 complete -c epx -n __epx_at_command -a replay -d 'Executes a list of instances in its order: replies, the final store'
@@ -66,11 +67,11 @@ complete -c epx -n __epx_at_command -a why -d 'Says why an instance is executed 
 complete -c epx -n __epx_at_command -a trace -d 'Prints which executed commands write a key'
 complete -c epx -n __epx_at_command -a follow -d 'Executes logs as they come, and prints the replies batch by batch'
 complete -c epx -n __epx_at_command -a help -d 'Print this message or the help of the given subcommand(s)'
-complete -c epx -n '__epx_in run order levels graph resume audit check verify linear replay compare why trace follow; and not __fish_contains_opt workers' -l workers -x -d 'Workers that share the work, 1 to 64'
-complete -c epx -n '__epx_in run order levels graph resume audit check verify linear replay compare why trace follow; and not __fish_contains_opt cut' -l cut -x -d 'Items in a piece of work, 1 to 65536'
-complete -c epx -n '__epx_in run order levels graph resume audit check verify linear replay compare why trace follow; and not __fish_contains_opt explain' -l explain -d 'Explains a fault or a finding in further lines'
-complete -c epx -n '__epx_in run order levels resume; and not __fish_contains_opt exit-code' -l exit-code -d 'Exits with status 5 if an instance waits'
-complete -c epx -n '__epx_in run order levels graph resume audit check verify linear replay compare why trace follow; and not __fish_contains_opt help' -l help -d 'Print help'
+complete -c epx -n '__epx_in run order levels blockers graph resume audit check verify linear replay compare why trace follow; and not __fish_contains_opt workers' -l workers -x -d 'Workers that share the work, 1 to 64'
+complete -c epx -n '__epx_in run order levels blockers graph resume audit check verify linear replay compare why trace follow; and not __fish_contains_opt cut' -l cut -x -d 'Items in a piece of work, 1 to 65536'
+complete -c epx -n '__epx_in run order levels blockers graph resume audit check verify linear replay compare why trace follow; and not __fish_contains_opt explain' -l explain -d 'Explains a fault or a finding in further lines'
+complete -c epx -n '__epx_in run order levels blockers resume; and not __fish_contains_opt exit-code' -l exit-code -d 'Exits with status 5 if an instance waits'
+complete -c epx -n '__epx_in run order levels blockers graph resume audit check verify linear replay compare why trace follow; and not __fish_contains_opt help' -l help -d 'Print help'
 complete -c epx -n '__epx_in audit check verify linear compare; and not __fish_contains_opt exit-code' -l exit-code -d 'Exits with status 5 if something was found'
 complete -c epx -n '__epx_in check; and not __fish_contains_opt prefix' -l prefix -d 'Lets the list lack ready instances, as that of a live replica does'
 complete -c epx -n '__epx_in linear; and not __fish_contains_opt skew' -l skew -x -d 'How much clocks may differ, 0 to 2^63 - 1, in the unit of the times'

@@ -159,6 +159,29 @@ class Linear:
 
 
 @dataclasses.dataclass(frozen=True)
+class Blocker:
+    """A missing instance: how many instances reach it and no other missing one, and how many name
+    it among their dependencies."""
+
+    id: Id
+    alone: int
+    named: int
+
+
+@dataclasses.dataclass
+class Blockers:
+    """The missing instances by their Ids, and how many instances reach more than one of them."""
+
+    missing: list
+    several: int
+
+    @property
+    def waiting(self):
+        """How many instances wait."""
+        return self.several + sum(one.alone for one in self.missing)
+
+
+@dataclasses.dataclass(frozen=True)
 class Ordered:
     """An instance of the execution order, with its depth and its component's leader."""
 
@@ -197,6 +220,12 @@ def levels(logs, workers=4, exit_code=False):
     """The conflict levels of the ready instances, in execution order. With `exit_code` it is a
     finding that others wait."""
     return ask("levels", logs, workers, exit_code, read_levels)
+
+
+def blockers(logs, workers=4, exit_code=False):
+    """How many instances each missing one blocks, as `Blockers`. With `exit_code` it is a finding
+    that an instance waits."""
+    return ask("blockers", logs, workers, exit_code, read_blockers)
 
 
 def graph(logs, workers=4):
@@ -413,6 +442,12 @@ def read_levels(text):
     return [Level(Id(*row[1:3]), row[3]) for row in read_rows(text) if row[0] == "level"]
 
 
+def read_blockers(text):
+    """The missing instances of an answer, and the count of its last row."""
+    *rows, last = read_rows(text)
+    return Blockers([Blocker(Id(*row[1:3]), *row[3:]) for row in rows], last[1])
+
+
 def read_pair(text):
     """The two instances of an audit, or None."""
     row = json.loads(text)
@@ -538,6 +573,9 @@ def test_answers(examples, logs):
     assert [one.id for one in order(logs)] == [one.id for one in found.replies]
     assert [one.id for one in levels(logs)] == [one.id for one in found.replies]
     assert levels(logs)[-1] == Level(Id(2, 3), 3)
+    assert blockers(logs) == Blockers([Blocker(Id(2, 2), 1, 1)], 0)
+    bank = sorted(examples.glob("bank/*.jsonl"))
+    assert blockers(bank).waiting == len(report(bank).waiting)
     assert graph(logs) == (examples / "replicas/all.dot").read_text()
     assert audit(logs) is None and check([one.id for one in order(logs)], logs) is None
     assert check([], logs)[0] == "missing" and check([], logs, prefix=True) is None
@@ -580,7 +618,7 @@ def test_histories(logs):
 def test_findings(examples, logs):
     """Asks for findings where there is one, where there is none, and of no logs."""
     unrelated, one = [examples / "unrelated.jsonl"], [examples / "one.jsonl"]
-    for ask_for in (report, order, levels, functools.partial(resume, report([]))):
+    for ask_for in (report, order, levels, blockers, functools.partial(resume, report([]))):
         assert raised(Finding, lambda: ask_for(logs, exit_code=True)).answer == ask_for(logs)
         assert ask_for(one, exit_code=True) == ask_for(one)
     assert raised(Finding, lambda: audit(unrelated, exit_code=True)).answer == audit(unrelated)
@@ -593,7 +631,7 @@ def test_findings(examples, logs):
     assert verify(Said([], {}), logs, exit_code=True) == []
     assert raised(Finding, lambda: compare(logs, exit_code=True)).answer == compare(logs)
     assert compare(one, exit_code=True) == compare(one)
-    for ask_for in (report, order, levels, audit, compare):
+    for ask_for in (report, order, levels, blockers, audit, compare):
         fault = raised(Fault, lambda: ask_for([], exit_code=True))
         assert (fault.number, fault.status) == (None, 2)
     fault = raised(Fault, lambda: report([b"{}"]))

@@ -9,7 +9,7 @@ import subprocess
 # The status of an answer that finds something, with `--exit-code`.
 FOUND = 5
 # The answers that find nothing.
-NOTHING = [["covered"]], [["lawful"]], [["linear"]]
+NOTHING = [["covered"]], [["lawful"]], [["linear"]], [["several", 0]]
 SMALL = 14
 OPERATIONS = ["get", "put", "del", "add", "is", "floor", "copy"]
 

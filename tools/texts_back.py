@@ -17,6 +17,8 @@ FORMS = {
     "reply": "Ixx",
     "order": "INI",
     "level": "IN",
+    "blocks": "INN",
+    "several": "N",
     "waiting": "II",
     "store": "KV",
     "covered": "",
@@ -337,6 +339,23 @@ def why(_, names, rows):
     return rows
 
 
+def blockers(_, names, rows):
+    """How many instances each missing one blocks. All parts of an instance reach the same, and the
+    first alone has its dependencies."""
+    *blocked, last = rows
+    for row in blocked:
+        if row.kind != "blocks":
+            raise row.bad()
+        first_part(names, row, row.rest[0])
+    if last.kind != "several":
+        raise last.bad("is no line `several`, with which the answer ends: it is not whole")
+    for row, at in [*((row, 1) for row in blocked), (last, 0)]:
+        if row.rest[at] % names.parts:
+            raise row.bad(f"counts {row.rest[at]}, and each instance has {names.parts} parts")
+        row.rest[at] //= names.parts
+    return rows
+
+
 def verdict(_, names, rows):
     """An answer of one line."""
     row = rows[0]
@@ -434,6 +453,7 @@ def places_in(value):
 # How an answer is turned back, by the first word of its first line.
 ANSWERS = {"executed": report, "log": comparison, "write": trace, "read": trace}
 ANSWERS |= {kind: why for kind in ("ready", "waiting", "missing")}
+ANSWERS |= {"blocks": blockers, "several": blockers}
 ANSWERS |= {kind: verdict for kind in VERDICTS}
 
 

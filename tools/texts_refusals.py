@@ -93,6 +93,8 @@ BAD_ANSWERS = (
     (1, '["log",0,1,0]\n["differs",0,1,["r"],[[[0,1]]]]\n', " line 2: is no line of an answer"),
     (1, '["ready",0,1,0,0,0,1]\n["needs",0,1,1]\n', " line 2: is no line of an answer"),
     (1, '["missing",0,1,1]\n', " line 1: is no line of an answer"),
+    (1, '["blocks",0,1,1,1]\n', " line 1: is no line `several`, with which the answer ends"),
+    (1, '["several",0]\n["several",0]\n', " line 1: is no line of an answer"),
     (1, "digraph dependencies {\n", " line 1: is no whole picture"),
     (1, "digraph dependencies {\n  node [shape=box];\n  other\n}\n", " line 3: is no line of a"),
     (1, '["executed",0,"waiting",1,"components",0]\n', " line 1: counts 0 and 1, and 0 and 0"),
@@ -112,6 +114,8 @@ BAD_ANSWERS = (
     (2, '["path",[0,0],[0,1],[0,0]]\n', " line 1: leads from 0.0 to itself through its own parts"),
     (2, '["path",[0,1],[1,0]]\n', " line 1: is about a part of 0.0: ask for its first part, 0.0"),
     (2, '["ready",0,1,0,0,0,0]\n', " line 1: is about a part of 0.0: ask for its first part, 0.0"),
+    (2, '["blocks",0,1,0,1]\n["several",0]\n', " line 1: is about a part of 0.0: ask for its"),
+    (2, '["blocks",0,0,0,1]\n["several",1]\n', " line 2: counts 1, and each instance has 2"),
     (2, '["log",0,3,0]\n', " line 1: has 3 lines, and each instance has 2"),
     (2, '["log",0,2,1]\n["bad",0,1,"Deps"]\n', " line 2: is of a log with bad lines"),
 )  # fmt: skip

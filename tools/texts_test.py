@@ -156,7 +156,7 @@ class Side:
 
 def questions(rng, commands, keys):
     """What both sides are asked: words of the program, for a side, by a name."""
-    for name in ("run", "order", "levels", "graph", "audit", "compare"):
+    for name in ("run", "order", "levels", "blockers", "graph", "audit", "compare"):
         yield name, lambda side, name=name: [name, *side.paths]
     for words in (["check"], ["check", "--prefix"]):
         yield "check", lambda side, words=words: [*words, side.order, *side.paths]

@@ -14,13 +14,14 @@ use Rattle.epx_names.specs.declared.task.Task.{Task}
 use Rattle.epx_names.specs.declared.task.Task.TheVariants.{Run, Order, Levels, Graph, Resume}
 use Rattle.epx_names.specs.declared.task.Task.TheVariants.{Audit, Check, CheckPrefix, Compare}
 use Rattle.epx_names.specs.declared.task.Task.TheVariants.{Linear, Replay, Verify}
-use Rattle.epx_names.specs.declared.task.Task.TheVariants.{Why, Path, Trace}
+use Rattle.epx_names.specs.declared.task.Task.TheVariants.{Blockers, Why, Path, Trace}
 use Rattle.epx_tool.specs.Report.{IsReport, report_text}
 use Rattle.epx_views.specs.OrderText.{IsOrderText, order_text}
 use Rattle.epx_views.specs.LevelText.{IsLevelText, level_text}
 use Rattle.epx_tool.specs.AuditText.{IsAuditText}
 use Rattle.epx_report.specs.ViewLines.{covered_line, uncovered_line}
 use Rattle.epx_why.proofs.TextExistenceLemmas.{why_text_exists, path_text_exists}
+use Rattle.epx_blockers.proofs.BlockerTextLemmas.{blockers_text_exists}
 use Rattle.epx_trace.proofs.TraceLemmas.{trace_text_exists}
 use Rattle.epx_tool.specs.TaskAnswers.{AnswersLogs}
 use Rattle.epx_tool.specs.TaskTexts.{IsTaskText}
@@ -83,6 +84,7 @@ module _ (m : List Instance) (rising : IsRising (ids_of m)) where
   map_text_exists Run alone other = report_exists
   map_text_exists Order alone other = order_text_exists
   map_text_exists Levels alone other = level_text_exists
+  map_text_exists Blockers alone other = blockers_text_exists m
   map_text_exists Graph alone other = picture_exists m rising
   map_text_exists Audit alone other = audit_text_exists
   map_text_exists Resume alone other = absurd (alone tt)

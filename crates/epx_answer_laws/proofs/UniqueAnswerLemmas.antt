@@ -19,8 +19,9 @@ use Rattle.epx_names.specs.declared.task.Task.{Task}
 use Rattle.epx_names.specs.declared.task.Task.TheVariants.{Run, Order, Levels, Graph, Resume}
 use Rattle.epx_names.specs.declared.task.Task.TheVariants.{Audit, Check, CheckPrefix, Compare}
 use Rattle.epx_names.specs.declared.task.Task.TheVariants.{Linear, Replay, Verify}
-use Rattle.epx_names.specs.declared.task.Task.TheVariants.{Why, Path, Trace}
+use Rattle.epx_names.specs.declared.task.Task.TheVariants.{Blockers, Why, Path, Trace}
 use Rattle.epx_why.proofs.UniqueTextLemmas.{why_text_is_unique, path_text_is_unique}
+use Rattle.epx_blockers.proofs.BlockerTextLemmas.{blockers_text_is_unique}
 use Rattle.epx_trace.proofs.TraceLemmas.{trace_text_is_unique}
 use Rattle.epx_tool.specs.Answer.{Answers}
 use Rattle.epx_tool.specs.TaskAnswers.{AnswersLogs}
@@ -78,6 +79,7 @@ pub IsTaskText-unique : TextSaysOneThing → (task : Task) (input : List ℕ) (m
 IsTaskText-unique one Run input = IsReport-unique
 IsTaskText-unique one Order input = IsOrderText-unique
 IsTaskText-unique one Levels input = IsLevelText-unique
+IsTaskText-unique one Blockers input = blockers_text_is_unique
 IsTaskText-unique one Graph input = picture_is_unique
 IsTaskText-unique one Audit input = IsAuditText-unique
 IsTaskText-unique one Resume base = resumed_one base

@@ -10,6 +10,7 @@ pub(crate) fn asked_task(command: &str, rest: &str) -> Option<Task> {
         "run" => Some(Task::Run),
         "order" => Some(Task::Order),
         "levels" => Some(Task::Levels),
+        "blockers" => Some(Task::Blockers),
         "graph" => Some(Task::Graph),
         "resume" => Some(Task::Resume),
         "audit" => Some(Task::Audit),

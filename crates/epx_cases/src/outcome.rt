@@ -18,6 +18,7 @@ fn ask_of(task: &Task) -> Option<Ask> {
     match task {
         Task::Order => Some(Ask::Order),
         Task::Levels => Some(Ask::Levels),
+        Task::Blockers => Some(Ask::Blockers),
         Task::Graph => Some(Ask::Graph),
         Task::Audit => Some(Ask::Audit),
         Task::Compare => Some(Ask::Compare),

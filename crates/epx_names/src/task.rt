@@ -14,6 +14,8 @@ pub enum Task {
     Order,
     /// Write the conflict levels.
     Levels,
+    /// Say how many instances each missing one blocks.
+    Blockers,
     /// Write the dependency graph as a picture.
     Graph,
     /// Execute what an earlier report, the base, has not executed, and write the report.

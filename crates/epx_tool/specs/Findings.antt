@@ -12,9 +12,9 @@ use Rattle.epx_report.specs.Bases.{IsBase}
 use Rattle.epx_report.specs.ViewLines.{covered_line, lawful_line}
 use Rattle.epx_linear.specs.LinearTexts.{linear_line}
 use Rattle.epx_names.specs.declared.task.Task.{Task}
-use Rattle.epx_names.specs.declared.task.Task.TheVariants.{Run, Order, Levels, Audit, Resume}
-use Rattle.epx_names.specs.declared.task.Task.TheVariants.{Check, CheckPrefix, Compare, Verify}
-use Rattle.epx_names.specs.declared.task.Task.TheVariants.{Linear}
+use Rattle.epx_names.specs.declared.task.Task.TheVariants.{Run, Order, Levels, Blockers, Audit}
+use Rattle.epx_names.specs.declared.task.Task.TheVariants.{Resume, Check, CheckPrefix, Compare}
+use Rattle.epx_names.specs.declared.task.Task.TheVariants.{Verify, Linear}
 use Rattle.epx_tool.specs.declared.findings.Answer.{Answer}
 use Rattle.epx_tool.specs.Answer.{Answers}
 use Rattle.epx_tool.specs.TaskTexts.{IsTaskText}
@@ -30,6 +30,7 @@ abbrev pub FindsIn : Task → List ℕ → List Instance → List ℕ → Type 0
 FindsIn Run input m text = SomeWaits m
 FindsIn Order input m text = SomeWaits m
 FindsIn Levels input m text = SomeWaits m
+FindsIn Blockers input m text = SomeWaits m
 FindsIn Audit input m text = text ≢ covered_line
 FindsIn Resume base m text = (done : List Id) × (stored : Contents) × IsBase base done stored
     × SomeWaits (remaining done m)

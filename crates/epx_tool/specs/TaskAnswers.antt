@@ -7,8 +7,8 @@ use Rattle.epx_compare.specs.ComparisonAnswers.{Compares}
 use Rattle.epx_names.specs.declared.task.Task.{Task}
 use Rattle.epx_names.specs.declared.task.Task.TheVariants as task
 use Rattle.epx_tool.specs.declared.ask.Ask.{Ask}
-use Rattle.epx_tool.specs.declared.ask.Ask.TheVariants.{Order, Levels, Audit, Graph, Why}
-use Rattle.epx_tool.specs.declared.ask.Ask.TheVariants.{Path, Trace, Compare}
+use Rattle.epx_tool.specs.declared.ask.Ask.TheVariants.{Order, Levels, Blockers, Audit, Graph}
+use Rattle.epx_tool.specs.declared.ask.Ask.TheVariants.{Why, Path, Trace, Compare}
 use Rattle.epx_tool.specs.Answer.{Answers}
 use Rattle.epx_tool.specs.TaskTexts.{IsTaskText}
 use Rattle.epx_tool.specs.WithInput.{AnswersWithInput}
@@ -19,6 +19,7 @@ use Rattle.epx_verify.specs.SaidTexts.{IsBadSaid}
 abbrev pub task_of : Ask → Task
 task_of Order = task.Order
 task_of Levels = task.Levels
+task_of Blockers = task.Blockers
 task_of Audit = task.Audit
 task_of Graph = task.Graph
 task_of (Why x) = task.Why x

@@ -2,13 +2,14 @@
 use Rattle.std.specs.Prelude.{ℕ, List}
 use Rattle.epx_types.specs.Instances.{Instance}
 use Rattle.epx_names.specs.declared.task.Task.{Task}
-use Rattle.epx_names.specs.declared.task.Task.TheVariants.{Run, Order, Levels, Graph, Resume}
-use Rattle.epx_names.specs.declared.task.Task.TheVariants.{Audit, Check, CheckPrefix, Compare}
-use Rattle.epx_names.specs.declared.task.Task.TheVariants.{Replay, Verify, Linear, Why, Path}
-use Rattle.epx_names.specs.declared.task.Task.TheVariants.{Trace}
+use Rattle.epx_names.specs.declared.task.Task.TheVariants.{Run, Order, Levels, Blockers, Graph}
+use Rattle.epx_names.specs.declared.task.Task.TheVariants.{Resume, Audit, Check, CheckPrefix}
+use Rattle.epx_names.specs.declared.task.Task.TheVariants.{Compare, Replay, Verify, Linear, Why}
+use Rattle.epx_names.specs.declared.task.Task.TheVariants.{Path, Trace}
 use Rattle.epx_tool.specs.Report.{IsReport}
 use Rattle.epx_views.specs.OrderText.{IsOrderText}
 use Rattle.epx_views.specs.LevelText.{IsLevelText}
+use Rattle.epx_blockers.specs.BlockerTexts.{IsBlockersText}
 use Rattle.epx_tool.specs.AuditText.{IsAuditText}
 use Rattle.epx_tool.specs.CheckAnswers.{IsCheckText, IsPrefixCheckText, IsReplayText}
 use Rattle.epx_tool.specs.CheckAnswers.{IsHistoryCheckText, IsVerifyText}
@@ -23,6 +24,7 @@ abbrev pub IsTaskText : Task → List ℕ → List Instance → List ℕ → Typ
 IsTaskText Run = λ input. IsReport
 IsTaskText Order = λ input. IsOrderText
 IsTaskText Levels = λ input. IsLevelText
+IsTaskText Blockers = λ input. IsBlockersText
 IsTaskText Graph = λ input. IsPicture
 IsTaskText Audit = λ input. IsAuditText
 IsTaskText Resume = IsResumedText

@@ -11,6 +11,8 @@ pub enum Ask {
     Order,
     /// The execution order, with the conflict level of each instance's command.
     Levels,
+    /// The missing instances, with how many instances each of them blocks.
+    Blockers,
     /// Whether the instances are covered, and if not, the least two that are not.
     Audit,
     /// The dependency graph, as a picture in DOT.
@@ -36,6 +38,7 @@ impl From<Ask> for Task {
         match ask {
             Ask::Order => Task::Order,
             Ask::Levels => Task::Levels,
+            Ask::Blockers => Task::Blockers,
             Ask::Audit => Task::Audit,
             Ask::Graph => Task::Graph,
             Ask::Why(id) => Task::Why(id),

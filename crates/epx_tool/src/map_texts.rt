@@ -11,6 +11,7 @@ ghost use Rattle.epx_tool.specs.Report.{IsReport};
 ghost use Rattle.epx_tool.specs.ResumedReport.{IsReportAfter};
 ghost use Rattle.epx_tool.specs.Findings.{SomeWaits};
 ghost use Rattle.epx_tool.specs.inner.MapQuestions.{FindsOf, IsTextOf};
+ghost use Rattle.epx_blockers.specs.BlockerTexts.{IsBlockersText};
 ghost use Rattle.epx_why.specs.WhyTexts.{IsWhyText};
 ghost use Rattle.epx_trace.specs.TraceTexts.{IsTraceText};
 
@@ -19,6 +20,7 @@ use crate::findings::{Answer, is_other, some_wait};
 use crate::question::MapQuestion;
 use crate::verdict::{prefix_verdict_of, said_verdict_of, verdict_of};
 use epx_audit::audit;
+use epx_blockers::blockers_text;
 use epx_graph::{build, build_after, waiting};
 use epx_merge::Merged;
 use epx_names::KeyName;
@@ -104,6 +106,24 @@ fn levels_of<R: Threads + Sync>(
     Ok(Answer::new(text, has_findings))
 }
 
+/// The text that says which missing instances of a committed map to recover first.
+fn blockers_of<R: Threads + Sync>(
+    rt: &R,
+    alloc: Global,
+    merged: &Merged,
+    plan: Plan,
+) -> Result<Answer, Memory>
+    ensures text { IfOk result (λ answer. IsBlockersText merged.now answer.text.items) }
+    ensures found { IfOk result (λ answer. (answer.has_findings ≡ true)
+        ↔ SomeWaits merged.now) }
+{
+    let graph = build(rt, alloc, merged, plan)?;
+    let waiters = waiting(alloc, &graph)?;
+    let has_findings = some_wait(&waiters);
+    let text = blockers_text(alloc, &graph)?;
+    Ok(Answer::new(text, has_findings))
+}
+
 /// The text of the audit of a committed map.
 fn audit_of<R: Threads + Sync>(
     rt: &R,
@@ -177,6 +197,7 @@ pub(crate) fn text_of<R: Threads + RandomSource + Sync>(
         }
         MapQuestion::Order => order_of(rt, alloc, merged, plan),
         MapQuestion::Levels => levels_of(rt, alloc, merged, plan),
+        MapQuestion::Blockers => blockers_of(rt, alloc, merged, plan),
         MapQuestion::Audit => audit_of(rt, alloc, merged, plan),
         MapQuestion::Graph => {
             let graph = build(rt, alloc, merged, plan)?;

@@ -188,35 +188,38 @@ is_order = inr (inl refl)
 is_levels : IsTaskName (codes "levels")
 is_levels = inr (inr (inl refl))
 
+is_blockers : IsTaskName (codes "blockers")
+is_blockers = inr (inr (inr (inl refl)))
+
 is_graph : IsTaskName (codes "graph")
-is_graph = inr (inr (inr (inl refl)))
+is_graph = inr (inr (inr (inr (inl refl))))
 
 is_resume : IsTaskName (codes "resume")
-is_resume = inr (inr (inr (inr (inl refl))))
+is_resume = inr (inr (inr (inr (inr (inl refl)))))
 
 is_audit : IsTaskName (codes "audit")
-is_audit = inr (inr (inr (inr (inr (inl refl)))))
+is_audit = inr (inr (inr (inr (inr (inr (inl refl))))))
 
 is_check : IsTaskName (codes "check")
-is_check = inr (inr (inr (inr (inr (inr (inl refl))))))
+is_check = inr (inr (inr (inr (inr (inr (inr (inl refl)))))))
 
 is_verify : IsTaskName (codes "verify")
-is_verify = inr (inr (inr (inr (inr (inr (inr (inl refl)))))))
+is_verify = inr (inr (inr (inr (inr (inr (inr (inr (inl refl))))))))
 
 is_linear : IsTaskName (codes "linear")
-is_linear = inr (inr (inr (inr (inr (inr (inr (inr (inl refl))))))))
+is_linear = inr (inr (inr (inr (inr (inr (inr (inr (inr (inl refl)))))))))
 
 is_replay : IsTaskName (codes "replay")
-is_replay = inr (inr (inr (inr (inr (inr (inr (inr (inr (inl refl)))))))))
+is_replay = inr (inr (inr (inr (inr (inr (inr (inr (inr (inr (inl refl))))))))))
 
 is_compare : IsTaskName (codes "compare")
-is_compare = inr (inr (inr (inr (inr (inr (inr (inr (inr (inr (inl refl))))))))))
+is_compare = inr (inr (inr (inr (inr (inr (inr (inr (inr (inr (inr (inl refl)))))))))))
 
 is_why : IsTaskName (codes "why")
-is_why = inr (inr (inr (inr (inr (inr (inr (inr (inr (inr (inr (inl refl)))))))))))
+is_why = inr (inr (inr (inr (inr (inr (inr (inr (inr (inr (inr (inr (inl refl))))))))))))
 
 is_trace : IsTaskName (codes "trace")
-is_trace = inr (inr (inr (inr (inr (inr (inr (inr (inr (inr (inr (inr (inl refl))))))))))))
+is_trace = inr (inr (inr (inr (inr (inr (inr (inr (inr (inr (inr (inr (inr (inl refl)))))))))))))
 
 no_first : (name : Text) → is_none_of name first_names ≡ true → ¬ NeedsFirst name
 no_first name none = not_one_of name first_names none
@@ -251,6 +254,48 @@ module _ (rest : List Text) where
         λ e. absurd (apart (codes "follow") (codes "linear") refl e),
       )
 
+-- the names of the tasks from `check` on
+abbrev later_names : List Text
+later_names = codes "check" ∷ codes "verify" ∷ codes "linear" ∷ codes "replay" ∷ codes "compare"
+    ∷ codes "why" ∷ codes "trace" ∷ []
+
+later_works : (name : Text) (rest : List Text) → IsOneOf name later_names
+    → entered_fault app (Some (name, rest)) ≡ [] → AsksForWork (entered app (Some (name, rest)))
+later_works n rest (inl is) =
+    named n (codes "check") rest is
+    (λ none. first_work (leaf_of (list_app (codes "check"))) (codes "check") rest is_check
+    (list_numbers (codes "check") rest none) (λ e. e)
+    (λ e. absurd (apart (codes "check") (codes "linear") refl e)) none)
+later_works n rest (inr (inl is)) =
+    named n (codes "verify") rest is
+    (λ none. first_work (leaf_of (base_app (codes "verify"))) (codes "verify") rest is_verify
+    (base_numbers (codes "verify") rest none) (λ e. e)
+    (λ e. absurd (apart (codes "verify") (codes "linear") refl e)) none)
+later_works n rest (inr (inr (inl is))) =
+    named n (codes "linear") rest is
+    (λ none. first_work (leaf_of (linear_app (codes "linear"))) (codes "linear") rest is_linear
+    (linear_numbers (codes "linear") rest none) (λ e. e)
+    (λ e. linear_skew (codes "linear") rest none) none)
+later_works n rest (inr (inr (inr (inl is)))) =
+    named n (codes "replay") rest is
+    (λ none. first_work (leaf_of (input_app (codes "replay"))) (codes "replay") rest is_replay
+    (input_numbers (codes "replay") rest none) (λ e. e)
+    (λ e. absurd (apart (codes "replay") (codes "linear") refl e)) none)
+later_works n rest (inr (inr (inr (inr (inl is))))) =
+    named n (codes "compare") rest is
+    (over_findings rest (codes "compare") is_compare refl)
+later_works n rest (inr (inr (inr (inr (inr (inl is)))))) =
+    named n (codes "why") rest is
+    (λ none. first_work (leaf_of (why_app (codes "why"))) (codes "why") rest is_why
+    (why_numbers (codes "why") rest none) (λ e. e)
+    (λ e. absurd (apart (codes "why") (codes "linear") refl e)) none)
+later_works n rest (inr (inr (inr (inr (inr (inr (inl is))))))) =
+    named n (codes "trace") rest is
+    (λ none. first_work (leaf_of (trace_app (codes "trace"))) (codes "trace") rest is_trace
+    (trace_numbers (codes "trace") rest none) (λ e. e)
+    (λ e. absurd (apart (codes "trace") (codes "linear") refl e)) none)
+later_works n rest (inr (inr (inr (inr (inr (inr (inr e))))))) = absurd e
+
 task_works : (name : Text) (rest : List Text) → IsTaskName name
     → entered_fault app (Some (name, rest)) ≡ [] → AsksForWork (entered app (Some (name, rest)))
 task_works n rest (inl is) =
@@ -263,51 +308,20 @@ task_works n rest (inr (inr (inl is))) =
     named n (codes "levels") rest is
     (over_findings rest (codes "levels") is_levels refl)
 task_works n rest (inr (inr (inr (inl is)))) =
+    named n (codes "blockers") rest is
+    (over_findings rest (codes "blockers") is_blockers refl)
+task_works n rest (inr (inr (inr (inr (inl is))))) =
     named n (codes "graph") rest is
     (over_logs rest (codes "graph") is_graph refl)
-task_works n rest (inr (inr (inr (inr (inl is))))) =
+task_works n rest (inr (inr (inr (inr (inr (inl is)))))) =
     named n (codes "resume") rest is
     (λ none. first_work (leaf_of (base_app (codes "resume"))) (codes "resume") rest is_resume
     (base_numbers (codes "resume") rest none) (λ e. e)
     (λ e. absurd (apart (codes "resume") (codes "linear") refl e)) none)
-task_works n rest (inr (inr (inr (inr (inr (inl is)))))) =
+task_works n rest (inr (inr (inr (inr (inr (inr (inl is))))))) =
     named n (codes "audit") rest is
     (over_findings rest (codes "audit") is_audit refl)
-task_works n rest (inr (inr (inr (inr (inr (inr (inl is))))))) =
-    named n (codes "check") rest is
-    (λ none. first_work (leaf_of (list_app (codes "check"))) (codes "check") rest is_check
-    (list_numbers (codes "check") rest none) (λ e. e)
-    (λ e. absurd (apart (codes "check") (codes "linear") refl e)) none)
-task_works n rest (inr (inr (inr (inr (inr (inr (inr (inl is)))))))) =
-    named n (codes "verify") rest is
-    (λ none. first_work (leaf_of (base_app (codes "verify"))) (codes "verify") rest is_verify
-    (base_numbers (codes "verify") rest none) (λ e. e)
-    (λ e. absurd (apart (codes "verify") (codes "linear") refl e)) none)
-task_works n rest (inr (inr (inr (inr (inr (inr (inr (inr (inl is))))))))) =
-    named n (codes "linear") rest is
-    (λ none. first_work (leaf_of (linear_app (codes "linear"))) (codes "linear") rest is_linear
-    (linear_numbers (codes "linear") rest none) (λ e. e)
-    (λ e. linear_skew (codes "linear") rest none) none)
-task_works n rest (inr (inr (inr (inr (inr (inr (inr (inr (inr (inl is)))))))))) =
-    named n (codes "replay") rest is
-    (λ none. first_work (leaf_of (input_app (codes "replay"))) (codes "replay") rest is_replay
-    (input_numbers (codes "replay") rest none) (λ e. e)
-    (λ e. absurd (apart (codes "replay") (codes "linear") refl e)) none)
-task_works n rest (inr (inr (inr (inr (inr (inr (inr (inr (inr (inr (inl is))))))))))) =
-    named n (codes "compare") rest is
-    (over_findings rest (codes "compare") is_compare refl)
-task_works n rest (inr (inr (inr (inr (inr (inr (inr (inr (inr (inr (inr (inl is)))))))))))) =
-    named n (codes "why") rest is
-    (λ none. first_work (leaf_of (why_app (codes "why"))) (codes "why") rest is_why
-    (why_numbers (codes "why") rest none) (λ e. e)
-    (λ e. absurd (apart (codes "why") (codes "linear") refl e)) none)
-task_works n rest (inr (inr (inr (inr (inr (inr (inr (inr (inr (inr (inr (inr (inl is))))))))))))) =
-    named n (codes "trace") rest is
-    (λ none. first_work (leaf_of (trace_app (codes "trace"))) (codes "trace") rest is_trace
-    (trace_numbers (codes "trace") rest none) (λ e. e)
-    (λ e. absurd (apart (codes "trace") (codes "linear") refl e)) none)
-task_works n rest (inr (inr (inr (inr (inr (inr (inr (inr (inr (inr (inr (inr (inr e))))))))))))) =
-    absurd e
+task_works n rest (inr (inr (inr (inr (inr (inr (inr later))))))) = later_works n rest later
 
 name_works : (name : Text) (rest : List Text) → IsWorkName name
     → entered_fault app (Some (name, rest)) ≡ [] → AsksForWork (entered app (Some (name, rest)))
@@ -328,22 +342,25 @@ known = (
     (
       inl (inl is_levels),
       (
-        inl (inl is_graph),
+        inl (inl is_blockers),
         (
-          inl (inl is_resume),
+          inl (inl is_graph),
           (
-            inl (inl is_audit),
+            inl (inl is_resume),
             (
-              inl (inl is_check),
+              inl (inl is_audit),
               (
-                inl (inl is_verify),
+                inl (inl is_check),
                 (
-                  inl (inl is_linear),
+                  inl (inl is_verify),
                   (
-                    inl (inl is_replay),
+                    inl (inl is_linear),
                     (
-                      inl (inl is_compare),
-                      (inl (inl is_why), (inl (inl is_trace), (inl (inr refl), (inr refl, tt)))),
+                      inl (inl is_replay),
+                      (
+                        inl (inl is_compare),
+                        (inl (inl is_why), (inl (inl is_trace), (inl (inr refl), (inr refl, tt)))),
+                      ),
                     ),
                   ),
                 ),

@@ -50,6 +50,7 @@ subject_of : (t : Task) (p : Text × List Row) → Some p.0 ≡ Some (task_name 
 subject_of task.Run p is fits = no_subject p (codes "run") is refl refl
 subject_of task.Order p is fits = no_subject p (codes "order") is refl refl
 subject_of task.Levels p is fits = no_subject p (codes "levels") is refl refl
+subject_of task.Blockers p is fits = no_subject p (codes "blockers") is refl refl
 subject_of task.Graph p is fits = no_subject p (codes "graph") is refl refl
 subject_of task.Resume p is fits = no_subject p (codes "resume") is refl refl
 subject_of task.Audit p is fits = no_subject p (codes "audit") is refl refl

@@ -123,12 +123,14 @@ epx_top = on_top
     })
     (new_app (codes "epx"))
 
--- the program with the subcommands `run`, `order`, `levels` and `graph`
+-- the program with the subcommands `run`, `order`, `levels`, `blockers` and `graph`
 abbrev pub runs_app : App
 runs_app =
     with_subcommand
+    (with_subcommand
     (with_subcommand (with_subcommand (with_subcommand epx_top (finding_app (codes "run")).top)
     (finding_app (codes "order")).top) (finding_app (codes "levels")).top)
+    (finding_app (codes "blockers")).top)
     (work_app (codes "graph")).top
 
 -- and `resume`, `audit`, `check`, `verify` and `linear`

@@ -25,6 +25,7 @@ abbrev pub task_name : Task → Text
 task_name task.Run = codes "run"
 task_name task.Order = codes "order"
 task_name task.Levels = codes "levels"
+task_name task.Blockers = codes "blockers"
 task_name task.Graph = codes "graph"
 task_name task.Resume = codes "resume"
 task_name task.Audit = codes "audit"

@@ -84,9 +84,9 @@ IsOneOf text (t ∷ ts) = (text ≡ t) ⊎ IsOneOf text ts
 
 -- the names of the subcommands of tasks
 abbrev pub task_names : List Text
-task_names = codes "run" ∷ codes "order" ∷ codes "levels" ∷ codes "graph" ∷ codes "resume"
-    ∷ codes "audit" ∷ codes "check" ∷ codes "verify" ∷ codes "linear" ∷ codes "replay"
-    ∷ codes "compare" ∷ codes "why" ∷ codes "trace" ∷ []
+task_names = codes "run" ∷ codes "order" ∷ codes "levels" ∷ codes "blockers" ∷ codes "graph"
+    ∷ codes "resume" ∷ codes "audit" ∷ codes "check" ∷ codes "verify" ∷ codes "linear"
+    ∷ codes "replay" ∷ codes "compare" ∷ codes "why" ∷ codes "trace" ∷ []
 
 abbrev pub IsTaskName : Text → Type 0
 IsTaskName name = IsOneOf name task_names

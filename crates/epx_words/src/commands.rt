@@ -82,6 +82,25 @@ with the missing one that it waits for. Commands of one level do not conflict.",
     long_after: LOGS_AND_EXAMPLE,
 };
 
+const BLOCKERS: Help = Help {
+    about: "Says what to recover first: how many each missing instance blocks",
+    long_about: "Says what to recover first, and executes nothing: lines of JSON, with how many
+instances each missing one blocks, and how many wait for several missing ones.
+An instance is missing if a committed one depends on it and no log commits it.",
+    after: "Example:
+  epx blockers examples/replicas/*.jsonl",
+    long_after: "What comes out is a line for each missing instance, by its Id, and a last line.
+Each instance that waits is counted once, in one of the numbers alone or in n:
+
+  [\"blocks\",r,i,alone,named]  r.i is missing: so many instances reach it and no
+                              other missing one, and so many of all have it
+                              among their dependencies
+  [\"several\",n]               n instances reach more than one missing instance
+
+Example:
+  epx blockers examples/replicas/*.jsonl",
+};
+
 const GRAPH: Help = Help {
     about: "Prints the dependency graph, to be drawn by Graphviz",
     long_about: "Prints the dependency graph of what the logs commit in DOT, the language of
@@ -133,7 +152,7 @@ Example:
 };
 
 const CHECK: Help = Help {
-    about: "Says whether a list of instances is an order that the protocol allows",
+    about: "Says whether a list is an order that the protocol allows",
     long_about: "Says whether a list of instances is an order that the protocol allows for what
 the logs commit, and executes nothing. Such an order is lawful: each ready
 instance is in it once, after all that it reaches by dependencies, but for those
@@ -343,7 +362,7 @@ Examples:
   epx follow --state old.state --save new.state more.jsonl",
 };
 
-/// What `--exit-code` asks of a subcommand that executes or orders instances.
+/// What `--exit-code` asks of a subcommand of whose instances some can wait.
 const IF_WAITING: &str = "Exits with status 5 if an instance waits";
 
 /// What it asks of a subcommand that says what is wrong.
@@ -590,18 +609,20 @@ fn start<'a>(alloc: Global) -> Command<'a>
         .args_override_self(true)
 }
 
-/// The program with the subcommands `run`, `order`, `levels` and `graph`.
+/// The program with the subcommands `run`, `order`, `levels`, `blockers` and `graph`.
 fn with_runs<'a>(alloc: Global) -> Result<Command<'a>, AllocError>
     ensures { IfOk result (λ c. app_of c ≡ runs_app) }
 {
     let run = finding_subcommand(alloc, "run", RUN, IF_WAITING)?;
     let order = finding_subcommand(alloc, "order", ORDER, IF_WAITING)?;
     let levels = finding_subcommand(alloc, "levels", LEVELS, IF_WAITING)?;
+    let blockers = finding_subcommand(alloc, "blockers", BLOCKERS, IF_WAITING)?;
     let graph = logs_subcommand(alloc, "graph", GRAPH)?;
     start(alloc)
         .subcommand(run)?
         .subcommand(order)?
         .subcommand(levels)?
+        .subcommand(blockers)?
         .subcommand(graph)
 }
 

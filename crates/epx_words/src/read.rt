@@ -77,9 +77,8 @@ fn paths_of(alloc: Global, task: Task, matches: &ArgMatches<'_>) -> Result<Vec<S
     match task {
         Task::Resume | Task::Check | Task::CheckPrefix => first_and_logs(alloc, matches),
         Task::Verify | Task::Linear { .. } | Task::Replay => first_and_logs(alloc, matches),
-        Task::Run | Task::Order | Task::Levels | Task::Graph | Task::Audit | Task::Compare => {
-            logs_of(alloc, matches)
-        },
+        Task::Run | Task::Order | Task::Levels | Task::Blockers => logs_of(alloc, matches),
+        Task::Graph | Task::Audit | Task::Compare => logs_of(alloc, matches),
         Task::Why(_) | Task::Path(_, _) | Task::Trace { .. } => logs_of(alloc, matches),
     }
 }

@@ -80,6 +80,8 @@ fn plain_task(name: &str, matches: &ArgMatches<'_>) -> Task
         Task::Order
     } else if name == "levels" {
         Task::Levels
+    } else if name == "blockers" {
+        Task::Blockers
     } else if name == "graph" {
         Task::Graph
     } else if name == "resume" {

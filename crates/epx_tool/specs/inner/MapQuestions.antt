@@ -15,9 +15,11 @@ use Rattle.epx_why.specs.WhyTexts.{IsWhyText, IsPathText}
 use Rattle.epx_trace.specs.TraceTexts.{IsTraceText}
 use Rattle.epx_tool.specs.declared.question.MapQuestion.{MapQuestion}
 use Rattle.epx_tool.specs.declared.question.MapQuestion.TheVariants.{Report, Resume, Order, Levels}
+use Rattle.epx_tool.specs.declared.question.MapQuestion.TheVariants.{Blockers}
 use Rattle.epx_tool.specs.declared.question.MapQuestion.TheVariants.{Audit, Graph, Why, Path, Trace}
 use Rattle.epx_tool.specs.declared.question.MapQuestion.TheVariants.{Check, CheckPrefix}
 use Rattle.epx_tool.specs.declared.question.MapQuestion.TheVariants.{Replay, Verify, Linear}
+use Rattle.epx_blockers.specs.BlockerTexts.{IsBlockersText}
 use Rattle.epx_tool.specs.AuditText.{IsAuditText}
 use Rattle.epx_tool.specs.Findings.{FindsIn, SomeWaits}
 use Rattle.epx_views.specs.LevelText.{IsLevelText}
@@ -39,6 +41,7 @@ IsTextOf Report = IsReport
 IsTextOf (Resume base) = IsReportAfter base.done base.stored
 IsTextOf Order = IsOrderText
 IsTextOf Levels = IsLevelText
+IsTextOf Blockers = IsBlockersText
 IsTextOf Audit = IsAuditText
 IsTextOf Graph = IsPicture
 IsTextOf (Why x) = λ m. IsWhyText m x
@@ -56,6 +59,7 @@ FindsOf Report m text = SomeWaits m
 FindsOf (Resume base) m text = SomeWaits (remaining base.done m)
 FindsOf Order m text = SomeWaits m
 FindsOf Levels m text = SomeWaits m
+FindsOf Blockers m text = SomeWaits m
 FindsOf Audit m text = text ≢ covered_line
 FindsOf (Check ids) m text = text ≢ lawful_line
 FindsOf (CheckPrefix ids) m text = text ≢ lawful_line

@@ -50,6 +50,17 @@ returns-in-Levels-clause-found g c = subst
     (λ a. (a.has_findings ≡ true) ↔ FindsOf question c.args.merged.now a.text.items))
     (sym c.in-Levels.is) c.levels_of.ensures.found
 
+pub returns-in-Blockers-clause-text : goal.returns-in-Blockers-clause-text
+returns-in-Blockers-clause-text g c = subst
+    (λ question. IfOk c.blockers_of.result (λ a. IsTextOf question c.args.merged.now a.text.items))
+    (sym c.in-Blockers.is) c.blockers_of.ensures.text
+
+pub returns-in-Blockers-clause-found : goal.returns-in-Blockers-clause-found
+returns-in-Blockers-clause-found g c = subst
+    (λ question. IfOk c.blockers_of.result
+    (λ a. (a.has_findings ≡ true) ↔ FindsOf question c.args.merged.now a.text.items))
+    (sym c.in-Blockers.is) c.blockers_of.ensures.found
+
 pub returns-in-Audit-clause-found : goal.returns-in-Audit-clause-found
 returns-in-Audit-clause-found g c = subst
     (λ question. IfOk c.audit_of.result

@@ -1,7 +1,7 @@
 use Rattle.std.proofs.Common.{[], subst, sym}
 use Rattle.epx_names.specs.declared.task.Task.{Task}
 use Rattle.epx_tool.specs.declared.question.MapQuestion.TheVariants.{Report, Order, Levels, Graph}
-use Rattle.epx_tool.specs.declared.question.MapQuestion.TheVariants.{Trace}
+use Rattle.epx_tool.specs.declared.question.MapQuestion.TheVariants.{Blockers, Trace}
 use Rattle.epx_tool.specs.inner.MapQuestions.{TaskAsks}
 use Rattle.epx_tool.proofs.question.question_of.Goals as goal
 
@@ -24,6 +24,14 @@ returns-in-Order-clause-some c =
 pub returns-in-Levels-clause-some : goal.returns-in-Levels-clause-some
 returns-in-Levels-clause-some c =
     subst (λ (task : Task). TaskAsks task [] Levels) (sym c.in-Levels.is) (record {
+      of_map = λ same. cc same;
+      text = λ m text h. h;
+      finds = λ m text. (λ h. h, λ h. h);
+    })
+
+pub returns-in-Blockers-clause-some : goal.returns-in-Blockers-clause-some
+returns-in-Blockers-clause-some c =
+    subst (λ (task : Task). TaskAsks task [] Blockers) (sym c.in-Blockers.is) (record {
       of_map = λ same. cc same;
       text = λ m text h. h;
       finds = λ m text. (λ h. h, λ h. h);

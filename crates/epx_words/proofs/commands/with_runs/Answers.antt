@@ -14,6 +14,9 @@ order = with_subcommand run (finding_app (codes "order")).top
 abbrev levels : App
 levels = with_subcommand order (finding_app (codes "levels")).top
 
+abbrev blockers : App
+blockers = with_subcommand levels (finding_app (codes "blockers")).top
+
 pub returns : goal.returns
 returns c =
     let one = with_command c.start.result c.in_ok-run.run' c.in_ok-subcommand.field-0 epx_top
@@ -25,6 +28,9 @@ returns c =
     let three = with_command c.in_ok-subcommand-2.field-0 c.in_ok-levels.levels
     c.in_ok-subcommand-3.field-0 order (finding_app (codes "levels")) c.in_ok-subcommand-3.ensures
     two c.in_ok-levels.ensures refl in
-    IfOk-weaker c.subcommand-4.result _ _ (λ made added.
-    with_command c.in_ok-subcommand-3.field-0 c.in_ok-graph.graph made levels
-    (work_app (codes "graph")) added three c.in_ok-graph.ensures refl) c.subcommand-4.ensures
+    let four = with_command c.in_ok-subcommand-3.field-0 c.in_ok-blockers.blockers
+    c.in_ok-subcommand-4.field-0 levels (finding_app (codes "blockers"))
+    c.in_ok-subcommand-4.ensures three c.in_ok-blockers.ensures refl in
+    IfOk-weaker c.subcommand-5.result _ _ (λ made added.
+    with_command c.in_ok-subcommand-4.field-0 c.in_ok-graph.graph made blockers
+    (work_app (codes "graph")) added four c.in_ok-graph.ensures refl) c.subcommand-5.ensures
