@@ -21,10 +21,12 @@ _epx() {
     esac
     # the options of the subcommand, and how many names that are no paths come first
     case ${COMP_WORDS[1]} in
-        run|order|levels|blockers|resume|audit|verify|compare) options=" --workers --cut --explain --exit-code --help " firsts=0 ;;
-        graph|replay) options=" --workers --cut --explain --help " firsts=0 ;;
+        run|order|levels|blockers|resume|verify|compare) options=" --workers --cut --explain --exit-code --help " firsts=0 ;;
+        graph) options=" --workers --cut --explain --around --steps --help " firsts=0 ;;
+        audit) options=" --workers --cut --explain --exit-code --all --help " firsts=0 ;;
         check) options=" --workers --cut --explain --exit-code --prefix --help " firsts=0 ;;
         linear) options=" --workers --cut --explain --exit-code --skew --help " firsts=0 ;;
+        replay) options=" --workers --cut --explain --help " firsts=0 ;;
         why) options=" --workers --cut --explain --reaches --help " firsts=1 ;;
         trace) options=" --workers --cut --explain --reads --help " firsts=1 ;;
         follow) options=" --workers --cut --explain --each --state --save --help " firsts=0 ;;
@@ -36,7 +38,7 @@ _epx() {
             [ "$word" = "=" ] || is_value=""
         elif [ -z "$is_ended" ] && [[ $word == -?* ]]; then
             options=${options/ "$word" / }
-            case $word in --) is_ended=1 ;; --workers | --cut | --skew | --reaches | --state | --save) is_value=$word ;; esac
+            case $word in --) is_ended=1 ;; --workers | --cut | --around | --steps | --skew | --reaches | --state | --save) is_value=$word ;; esac
         else
             firsts=$((firsts - 1))
         fi

@@ -35,7 +35,7 @@ function __epx_at_path
             switch $word
                 case --
                     set is_ended 1
-                case --workers --cut --skew --reaches --state --save
+                case --workers --cut --around --steps --skew --reaches --state --save
                     set is_value $word
             end
         else
@@ -72,7 +72,10 @@ complete -c epx -n '__epx_in run order levels blockers graph resume audit check 
 complete -c epx -n '__epx_in run order levels blockers graph resume audit check verify linear replay compare why trace follow; and not __fish_contains_opt explain' -l explain -d 'Explains a fault or a finding in further lines'
 complete -c epx -n '__epx_in run order levels blockers resume; and not __fish_contains_opt exit-code' -l exit-code -d 'Exits with status 5 if an instance waits'
 complete -c epx -n '__epx_in run order levels blockers graph resume audit check verify linear replay compare why trace follow; and not __fish_contains_opt help' -l help -d 'Print help'
+complete -c epx -n '__epx_in graph; and not __fish_contains_opt around' -l around -x -d 'Prints the part around this instance alone'
+complete -c epx -n '__epx_in graph; and not __fish_contains_opt steps' -l steps -x -d 'How many steps around it, either way along dependencies [default: 1]'
 complete -c epx -n '__epx_in audit check verify linear compare; and not __fish_contains_opt exit-code' -l exit-code -d 'Exits with status 5 if something was found'
+complete -c epx -n '__epx_in audit; and not __fish_contains_opt all' -l all -d 'Prints all pairs that would have to be related, each with its key'
 complete -c epx -n '__epx_in check; and not __fish_contains_opt prefix' -l prefix -d 'Lets the list lack ready instances, as that of a live replica does'
 complete -c epx -n '__epx_in linear; and not __fish_contains_opt skew' -l skew -x -d 'How much clocks may differ, 0 to 2^63 - 1, in the unit of the times'
 complete -c epx -n '__epx_in why; and not __fish_contains_opt reaches' -l reaches -x -d 'Prints a shortest path of dependencies to this instance instead'

@@ -182,6 +182,15 @@ class Blockers:
 
 
 @dataclasses.dataclass(frozen=True)
+class Uncovered:
+    """Two instances that would have to be related because of a key; `before` is executed first."""
+
+    before: Id
+    after: Id
+    key: str
+
+
+@dataclasses.dataclass(frozen=True)
 class Ordered:
     """An instance of the execution order, with its depth and its component's leader."""
 
@@ -228,15 +237,23 @@ def blockers(logs, workers=4, exit_code=False):
     return ask("blockers", logs, workers, exit_code, read_blockers)
 
 
-def graph(logs, workers=4):
-    """The dependency graph as a text in DOT, the language of Graphviz."""
-    return ask("graph", logs, workers, False, bytes.decode)
+def graph(logs, workers=4, around=None, steps=1):
+    """The dependency graph as a text in DOT, the language of Graphviz; with `around` the part
+    within so many steps of this instance."""
+    options = [] if around is None else ["--around", name_of(around), "--steps", str(steps)]
+    return ask("graph", logs, workers, False, bytes.decode, options)
 
 
 def audit(logs, workers=4, exit_code=False):
     """The least two ready instances that conflict and are not related, or None: covered. With
     `exit_code` such a pair is a finding."""
     return ask("audit", logs, workers, exit_code, read_pair)
+
+
+def audit_all(logs, workers=4, exit_code=False):
+    """All pairs that would have to be related, as `Uncovered`: none where the logs are covered.
+    With `exit_code` a pair is a finding."""
+    return ask("audit", logs, workers, exit_code, read_pairs, ["--all"])
 
 
 def check(instances, logs, workers=4, prefix=False, exit_code=False):
@@ -454,6 +471,12 @@ def read_pair(text):
     return None if row == ["covered"] else (Id(*row[1:3]), Id(*row[3:]))
 
 
+def read_pairs(text):
+    """The rows `uncovered` of an audit of all pairs."""
+    rows = [row for row in read_rows(text) if row != ("covered",)]
+    return [Uncovered(Id(*row[1:3]), Id(*row[3:5]), row[5]) for row in rows]
+
+
 def read_verdict(text):
     """What a check found, or None."""
     row = json.loads(text)
@@ -577,6 +600,10 @@ def test_answers(examples, logs):
     bank = sorted(examples.glob("bank/*.jsonl"))
     assert blockers(bank).waiting == len(report(bank).waiting)
     assert graph(logs) == (examples / "replicas/all.dot").read_text()
+    around = graph(logs, around=Id(0, 1), steps=0)
+    assert around.count("label") == 1 and graph(logs, around=Id(2, 1)).count("->") == 1
+    assert graph(logs, around=Id(0, 1), steps=99).count("->") == graph(logs).count("->") - 1
+    assert audit_all(logs) == []
     assert audit(logs) is None and check([one.id for one in order(logs)], logs) is None
     assert check([], logs)[0] == "missing" and check([], logs, prefix=True) is None
     right = replay([one.id for one in found.replies], logs)
@@ -623,6 +650,10 @@ def test_findings(examples, logs):
         assert ask_for(one, exit_code=True) == ask_for(one)
     assert raised(Finding, lambda: audit(unrelated, exit_code=True)).answer == audit(unrelated)
     assert audit(logs, exit_code=True) is None and audit(unrelated) is not None
+    found = raised(Finding, lambda: audit_all(unrelated, exit_code=True)).answer
+    assert found == audit_all(unrelated)
+    assert {found[0].before, found[0].after} == {*audit(unrelated)}
+    assert audit_all(logs, exit_code=True) == []
     assert raised(Finding, lambda: check([], logs, exit_code=True)).answer == check([], logs)
     assert check([], logs, prefix=True, exit_code=True) is None
     wrong = Said([], {"bob": 1})

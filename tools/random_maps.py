@@ -97,6 +97,28 @@ class Map:
                     return ["uncovered", *x, *y]
         return ["covered"]
 
+    def audit_all(self):
+        """The ready instances next to each other on a key in the execution order, of which neither
+        reaches the other."""
+        ready = {x: self.entries[x]["seq"] for x in self.ready}
+        order, found = execution_order(ready, self.reached), []
+        for place, x in enumerate(order):
+            for key in self.touched.get(x, ()):
+                for y in order[place + 1 :]:
+                    if self.writes_one(x, y, key):
+                        if y not in self.reached[x] and x not in self.reached[y]:
+                            found.append(["uncovered", *x, *y, key])
+                    if key in self.written.get(y, ()):
+                        break
+        return sorted(found) or [["covered"]]
+
+    def writes_one(self, x, y, key):
+        """Whether both touch the key, and one of them writes it."""
+        none = set()
+        return key in self.touched.get(y, none) and (
+            key in self.written.get(x, none) or key in self.written.get(y, none)
+        )
+
     def check(self, listed):
         """What is found of a list."""
         for place, x in enumerate(listed):

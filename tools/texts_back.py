@@ -139,6 +139,8 @@ def read_row(names, text, line):
     form = FORMS.get(kind) if type(kind) is str else None
     if kind == "missing" and len(value) == 4:
         form = "IN"
+    if kind == "uncovered" and len(value) == 6:
+        form = "IIK"
     if form is None or len(value) != 1 + len(form) + form.count("I"):
         raise BadAnswer("is a fault, and no answer" if text.startswith(b"epx: ") else UNKNOWN)
     rest, at = [], 1
@@ -356,9 +358,29 @@ def blockers(_, names, rows):
     return rows
 
 
+def pairs(names, rows):
+    """All pairs of an audit, those of one pair by their keys. Parts say nothing of the instances
+    that they are of, since parts of others may be executed between them."""
+    for row in rows:
+        if row.kind != "uncovered" or len(row.rest) != 3:
+            raise row.bad()
+        if names.parts > 1:
+            raise row.bad("is of parts of instances, and their pairs are not those of the parts")
+    first_lines = {}
+    for row in rows:
+        first_lines.setdefault(tuple(map(str, row.rest[:2])), row.line)
+    place = lambda row: (first_lines[tuple(map(str, row.rest[:2]))], row.rest[2].encode())
+    rows = sorted(rows, key=place)
+    for row in rows:
+        row.rest[2] = exact_json.quoted(row.rest[2])
+    return rows
+
+
 def verdict(_, names, rows):
-    """An answer of one line."""
+    """An answer of one line, or the pairs of an audit of all."""
     row = rows[0]
+    if row.kind == "uncovered" and len(row.rest) == 3:
+        return pairs(names, rows)
     if len(rows) > 1:
         raise rows[1].bad()
     if row.kind == "uncovered":

@@ -160,6 +160,7 @@ def questions(rng, commands, keys):
         yield name, lambda side, name=name: [name, *side.paths]
     for words in (["check"], ["check", "--prefix"]):
         yield "check", lambda side, words=words: [*words, side.order, *side.paths]
+    yield "pairs", lambda side: ["audit", "--all", *side.paths]
     yield "resume", lambda side: ["resume", side.base, *side.paths]
     places = [*commands, (0, 3), (9, 1)]
     for at in rng.sample(places, min(6, len(places))):
@@ -215,9 +216,11 @@ class Count:
 
 def may_refuse(what, names, wanted):
     """Whether an answer may not say enough to be turned back."""
-    if names.parts == 1 or what not in ("path", "audit"):
+    if names.parts == 1 or what not in ("path", "audit", "pairs"):
         return False
-    row = json.loads(wanted)
+    row = json.loads(wanted.splitlines()[0])
+    if what == "pairs":
+        return row[0] == "uncovered"
     if what == "path":
         return row[0] == "none" or row[1] == row[-1] and len(row) - 2 >= names.parts
     return row[0] == "uncovered" and tuple(row[1:3]) in names.cut

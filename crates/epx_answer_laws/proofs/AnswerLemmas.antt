@@ -7,7 +7,9 @@ use Rattle.epx_types.specs.declared.fault.Fault.{Fault}
 use Rattle.epx_types.specs.declared.fault.Fault.TheVariants.{Memory}
 use Rattle.epx_merge.proofs.ExistenceLemmas.{answered_always}
 use Rattle.epx_audit.proofs.LeastUncoveredLemmas.{covered_or_not}
+use Rattle.epx_picture.specs.PictureLaws.{PictureAroundExists}
 use Rattle.epx_picture.proofs.PictureLemmas.{picture_exists}
+use Rattle.epx_neighbours.specs.UncoveredTextLaws.{UncoveredTextExists}
 use Rattle.epx_compare.proofs.ComparisonAnswerLemmas.{compares_exists}
 use Rattle.epx_names.specs.Tasks.{HasInput}
 use Rattle.epx_names.specs.declared.task.Task.{Task}
@@ -15,6 +17,7 @@ use Rattle.epx_names.specs.declared.task.Task.TheVariants.{Run, Order, Levels, G
 use Rattle.epx_names.specs.declared.task.Task.TheVariants.{Audit, Check, CheckPrefix, Compare}
 use Rattle.epx_names.specs.declared.task.Task.TheVariants.{Linear, Replay, Verify}
 use Rattle.epx_names.specs.declared.task.Task.TheVariants.{Blockers, Why, Path, Trace}
+use Rattle.epx_names.specs.declared.task.Task.TheVariants.{AuditAll, Around}
 use Rattle.epx_tool.specs.Report.{IsReport, report_text}
 use Rattle.epx_views.specs.OrderText.{IsOrderText, order_text}
 use Rattle.epx_views.specs.LevelText.{IsLevelText, level_text}
@@ -79,24 +82,30 @@ module _ (m : List Instance) (rising : IsRising (ids_of m)) where
     | inr pair ↦ (uncovered_line pair.0 pair.1, inr (pair.0, pair.1, pair.2, refl))
   ]
 
-  pub map_text_exists : (task : Task) → ¬ HasInput task → task ≢ Compare
+  -- what is around an instance has a picture, and uncovered pairs have a text, by laws of
+  -- `epx_picture` and `epx_neighbours`
+  pub map_text_exists : PictureAroundExists → UncoveredTextExists → (task : Task)
+      → ¬ HasInput task → task ≢ Compare
       → (text : List ℕ) × IsTaskText task [] m text
-  map_text_exists Run alone other = report_exists
-  map_text_exists Order alone other = order_text_exists
-  map_text_exists Levels alone other = level_text_exists
-  map_text_exists Blockers alone other = blockers_text_exists m
-  map_text_exists Graph alone other = picture_exists m rising
-  map_text_exists Audit alone other = audit_text_exists
-  map_text_exists Resume alone other = absurd (alone tt)
-  map_text_exists Check alone other = absurd (alone tt)
-  map_text_exists CheckPrefix alone other = absurd (alone tt)
-  map_text_exists Replay alone other = absurd (alone tt)
-  map_text_exists Verify alone other = absurd (alone tt)
-  map_text_exists (Linear skew) alone other = absurd (alone tt)
-  map_text_exists Compare alone other = absurd (other refl)
-  map_text_exists (Why x) alone other = why_text_exists m x rising
-  map_text_exists (Path x y) alone other = path_text_exists m x y
-  map_text_exists (Trace key reads) alone other = trace_text_exists m key.text.bytes reads rising
+  map_text_exists around pairs Run alone other = report_exists
+  map_text_exists around pairs Order alone other = order_text_exists
+  map_text_exists around pairs Levels alone other = level_text_exists
+  map_text_exists around pairs Blockers alone other = blockers_text_exists m
+  map_text_exists around pairs Graph alone other = picture_exists m rising
+  map_text_exists around pairs (Around x steps) alone other = around m x steps rising
+  map_text_exists around pairs Audit alone other = audit_text_exists
+  map_text_exists around pairs AuditAll alone other = pairs m rising
+  map_text_exists around pairs Resume alone other = absurd (alone tt)
+  map_text_exists around pairs Check alone other = absurd (alone tt)
+  map_text_exists around pairs CheckPrefix alone other = absurd (alone tt)
+  map_text_exists around pairs Replay alone other = absurd (alone tt)
+  map_text_exists around pairs Verify alone other = absurd (alone tt)
+  map_text_exists around pairs (Linear skew) alone other = absurd (alone tt)
+  map_text_exists around pairs Compare alone other = absurd (other refl)
+  map_text_exists around pairs (Why x) alone other = why_text_exists m x rising
+  map_text_exists around pairs (Path x y) alone other = path_text_exists m x y
+  map_text_exists around pairs (Trace key reads) alone other =
+      trace_text_exists m key.text.bytes reads rising
 
 -- if every committed map has a text, every list of logs has an answer
 pub answer_exists : (Is : List Instance → List ℕ → Type 0)
@@ -109,8 +118,9 @@ answer_exists Is text_of_map logs =
       | inr refused ↦ (Err refused.0, (λ same. refused.1 (cc same)), refused.2)
     ]
 
-pub logs_answer_exists : (task : Task) → ¬ HasInput task → (logs : List (List ℕ))
+pub logs_answer_exists : PictureAroundExists → UncoveredTextExists → (task : Task)
+    → ¬ HasInput task → (logs : List (List ℕ))
     → (a : Result (List ℕ) Fault) × (a ≢ Err Memory) × AnswersLogs task logs a
-logs_answer_exists Compare alone = compares_exists
-logs_answer_exists task alone = answer_exists (IsTaskText task [])
-    (λ m rising. map_text_exists m rising task alone (λ same. cc same))
+logs_answer_exists around pairs Compare alone = compares_exists
+logs_answer_exists around pairs task alone = answer_exists (IsTaskText task [])
+    (λ m rising. map_text_exists m rising around pairs task alone (λ same. cc same))

@@ -12,7 +12,8 @@ use Rattle.epx_views.specs.OrderText.{IsOrderText, order_text}
 use Rattle.epx_views.specs.LevelText.{IsLevelText, level_text}
 use Rattle.epx_tool.specs.AuditText.{IsAuditText}
 use Rattle.epx_report.specs.ViewLines.{uncovered_line}
-use Rattle.epx_picture.proofs.UniquePictureLemmas.{picture_is_unique}
+use Rattle.epx_picture.proofs.UniquePictureLemmas.{picture_is_unique, picture_around_is_unique}
+use Rattle.epx_neighbours.specs.UncoveredTextLaws.{UncoveredTextIsUnique}
 use Rattle.epx_audit.proofs.UniquePairLemmas.{uncovered_not_covered, least_uncovered_is_unique}
 use Rattle.epx_compare.proofs.ComparisonAnswerLemmas.{compares_unique}
 use Rattle.epx_names.specs.declared.task.Task.{Task}
@@ -20,6 +21,7 @@ use Rattle.epx_names.specs.declared.task.Task.TheVariants.{Run, Order, Levels, G
 use Rattle.epx_names.specs.declared.task.Task.TheVariants.{Audit, Check, CheckPrefix, Compare}
 use Rattle.epx_names.specs.declared.task.Task.TheVariants.{Linear, Replay, Verify}
 use Rattle.epx_names.specs.declared.task.Task.TheVariants.{Blockers, Why, Path, Trace}
+use Rattle.epx_names.specs.declared.task.Task.TheVariants.{AuditAll, Around}
 use Rattle.epx_why.proofs.UniqueTextLemmas.{why_text_is_unique, path_text_is_unique}
 use Rattle.epx_blockers.proofs.BlockerTextLemmas.{blockers_text_is_unique}
 use Rattle.epx_trace.proofs.TraceLemmas.{trace_text_is_unique}
@@ -72,26 +74,31 @@ IsAuditText-unique m text other (inr p) (inr q) =
     let same = least_uncovered_is_unique m p.0 p.1 q.0 q.1 p.2 q.2 in
     p.3 ∙ ap₂ uncovered_line same.0 same.1 ∙ sym q.3
 
--- a text of a replica says one thing, which is a law of `epx_verify`
-pub IsTaskText-unique : TextSaysOneThing → (task : Task) (input : List ℕ) (m : List Instance)
-    (text other : List ℕ)
+-- a text of a replica says one thing, and uncovered pairs have one text, which are laws of
+-- `epx_verify` and `epx_neighbours`
+pub IsTaskText-unique : TextSaysOneThing → UncoveredTextIsUnique → (task : Task)
+    (input : List ℕ) (m : List Instance) (text other : List ℕ)
     → IsTaskText task input m text → IsTaskText task input m other → text ≡ other
-IsTaskText-unique one Run input = IsReport-unique
-IsTaskText-unique one Order input = IsOrderText-unique
-IsTaskText-unique one Levels input = IsLevelText-unique
-IsTaskText-unique one Blockers input = blockers_text_is_unique
-IsTaskText-unique one Graph input = picture_is_unique
-IsTaskText-unique one Audit input = IsAuditText-unique
-IsTaskText-unique one Resume base = resumed_one base
-IsTaskText-unique one Check list = one_text IsVerdict list verdict_is_unique
-IsTaskText-unique one CheckPrefix list = one_text IsPrefixVerdict list prefix_verdict_is_unique
-IsTaskText-unique one Replay list = one_text IsReplayOf list replay_is_unique
-IsTaskText-unique one Verify said = one_verdict_on_said one said
-IsTaskText-unique one (Linear skew) history = one_text_of_history skew history
-IsTaskText-unique one Compare input = λ m text other none. absurd none
-IsTaskText-unique one (Why x) input = λ m. why_text_is_unique m x
-IsTaskText-unique one (Path x y) input = λ m. path_text_is_unique m x y
-IsTaskText-unique one (Trace key reads) input = λ m. trace_text_is_unique m key.text.bytes reads
+IsTaskText-unique one pairs Run input = IsReport-unique
+IsTaskText-unique one pairs Order input = IsOrderText-unique
+IsTaskText-unique one pairs Levels input = IsLevelText-unique
+IsTaskText-unique one pairs Blockers input = blockers_text_is_unique
+IsTaskText-unique one pairs Graph input = picture_is_unique
+IsTaskText-unique one pairs (Around x steps) input = λ m. picture_around_is_unique m x steps
+IsTaskText-unique one pairs Audit input = IsAuditText-unique
+IsTaskText-unique one pairs AuditAll input = pairs
+IsTaskText-unique one pairs Resume base = resumed_one base
+IsTaskText-unique one pairs Check list = one_text IsVerdict list verdict_is_unique
+IsTaskText-unique one pairs CheckPrefix list =
+    one_text IsPrefixVerdict list prefix_verdict_is_unique
+IsTaskText-unique one pairs Replay list = one_text IsReplayOf list replay_is_unique
+IsTaskText-unique one pairs Verify said = one_verdict_on_said one said
+IsTaskText-unique one pairs (Linear skew) history = one_text_of_history skew history
+IsTaskText-unique one pairs Compare input = λ m text other none. absurd none
+IsTaskText-unique one pairs (Why x) input = λ m. why_text_is_unique m x
+IsTaskText-unique one pairs (Path x y) input = λ m. path_text_is_unique m x y
+IsTaskText-unique one pairs (Trace key reads) input =
+    λ m. trace_text_is_unique m key.text.bytes reads
 
 -- if each committed map has at most one text, logs have at most one answer, except for out of
 -- memory
@@ -109,9 +116,9 @@ module _ (Is : List Instance → List ℕ → Type 0)
   Answers-unique logs (Err fault) (Err other) s t p q =
       ap Err (refusal_unique logs fault other (λ e. s (ap Err e)) (λ e. t (ap Err e)) p q)
 
-pub AnswersLogs-unique : TextSaysOneThing → (task : Task) (logs : List (List ℕ))
-    (a b : Result (List ℕ) Fault) → a ≢ Err Memory → b ≢ Err Memory → AnswersLogs task logs a
-    → AnswersLogs task logs b → a ≡ b
-AnswersLogs-unique one Compare = compares_unique
-AnswersLogs-unique one task =
-    Answers-unique (IsTaskText task []) (IsTaskText-unique one task [])
+pub AnswersLogs-unique : TextSaysOneThing → UncoveredTextIsUnique → (task : Task)
+    (logs : List (List ℕ)) (a b : Result (List ℕ) Fault) → a ≢ Err Memory → b ≢ Err Memory
+    → AnswersLogs task logs a → AnswersLogs task logs b → a ≡ b
+AnswersLogs-unique one pairs Compare = compares_unique
+AnswersLogs-unique one pairs task =
+    Answers-unique (IsTaskText task []) (IsTaskText-unique one pairs task [])

@@ -7,6 +7,8 @@ ghost use Rattle.epx_answer_laws.specs.InputAnswerLaws.{InputAnswerExists, Input
 ghost use Rattle.epx_answer_laws.specs.SameLineLaws.{SameLinesAreAcceptedAlike};
 ghost use Rattle.epx_answer_laws.specs.SameLineLaws.{SameLinesAreAnsweredAlike};
 
+use epx_neighbours::laws::{uncovered_text_exists, uncovered_text_is_unique};
+use epx_picture::laws::picture_around_exists;
 use epx_verify::laws::{
     bad_said_is_bad_at_one_line, said_is_no_bad_said, said_or_bad_said, text_says_one_thing,
 };
@@ -17,11 +19,14 @@ pub fn report_exists()
 {}
 
 /// A committed map has a text of its execution order, a text of its conflict levels, a text of its
-/// audit, a picture, a text about each instance, a text of a path between each two, and a text of
-/// the trace of each key.
+/// audit and of all uncovered pairs, a picture, also around each instance, a text about each
+/// instance, a text of a path between each two, and a text of the trace of each key.
 pub fn map_text_exists()
     ensures { MapTextExists }
-{}
+{
+    picture_around_exists();
+    uncovered_text_exists();
+}
 
 /// A committed map has at most one report.
 pub fn report_is_unique()
@@ -51,7 +56,10 @@ pub fn answer_exists()
 /// Every list of logs has an answer to each view other than out of memory.
 pub fn view_exists()
     ensures { ViewExists }
-{}
+{
+    picture_around_exists();
+    uncovered_text_exists();
+}
 
 /// Logs have at most one answer, except for out of memory.
 pub fn answer_is_unique()
@@ -63,6 +71,7 @@ pub fn view_is_unique()
     ensures { ViewIsUnique }
 {
     text_says_one_thing();
+    uncovered_text_is_unique();
 }
 
 /// An input and logs have an answer to each question about both, other than out of memory.
@@ -70,6 +79,8 @@ pub fn input_answer_exists()
     ensures { InputAnswerExists }
 {
     said_or_bad_said();
+    picture_around_exists();
+    uncovered_text_exists();
 }
 
 /// An input and logs have at most one answer to each question about both, except for out of memory.
@@ -77,6 +88,7 @@ pub fn input_answer_is_unique()
     ensures { InputAnswerIsUnique }
 {
     text_says_one_thing();
+    uncovered_text_is_unique();
     said_is_no_bad_said();
     bad_said_is_bad_at_one_line();
 }

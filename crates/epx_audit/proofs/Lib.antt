@@ -20,3 +20,9 @@ pub mod SourceListLemmas
 pub mod SourceMarkLemmas
 pub mod TargetBitLemmas
 pub mod BatchLemmas
+pub mod PairMarkLemmas
+pub mod PathCoverLemmas
+pub mod RowMergeLemmas
+pub mod PathCoverStepLemmas
+pub mod OrderOnceLemmas
+pub mod UnsettledNodeLemmas

@@ -32,7 +32,7 @@ module _ (m : List Instance) (order : List Ranked) (nodes : List ℕ)
     nodes_in_graph p d l =
         omega (arith, nodes_in_map p d l, committed_count m g is, is.graph.committed_nodes)
 
-    node : (p : ℕ) (r : Ranked) → slice_get order p ≡ Some r
+    pub node : (p : ℕ) (r : Ranked) → slice_get order p ≡ Some r
         → slice_get g.ids (get_or nodes p 0) ≡ Some r.id
     node p r at =
         let e = entry p r at in

@@ -1,11 +1,13 @@
 -- The chains of an order, position by position.
 use Rattle.std.proofs.Common.{◌≡◌, inl, inr, ℕ, ◌+◌, ◌-◌, ◌<◌, ◌≤◌, ◌++◌, ◌∷◌, [], List, length}
 use Rattle.std.proofs.Common.{length-set, get_or, set, All, sym, subst, ap, ◌∙◌, arith}
+use Rattle.std.proofs.Common.{IfSome}
 use Rattle.epx_types.proofs.Common.{cases_eq, cases_lt, get_or-set_same, get_or-set_other}
 use Rattle.epx_types.proofs.Common.{get_or_append_left, get_or_push, length_push}
 use Rattle.epx_graph.proofs.Common.{DependencyGraph, edges_of, NodeReaches}
 use Rattle.epx_audit.specs.declared.reach_index.Chain.{Chain}
 use Rattle.epx_audit.specs.declared.reach_index.ReachIndex.{ReachIndex}
+use Rattle.epx_audit.specs.inner.PathCovers.{IsPathCover}
 use Rattle.epx_audit.specs.inner.ReachIndexes.{IsChain, IsReachIndex}
 use Rattle.epx_components.proofs.NodePathLemmas.{reaches_itself, reaches_on}
 
@@ -112,11 +114,12 @@ chains_next g nodes starts positions chain_start n chain node_in is old = record
 pub chains_all : (g : DependencyGraph) (w : ReachIndex) (n : ℕ)
     → All (λ k. k < length g.ids) w.nodes.items → n ≡ length w.nodes.items
     → AreChains g w.nodes.items w.starts.items w.positions.items w.chain_start.items n
-    → IsReachIndex g w
-chains_all g w n in_range end chains = record {
+    → IfSome w.cover (IsPathCover g w.nodes.items) → IsReachIndex g w
+chains_all g w n in_range end chains cover = record {
   in_range = in_range;
   each_place = chains.each_place ∙ end;
   each_node = chains.each_node;
   start = λ p below. let s = chains.start p (omega (arith, end)) in (omega (arith, s.0, end), s.1);
   down = λ k q k_in low up. let d = chains.down k q k_in low up in (omega (arith, d.0, end), d.1);
+  cover = cover;
 }

@@ -8,10 +8,8 @@ use Rattle.epx_audit.specs.declared.doubtful_touches.DoubtfulTouch.{DoubtfulTouc
 use Rattle.epx_audit.specs.inner.Batches.{AreSharing}
 use Rattle.epx_audit.specs.inner.DoubtfulKeys.{AreInRange}
 use Rattle.epx_audit.specs.inner.SourceBits.{has_bit, AreSourceMarks, HasBitsOf}
+pub use Rattle.epx_audit.specs.inner.UnsettledNodes.{doubtful_at}
 use Rattle.epx_audit.proofs.BitLemmas.{or_at}
-
-abbrev pub doubtful_at : List DoubtfulTouch → ℕ → DoubtfulTouch
-doubtful_at touches i = get_or touches i (record { key = 0; node = 0; writes = false })
 
 -- the sources of its key that matter to a touch: all if it writes, otherwise those that write
 abbrev pub word_of : List ℕ → List ℕ → DoubtfulTouch → ℕ

@@ -5,14 +5,15 @@ use Rattle.std.proofs.Common.{◌∙◌, arith}
 use Rattle.epx_types.proofs.Common.{cases_lt, get_or_default, get_or-take, get_or-drop}
 use Rattle.epx_types.proofs.Common.{All-from_get_or, Instance}
 use Rattle.epx_audit.specs.declared.doubtful_touches.DoubtfulTouch.{DoubtfulTouch}
-use Rattle.epx_audit.specs.inner.DoubtfulKeys.{AreInRange, HoldAllConflicts}
+use Rattle.epx_audit.specs.inner.DoubtfulKeys.{HoldAllConflicts, HoldUnsettled}
 use Rattle.epx_audit.specs.inner.NodeConflicts.{IsSettled}
 use Rattle.epx_components.specs.ReadyMarks.{is_marked}
 use Rattle.epx_audit.specs.inner.Sources.{AreSources, AreSettled, IsFirstPair, IsLeastPair}
 
 module _ (m : List Instance) (edges : ℕ → List ℕ) (ready : List Bool)
-    (touches : List DoubtfulTouch) (sources : List ℕ) (are : AreSources ready touches sources)
-    (hold : HoldAllConflicts m edges ready touches) where
+    (touches : List DoubtfulTouch) (unsettled : List Bool) (sources : List ℕ)
+    (are : AreSources ready unsettled sources) (hold : HoldAllConflicts m edges ready touches)
+    (settled : HoldUnsettled edges touches unsettled) where
   -- a node that is none of the later sources
   pub settled_below : (n : ℕ) → AreSettled m edges ready sources n → (k j : ℕ)
       → ((i : ℕ) → i < length sources → get_or sources i 0 ≡ k → i < n) → k < j
@@ -20,13 +21,15 @@ module _ (m : List Instance) (edges : ℕ → List ℕ) (ready : List Bool)
   settled_below n done k j early above d e at to k_ready j_ready conflict =
       elim (hold k j d e above at to k_ready j_ready conflict) [
         | inl related ↦ related
-        | inr share ↦
-            let marked = subst (λ k. IsTrue (is_marked ready k)) (sym share.nodes.0) k_ready in
-            let found = are.whole share.mine share.held.0 marked in
-            let is : get_or sources found.0 0 ≡ k =
-            get_or_default sources found.0 0 _ found.1 ∙ found.2 ∙ share.nodes.0 in
-            let here = done found.0 j (early found.0 found.1 is) (omega (arith, is, above)) in
-            (subst (λ k. IsSettled m edges ready k j) is here) d e at to k_ready j_ready conflict
+        | inr share ↦ elim (settled k j share) [
+          | inr related ↦ related
+          | inl marked ↦
+              let found = are.whole k marked k_ready in
+              let is : get_or sources found.0 0 ≡ k =
+              get_or_default sources found.0 0 _ found.1 ∙ found.2 in
+              let here = done found.0 j (early found.0 found.1 is) (omega (arith, is, above)) in
+              (subst (λ k. IsSettled m edges ready k j) is here) d e at to k_ready j_ready conflict
+        ]
       ]
 
   -- a node below a source
@@ -72,23 +75,24 @@ module _ (xs : List ℕ) (first n : ℕ) where
       → get_or (take n (drop first xs)) i 0 ≡ get_or xs (first + i) 0
   part_at i l = get_or-take n (drop first xs) i 0 (part_within i l).0 ∙ get_or-drop first xs i 0
 
-module _ (ready : List Bool) (touches : List DoubtfulTouch) (sources : List ℕ)
-    (are : AreSources ready touches sources) (first n : ℕ) where
+module _ (ready unsettled : List Bool) (sources : List ℕ)
+    (are : AreSources ready unsettled sources) (first n : ℕ) where
   pub part_ready : All (λ k. IsTrue (is_marked ready k)) (take n (drop first sources))
   part_ready = All-from_get_or (λ k. IsTrue (is_marked ready k)) (take n (drop first sources)) 0
       (λ i l. subst (λ k. IsTrue (is_marked ready k)) (sym (part_at sources first n i l))
       (are.each (first + i) (part_within sources first n i l).1).0)
 
-  pub part_in_range : (nodes keys : ℕ) → AreInRange nodes keys touches
+  pub part_in_range : (nodes : ℕ) → length unsettled ≤ nodes
       → All (λ k. k < nodes) (take n (drop first sources))
-  part_in_range nodes keys within =
+  part_in_range nodes within =
       All-from_get_or (λ k. k < nodes) (take n (drop first sources)) 0 (λ i l.
       let e = (are.each (first + i) (part_within sources first n i l).1).1 in
-      omega (arith, part_at sources first n i l, (within e.0 e.1).0, e.2))
+      omega (arith, part_at sources first n i l, within, e))
 
 module _ (m : List Instance) (edges : ℕ → List ℕ) (ready : List Bool)
-    (touches : List DoubtfulTouch) (sources : List ℕ) (are : AreSources ready touches sources)
-    (hold : HoldAllConflicts m edges ready touches) (first n : ℕ)
+    (touches : List DoubtfulTouch) (unsettled : List Bool) (sources : List ℕ)
+    (are : AreSources ready unsettled sources) (hold : HoldAllConflicts m edges ready touches)
+    (settled : HoldUnsettled edges touches unsettled) (first n : ℕ)
     (before : AreSettled m edges ready sources first) where
   pub least_from_first : (k j : ℕ) → IsFirstPair m edges ready (take n (drop first sources)) k j
       → IsLeastPair m edges ready k j
@@ -102,8 +106,8 @@ module _ (m : List Instance) (edges : ℕ → List ℕ) (ready : List Bool)
       settled_batch m edges ready sources part first pair.at (part_at sources first n)
       (omega (arith, l)) before pair.before in
       record {
-        before = λ i o below above. settled_below m edges ready touches sources are hold at done i
-            o (early_below m edges ready touches sources are hold at within i
-            (omega (arith, is, below))) above;
+        before = λ i o below above. settled_below m edges ready touches unsettled sources are hold
+            settled at done i o (early_below m edges ready touches unsettled sources are hold
+            settled at within i (omega (arith, is, below))) above;
         partner = pair.partner;
       }

@@ -1,3 +1,4 @@
 pub mod Uncovered
 pub mod UncoveredLaws
+pub mod RelatedPairs
 pub mod inner

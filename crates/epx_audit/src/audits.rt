@@ -1,6 +1,6 @@
 //! Whether any two ready instances that conflict are related.
 ghost use Rattle.std.specs.Prelude.{◌≡◌, ℕ, ◌<◌, ◌≤◌, List, length, map, slice_index, All};
-ghost use Rattle.std.specs.Prelude.{Contains, IsTrue, IfOk, IfSome, MatchOption};
+ghost use Rattle.std.specs.Prelude.{IsTrue, IfOk, IfSome, MatchOption};
 ghost use Rattle.epx_types.specs.Conflicts.{IsCovered};
 ghost use Rattle.epx_types.specs.Instances.{Instance};
 ghost use Rattle.epx_types.specs.ExecutionOrder.{IsExecutionOrder};
@@ -8,7 +8,7 @@ ghost use Rattle.epx_graph.specs.Graphs.{DependencyGraph, edges_of};
 ghost use Rattle.epx_graph.specs.GraphOf.{IsGraphOf};
 ghost use Rattle.epx_components.specs.Partitions.{parts, IsPartitionOf};
 ghost use Rattle.epx_audit.specs.inner.Batches.{IsBatch, IsWhole};
-ghost use Rattle.epx_audit.specs.inner.DoubtfulKeys.{AreInRange, HoldAllConflicts};
+ghost use Rattle.epx_audit.specs.inner.DoubtfulKeys.{AreInRange, HoldAllConflicts, HoldUnsettled};
 ghost use Rattle.epx_audit.specs.inner.NodeConflicts.{keys_of, IsSettled, IsPartner};
 ghost use Rattle.epx_components.specs.ReadyMarks.{is_marked};
 ghost use Rattle.epx_audit.specs.inner.Sources.{AreSources, AreSettled, IsFirstPair, IsLeastPair};
@@ -71,15 +71,17 @@ fn find_pair<'a>(
     requires ready { length ready.now ≡ length graph.now.ids }
     requires nodes { length keys.now ≤ length graph.now.ids }
     requires doubtful { AreInRange (length keys.now) doubtful.now.keys doubtful.now.touches.items }
+    requires unsettled { length doubtful.now.unsettled.items ≡ length keys.now }
     ensures in_range { IfOk result (λ found. IfSome found (λ pair.
         (pair.0 < length keys.now) × (pair.1 < length keys.now))) }
     ensures least { IfOk result (λ found. (m : List Instance) → keys.now ≡ map keys_of m →
         HoldAllConflicts m (edges_of graph.now) ready.now doubtful.now.touches.items →
+        HoldUnsettled (edges_of graph.now) doubtful.now.touches.items doubtful.now.unsettled.items →
         MatchOption found
         ((k j : ℕ) → k < j → IsSettled m (edges_of graph.now) ready.now k j)
         (λ pair. IsLeastPair m (edges_of graph.now) ready.now pair.0 pair.1)) }
 {
-    let sources = find_sources(alloc, &doubtful.touches, ready)?;
+    let sources = find_sources(alloc, &doubtful.unsettled, ready)?;
     for number in 0..sources.len() / SOURCES + 1 {
         let first = sources.len().min(number * SOURCES);
         let end = sources.len().min(first + SOURCES);
@@ -91,22 +93,14 @@ fn find_pair<'a>(
     Ok(None)
 }
 
-/// The nodes of ready instances that touch a doubtful key, in increasing order.
-fn find_sources(
-    alloc: Global,
-    touches: &[DoubtfulTouch],
-    ready: &[bool],
-) -> Result<Vec<usize>, Memory>
-    requires { (t : DoubtfulTouch) → Contains touches.now t → t.node < length ready.now }
-    ensures { IfOk result (λ sources. AreSources ready.now touches.now sources.items) }
+/// The nodes of ready instances that are marked as unsettled, in increasing order.
+fn find_sources(alloc: Global, unsettled: &[bool], ready: &[bool]) -> Result<Vec<usize>, Memory>
+    requires { length unsettled.now ≤ length ready.now }
+    ensures { IfOk result (λ sources. AreSources ready.now unsettled.now sources.items) }
 {
-    let mut touching = vec![in alloc; false; ready.len()]?;
-    for touch in touches {
-        touching[touch.node] = true;
-    }
     let mut sources = Vec::new(alloc);
-    for node in 0..ready.len() {
-        if ready[node] && touching[node] {
+    for node in 0..unsettled.len() {
+        if ready[node] && unsettled[node] {
             sources.push(node)?;
         }
     }

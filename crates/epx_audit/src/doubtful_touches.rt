@@ -1,6 +1,6 @@
 //! The keys for which the quick audit does not find all conflicting commands related.
 ghost use Rattle.std.specs.Prelude.{◌≡◌, ℕ, ◌-◌, ◌<◌, length, slice_index, true, Contains, IsTrue};
-ghost use Rattle.std.specs.Prelude.{IfOk, MatchOption};
+ghost use Rattle.std.specs.Prelude.{IfOk, MatchOption, replicate};
 ghost use Rattle.std.specs.List.Sorted.{IsStrictlyIncreasing};
 ghost use Rattle.epx_types.specs.ExecutionOrder.{IsExecutionOrder};
 ghost use Rattle.epx_graph.specs.GraphOf.{IsGraphOf};
@@ -14,6 +14,7 @@ use crate::quick_audit::{are_all_related, is_related_back, next_writer, order_no
 use crate::reach_index::ReachIndex;
 use crate::search::PathSearch;
 use crate::touches::{KeyUse, find_touches};
+use crate::unsettled_nodes::unsettled_nodes;
 use epx_committed::Merged;
 use epx_components::OrderList;
 use epx_graph::Graph;
@@ -37,6 +38,8 @@ pub(crate) struct DoubtfulTouches {
     /// The number of doubtful keys.
     pub(crate) keys: usize,
     pub(crate) touches: Vec<DoubtfulTouch>,
+    /// Marks the nodes that may not be related to each node that shares a doubtful key with them.
+    pub(crate) unsettled: Vec<bool>,
 }
 
 pub(crate) fn find_doubtful(
@@ -49,11 +52,12 @@ pub(crate) fn find_doubtful(
     requires graph { IsGraphOf merged.now graph.now }
     requires order { IsExecutionOrder merged.now order.now }
     ensures { IfOk result
-        (λ doubtful. AreDoubtful merged.now graph.now doubtful.keys doubtful.touches.items) }
+        (λ doubtful. AreDoubtful merged.now graph.now doubtful.keys doubtful.touches.items
+        doubtful.unsettled.items) }
 {
     let nodes = order_nodes(alloc, merged, order)?;
     let touches = find_touches(alloc, merged, &nodes, start)?;
-    let reach = ReachIndex::of(alloc, graph, order, nodes)?;
+    let reach = ReachIndex::of(alloc, merged, graph, order, nodes)?;
     let hashes = doubtful_hashes(alloc, graph, &reach, &touches)?;
     let sure = other_touches(alloc, &touches, &hashes)?;
     // No contract says which hashes are doubtful. So the touches of all other hashes are tested
@@ -63,9 +67,11 @@ pub(crate) fn find_doubtful(
         return Ok(one);
     }
     let touches = doubtful_touches(alloc, &reach.nodes, &touches, &hashes)?;
+    let unsettled = unsettled_nodes(alloc, merged.len(), &reach, &touches)?;
     Ok(DoubtfulTouches {
         keys: hashes.len(),
         touches,
+        unsettled,
     })
 }
 
@@ -169,6 +175,7 @@ fn all_doubtful(alloc: Global, nodes: usize) -> Result<DoubtfulTouches, Memory>
     ensures in_range { IfOk result (λ one. AreInRange nodes one.keys one.touches.items) }
     ensures whole { IfOk result (λ one. (k : ℕ) → k < nodes →
         Contains one.touches.items (record { key = 0; node = k; writes = true })) }
+    ensures unsettled { IfOk result (λ one. one.unsettled.items ≡ replicate nodes true) }
 {
     let mut touches = Vec::with_capacity(alloc, nodes)?;
     for node in 0..nodes {
@@ -178,5 +185,10 @@ fn all_doubtful(alloc: Global, nodes: usize) -> Result<DoubtfulTouches, Memory>
             writes: true,
         })?;
     }
-    Ok(DoubtfulTouches { keys: 1, touches })
+    let unsettled = vec![in alloc; true; nodes]?;
+    Ok(DoubtfulTouches {
+        keys: 1,
+        touches,
+        unsettled,
+    })
 }

@@ -8,6 +8,8 @@ mod batch;
 mod conflicts;
 mod doubtful_touches;
 pub mod laws;
+mod pair_marks;
+mod path_cover;
 mod quick_audit;
 mod reach_index;
 mod related;
@@ -15,5 +17,7 @@ mod search;
 mod sharing_marks;
 mod source_marks;
 mod touches;
+mod unsettled_nodes;
 
 pub use audits::audit;
+pub use pair_marks::related_pairs;

@@ -41,7 +41,7 @@ pub(crate) fn is_found_covered(
 {
     let nodes = order_nodes(alloc, merged, order)?;
     let touches = find_touches(alloc, merged, &nodes, start)?;
-    let reach = ReachIndex::of(alloc, graph, order, nodes)?;
+    let reach = ReachIndex::of(alloc, merged, graph, order, nodes)?;
     are_all_related(alloc, graph, &reach, &touches)
 }
 

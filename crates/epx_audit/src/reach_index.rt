@@ -1,9 +1,15 @@
 //! An index that answers whether one node reaches another without a search.
 ghost use Rattle.std.specs.Prelude.{◌≡◌, ◌+◌, ◌<◌, ◌≤◌, length, slice_index, All, Contains, IfOk};
 ghost use Rattle.std.specs.Prelude.{IsTrue};
-ghost use Rattle.epx_graph.specs.Graphs.{edges_of};
-ghost use Rattle.epx_audit.specs.inner.ReachIndexes.{IsChain, IsReachIndex, LeadersJoin};
+ghost use Rattle.epx_types.specs.ExecutionOrder.{IsExecutionOrder};
+ghost use Rattle.epx_graph.specs.Graphs.{DependencyGraph, edges_of};
+ghost use Rattle.epx_graph.specs.GraphOf.{IsGraphOf};
+ghost use Rattle.epx_graph.specs.NodePaths.{NodeReaches};
+ghost use Rattle.epx_audit.specs.inner.ReachIndexes.{AreOrderNodes, IsChain, IsReachIndex};
+ghost use Rattle.epx_audit.specs.inner.ReachIndexes.{LeadersJoin};
 
+use crate::path_cover::PathCover;
+use epx_committed::Merged;
 use epx_components::OrderList;
 use epx_graph::Graph;
 use epx_types::Memory;
@@ -23,20 +29,23 @@ pub(crate) struct ReachIndex {
     /// If the node is not in the order, it is greater than `positions` has for the node, so that
     /// the range is empty.
     pub(crate) chain_start: Vec<usize>,
+    /// A cover of the nodes by paths, if they have one of few paths.
+    pub(crate) cover: Option<PathCover>,
 }
 
 impl ReachIndex {
-    /// The index of an order. The time is linear in the positions, with a binary search among the
-    /// dependencies of each.
+    /// The index of an order. Beside the cover, the time is linear in the positions, with a binary
+    /// search among the dependencies of each.
     pub(crate) fn of(
         alloc: Global,
+        merged: &Merged,
         graph: &Graph,
         order: &OrderList,
         nodes: Vec<usize>,
     ) -> Result<ReachIndex, Memory>
-        requires whole { length nodes.items ≡ length order.now }
-        requires in_range { All (λ k. k < length graph.now.ids) nodes.items }
-        requires joined { LeadersJoin (edges_of graph.now) order.now nodes.items }
+        requires graph { IsGraphOf merged.now graph.now }
+        requires order { IsExecutionOrder merged.now order.now }
+        requires nodes { AreOrderNodes merged.now order.now nodes.items }
         ensures reach { IfOk result (IsReachIndex graph.now) }
         ensures nodes { IfOk result (λ reach. reach.nodes.items ≡ nodes.items) }
     {
@@ -51,12 +60,45 @@ impl ReachIndex {
             positions[node] = position;
             chain_start[node] = chain.low;
         }
+        let cover = PathCover::of(alloc, merged, graph, order, &nodes)?;
         Ok(ReachIndex {
             nodes,
             starts,
             positions,
             chain_start,
+            cover,
         })
+    }
+
+    /// Whether there is a cover by at most this many paths.
+    pub(crate) fn has_paths(&self, most: usize) -> bool {
+        match &self.cover {
+            Some(cover) => cover.count_paths() <= most,
+            None => false,
+        }
+    }
+
+    /// Whether the cover shows that one node of the order reaches another.
+    pub(crate) fn shows_path(&self, from: usize, to: usize) -> bool
+        requires reach { (g : DependencyGraph) × IsReachIndex g self.now }
+        requires from { from < length self.now.positions.items }
+        requires to { to < length self.now.positions.items }
+        ensures { IsTrue result → (g : DependencyGraph) → IsReachIndex g self.now →
+            NodeReaches (edges_of g) from to }
+    {
+        let Some(cover) = &self.cover else {
+            return false;
+        };
+        let (later, earlier) = (self.positions[from], self.positions[to]);
+        self.is_at(later, from) && self.is_at(earlier, to) && cover.reaches(later, earlier)
+    }
+
+    /// Whether a position has a node. The position of a node that is not in the order does not.
+    fn is_at(&self, position: usize, node: usize) -> bool
+        ensures { IsTrue result → (position < length self.now.nodes.items)
+            × (slice_index self.now.nodes.items position ≡ node) }
+    {
+        position < self.nodes.len() && self.nodes[position] == node
     }
 
     /// Whether a node reaches the node at a position by its chain.

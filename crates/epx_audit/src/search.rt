@@ -38,8 +38,8 @@ impl PathSearch {
         })
     }
 
-    /// Whether a search finds that the node at one position reaches the node at an earlier
-    /// position.
+    /// Whether the index or a search shows that the node at one position reaches the node at an
+    /// earlier position. With a cover the answer is exact.
     pub(crate) fn reaches(
         &mut self,
         graph: &Graph,
@@ -55,6 +55,9 @@ impl PathSearch {
         ensures reaches { IfOk result (λ yes. IsTrue yes → NodeReaches (edges_of graph.now)
             (slice_index reach.now.nodes.items later) (slice_index reach.now.nodes.items earlier)) }
     {
+        if let Some(cover) = &reach.cover {
+            return Ok(cover.reaches(later, earlier));
+        }
         let node = reach.nodes[later];
         if reach.reaches_by_chain(node, earlier) || has_edge(graph, node, reach.nodes[earlier]) {
             return Ok(true);

@@ -2,8 +2,8 @@
 use epx_tool::{KeyName, Task, read_id};
 
 /// The task that a command names, with the words after it. `check-prefix` is `check --prefix`,
-/// `path` is `why --reaches`, `trace-reads` is `trace --reads`, and `linear-skew` is
-/// `linear --skew`.
+/// `audit-all` is `audit --all`, `around` is `graph --around` with its steps, `path` is
+/// `why --reaches`, `trace-reads` is `trace --reads`, and `linear-skew` is `linear --skew`.
 pub(crate) fn asked_task(command: &str, rest: &str) -> Option<Task> {
     let mut words = rest.split_whitespace();
     match command {
@@ -12,8 +12,13 @@ pub(crate) fn asked_task(command: &str, rest: &str) -> Option<Task> {
         "levels" => Some(Task::Levels),
         "blockers" => Some(Task::Blockers),
         "graph" => Some(Task::Graph),
+        "around" => Some(Task::Around {
+            id: read_id(words.next()?)?,
+            steps: words.next()?.parse().ok()?,
+        }),
         "resume" => Some(Task::Resume),
         "audit" => Some(Task::Audit),
+        "audit-all" => Some(Task::AuditAll),
         "check" => Some(Task::Check),
         "check-prefix" => Some(Task::CheckPrefix),
         "replay" => Some(Task::Replay),

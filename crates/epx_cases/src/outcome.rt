@@ -20,7 +20,12 @@ fn ask_of(task: &Task) -> Option<Ask> {
         Task::Levels => Some(Ask::Levels),
         Task::Blockers => Some(Ask::Blockers),
         Task::Graph => Some(Ask::Graph),
+        Task::Around { id, steps } => Some(Ask::Around {
+            id: *id,
+            steps: *steps,
+        }),
         Task::Audit => Some(Ask::Audit),
+        Task::AuditAll => Some(Ask::AuditAll),
         Task::Compare => Some(Ask::Compare),
         Task::Why(id) => Some(Ask::Why(*id)),
         Task::Path(from, to) => Some(Ask::Path(*from, *to)),

@@ -1,4 +1,4 @@
-//! Names of instances.
+//! Names of instances, and numbers.
 ghost use Rattle.std.specs.Prelude.{ℕ, ◌≡◌, ◌≢◌, ◌^◌, ◌<◌, decimal, IfNone, IfSome};
 ghost use Rattle.epx_types.specs.Faults.{id_text};
 ghost use Rattle.epx_types.specs.declared.id.Id.{Id};
@@ -6,8 +6,9 @@ ghost use Rattle.epx_names.specs.IdNames.{FitsIdTypes};
 
 use epx_types::Id;
 
-/// Reads a number in the decimal form in which numbers are printed.
-fn read_number(text: &str) -> Option<u64>
+/// Reads a number in the decimal form in which numbers are printed: without a sign or zeros in
+/// front. None if the text is no such number below 2^64.
+pub fn read_number(text: &str) -> Option<u64>
     ensures some { IfSome result (λ n. text.now ≡ decimal n) }
     ensures none { IfNone result ((n : ℕ) → n < 2 ^ 64 → text.now ≢ decimal n) }
 {

@@ -18,10 +18,14 @@ pub enum Task {
     Blockers,
     /// Write the dependency graph as a picture.
     Graph,
+    /// Write the part of the dependency graph within some steps of an instance as a picture.
+    Around { id: Id, steps: u64 },
     /// Execute what an earlier report, the base, has not executed, and write the report.
     Resume,
     /// Say whether the logs are covered.
     Audit,
+    /// Say whether the logs are covered, and which instances would have to be related if not.
+    AuditAll,
     /// Say whether a list of instances is a lawful order.
     Check,
     /// Say whether a list of instances is a prefix of a lawful order.

@@ -1,20 +1,17 @@
--- A map has at most one picture.
-use Rattle.std.proofs.Common.{◌≡◌, List, [], ◌∷◌, length, map, Bool, true, false, Option, Some}
-use Rattle.std.proofs.Common.{None, Contains, refl, sym, ap, ap₂, ◌∙◌, subst, arith, IsTrue}
+-- A map has at most one picture, and at most one around an instance.
+use Rattle.std.proofs.Common.{◌≡◌, List, [], ◌∷◌, length, map, filter, Option, Some}
+use Rattle.std.proofs.Common.{None, Contains, refl, sym, ap, ap₂, ◌∙◌, subst, arith}
 use Rattle.epx_types.proofs.Common.{Instance, IsCommitted, IsDepth, IsReady, Contains-head}
 use Rattle.epx_types.proofs.Common.{Contains-cons, Contains-map, Contains-from_map, same_ids}
-use Rattle.epx_types.proofs.Common.{IsLeader-unique, IsDepth-unique}
+use Rattle.epx_types.proofs.Common.{IsLeader-unique, IsDepth-unique, Contains-from_filter, ids_of}
 use Rattle.epx_types.specs.declared.id.Id.{Id}
 use Rattle.epx_picture.specs.declared.node_box.NodeBox.{NodeBox}
 use Rattle.epx_picture.specs.NodeBoxes.{IsCluster, IsBoxOf}
 use Rattle.epx_picture.specs.PictureText.{picture_text}
-use Rattle.epx_picture.specs.PictureLaws.{PictureIsUnique}
-
-same_marks : (a b : Bool) → (IsTrue a → IsTrue b) → (IsTrue b → IsTrue a) → a ≡ b
-same_marks true true there back = refl
-same_marks true false there back = sym (there refl)
-same_marks false true there back = back refl
-same_marks false false there back = refl
+use Rattle.epx_picture.specs.PicturesAround.{part_near}
+use Rattle.epx_picture.specs.PictureLaws.{PictureIsUnique, PictureAroundIsUnique}
+use Rattle.epx_picture.proofs.BoolLemmas.{same_marks}
+use Rattle.epx_picture.proofs.PartLemmas.{ids_of_part}
 
 IsCluster-unique : (m : List Instance) (x : Id) (a b : Option Id) → IsCluster m x a
     → IsCluster m x b → a ≡ b
@@ -70,3 +67,22 @@ picture_is_unique m text other p q =
     (λ x h. (q.lacking x).1 ((p.lacking x).0 h))
     (λ x h. (p.lacking x).1 ((q.lacking x).0 h)) in
     p.printed ∙ ap₂ (picture_text m) node_boxes missing ∙ sym q.printed
+
+pub picture_around_is_unique : PictureAroundIsUnique
+picture_around_is_unique m x n text other p q =
+    let near : p.near ≡ q.near = λ i y. same_marks (p.near y) (q.near y)
+    (λ h. (q.exact y).1 ((p.exact y).0 h)) (λ h. (p.exact y).1 ((q.exact y).0 h)) i in
+    let ids : map (λ d. d.id) p.node_boxes ≡ filter p.near (ids_of m) =
+    p.named ∙ ids_of_part p.near m in
+    let committed : (d : NodeBox) → Contains p.node_boxes d
+    → IsCommitted m d.id = λ d h. Contains-from_filter p.near (ids_of m) d.id
+    (subst (λ ids. Contains ids d.id) ids
+    (Contains-map (λ (d : NodeBox). d.id) p.node_boxes d h)) in
+    let node_boxes = same_boxes m p.node_boxes q.node_boxes
+    (p.named ∙ ap (λ near. ids_of (part_near near m)) near ∙ sym q.named)
+    (λ d h. (committed d h, p.shown d h)) q.shown in
+    let missing = same_ids p.missing q.missing p.missing_rise q.missing_rise
+    (λ x h. (q.lacking x).1 ((p.lacking x).0 h))
+    (λ x h. (p.lacking x).1 ((q.lacking x).0 h)) in
+    p.printed ∙ ap (λ near. picture_text (part_near near m) p.node_boxes p.missing) near
+    ∙ ap₂ (picture_text (part_near q.near m)) node_boxes missing ∙ sym q.printed

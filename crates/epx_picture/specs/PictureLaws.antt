@@ -1,9 +1,13 @@
 -- Laws of pictures.
-use Rattle.std.specs.Prelude.{◌≡◌, ℕ, List}
+use Rattle.std.specs.Prelude.{◌≡◌, ◌↔◌, ◌⊎◌, ℕ, ◌+◌, ◌≤◌, List}
+use Rattle.epx_types.specs.declared.id.Id.{Id}
 use Rattle.epx_types.specs.Ids.{IsRising}
-use Rattle.epx_types.specs.CommittedMap.{ids_of}
+use Rattle.epx_types.specs.CommittedMap.{ids_of, IsCommitted}
 use Rattle.epx_types.specs.Instances.{Instance}
+use Rattle.epx_graph.specs.GraphOf.{IsMissing}
+use Rattle.epx_picture.specs.Neighbourhoods.{IsWithinSteps}
 use Rattle.epx_picture.specs.Pictures.{IsPicture}
+use Rattle.epx_picture.specs.PicturesAround.{IsPictureAround}
 
 -- a committed map has a picture
 abbrev pub PictureExists : Type 0
@@ -13,3 +17,25 @@ PictureExists = (m : List Instance) → IsRising (ids_of m) → (text : List ℕ
 abbrev pub PictureIsUnique : Type 0
 PictureIsUnique = (m : List Instance) (text other : List ℕ) → IsPicture m text → IsPicture m other
     → text ≡ other
+
+-- in a committed map there is a picture around each instance
+abbrev pub PictureAroundExists : Type 0
+PictureAroundExists = (m : List Instance) (x : Id) (n : ℕ) → IsRising (ids_of m)
+    → (text : List ℕ) × IsPictureAround m x n text
+
+-- and no other one
+abbrev pub PictureAroundIsUnique : Type 0
+PictureAroundIsUnique = (m : List Instance) (x : Id) (n : ℕ) (text other : List ℕ)
+    → IsPictureAround m x n text → IsPictureAround m x n other → text ≡ other
+
+-- where everything lies within n steps of x, it is the picture of the map
+abbrev pub PictureAroundIsWhole : Type 0
+PictureAroundIsWhole = (m : List Instance) (x : Id) (n : ℕ) (text : List ℕ)
+    → ((y : Id) → IsCommitted m y ⊎ IsMissing m y → IsWithinSteps m n x y)
+    → IsPictureAround m x n text ↔ IsPicture m text
+
+-- where one step more adds nothing, any number of steps more adds nothing
+abbrev pub FurtherStepsAddNothing : Type 0
+FurtherStepsAddNothing = (m : List Instance) (x : Id) (n l : ℕ) (text : List ℕ)
+    → ((y : Id) → IsWithinSteps m (n + 1) x y → IsWithinSteps m n x y) → n ≤ l
+    → IsPictureAround m x l text ↔ IsPictureAround m x n text

@@ -1,2 +1,3 @@
 -- Words of private clauses: no public contract speaks of them.
 pub mod Clusters
+pub mod NodeMarks

@@ -7,14 +7,17 @@ ghost use Rattle.epx_picture.specs.inner.Clusters.{AreLeaderMarks, AreNodeRanks}
 ghost use Rattle.epx_picture.specs.declared.node_box.NodeBox.{NodeBox};
 ghost use Rattle.epx_picture.specs.NodeBoxes.{IsBoxOf};
 ghost use Rattle.epx_picture.specs.Pictures.{IsPicture};
+ghost use Rattle.epx_picture.specs.PicturesAround.{IsPictureAround};
 
 use crate::cluster::{cluster_of, mark_leaders};
+use crate::marked::marked_items;
+use crate::neighbourhood::nodes_within;
 use crate::node_box::NodeBox;
-use crate::picture_writer::write_picture;
+use crate::picture_writer::{write_marked, write_picture};
 use epx_committed::Merged;
 use epx_components::{NodeRank, NodeRanks};
 use epx_graph::Graph;
-use epx_types::Memory;
+use epx_types::{Id, Memory};
 use std::alloc::Global;
 
 /// The box of the instance at a position of the map. The node of the instance has the same number.
@@ -72,4 +75,29 @@ pub fn picture(alloc: Global, merged: &Merged, graph: &Graph) -> Result<Vec<u8>,
 {
     let node_boxes = all_boxes(alloc, merged, graph)?;
     write_picture(alloc, merged, &node_boxes, graph.missing())
+}
+
+/// The picture of what lies within some steps of an instance, in UTF-8. A step leads along a
+/// dependency or against it. Boxes are as in the picture of the map: a cluster may have members
+/// that are not shown. An instance that is neither committed nor missing has no boxes around it.
+/// `graph` has to be the graph of the map.
+///
+/// The time is linear in the dependencies, whatever the number of steps is. Only instances with
+/// dependencies that are not shown need look-ups, each in logarithmic time. The only error is out
+/// of memory.
+pub fn picture_around(
+    alloc: Global,
+    merged: &Merged,
+    graph: &Graph,
+    id: Id,
+    steps: u64,
+) -> Result<Vec<u8>, Memory>
+    requires { IsGraphOf merged.now graph.now }
+    ensures { IfOk result (λ text. IsPictureAround merged.now id steps text.items) }
+{
+    let marks = nodes_within(alloc, graph, id, steps)?;
+    let (committed, missing) = marks.split_at(graph.committed_len());
+    let node_boxes = marked_items(alloc, &all_boxes(alloc, merged, graph)?, committed)?;
+    let missing_ids = marked_items(alloc, graph.missing(), missing)?;
+    write_marked(alloc, merged, graph, &marks, &node_boxes, &missing_ids)
 }

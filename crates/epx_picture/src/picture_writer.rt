@@ -1,11 +1,18 @@
 //! The text of pictures.
-ghost use Rattle.std.specs.Prelude.{◌≡◌, ◌++◌, OnOk, IfOk, flat_map, string_bytes};
-ghost use Rattle.epx_picture.specs.PictureText.{arrow_line, arrow_lines, box_line};
+ghost use Rattle.std.specs.Prelude.{◌≡◌, ◌<◌, ◌++◌, Bool, length, map, flat_map, All, Contains};
+ghost use Rattle.std.specs.Prelude.{OnOk, IfOk, IsTrue, Some, slice_get, string_bytes};
+ghost use Rattle.epx_types.specs.declared.id.Id.{Id};
+ghost use Rattle.epx_types.specs.Instances.{Instance};
+ghost use Rattle.epx_graph.specs.GraphOf.{IsGraphOf};
+ghost use Rattle.epx_picture.specs.PictureText.{arrow_line, arrow_lines, box_line, head_text};
 ghost use Rattle.epx_picture.specs.PictureText.{missing_box_line};
 ghost use Rattle.epx_picture.specs.PictureText.{picture_text};
+ghost use Rattle.epx_picture.specs.PicturesAround.{part_near, with_deps_near};
+ghost use Rattle.epx_picture.specs.inner.NodeMarks.{HasMark};
 
 use crate::node_box::NodeBox;
 use epx_committed::Merged;
+use epx_graph::Graph;
 use epx_types::{Entry, Id, Memory};
 use std::alloc::{AllocError, Global};
 
@@ -71,6 +78,108 @@ fn write_all_arrows(text: &mut String, merged: &Merged) -> Result<(), AllocError
     Ok(())
 }
 
+/// Whether an instance that has a node is marked. Takes logarithmic time.
+fn is_marked(graph: &Graph, marks: &[bool], id: Id) -> bool
+    requires { length marks.now ≡ length graph.now.ids }
+    ensures { (near : Id → Bool) → marks.now ≡ map near graph.now.ids → Contains graph.now.ids id
+        → result ≡ near id }
+{
+    match graph.node(id) {
+        Some(node) => marks[node],
+        None => false,
+    }
+}
+
+/// Whether all of some nodes are marked.
+fn are_marked(nodes: &[usize], marks: &[bool]) -> bool
+    requires { All (λ k. k < length marks.now) nodes.now }
+    ensures { IsTrue result → All (HasMark marks.now) nodes.now }
+{
+    for node in nodes {
+        if !marks[*node] {
+            return false;
+        }
+    }
+    true
+}
+
+/// Writes the arrows to dependencies that are marked. Looks each of them up.
+fn write_marked_arrows(
+    text: &mut String,
+    graph: &Graph,
+    marks: &[bool],
+    entry: &Entry,
+) -> Result<(), AllocError>
+    requires marks { length marks.now ≡ length graph.now.ids }
+    requires deps { All (Contains graph.now.ids) entry.now.deps }
+    ensures { OnOk result ((near : Id → Bool) → marks.now ≡ map near graph.now.ids
+        → string_bytes text.new
+        ≡ string_bytes text.old ++ arrow_lines (with_deps_near near entry.now)) }
+{
+    let id = entry.id();
+    for dependency in entry.deps() {
+        if is_marked(graph, marks, *dependency) {
+            write_arrow(text, id, *dependency)?;
+        }
+    }
+    Ok(())
+}
+
+/// Writes the arrows from the instance at a position to dependencies that are marked.
+fn write_arrows_from(
+    text: &mut String,
+    merged: &Merged,
+    graph: &Graph,
+    marks: &[bool],
+    position: usize,
+) -> Result<(), AllocError>
+    requires graph { IsGraphOf merged.now graph.now }
+    requires marks { length marks.now ≡ length graph.now.ids }
+    requires position { position < length merged.now }
+    ensures { OnOk result ((near : Id → Bool) (e : Instance) → marks.now ≡ map near graph.now.ids
+        → slice_get merged.now position ≡ Some e → string_bytes text.new
+        ≡ string_bytes text.old ++ arrow_lines (with_deps_near near e)) }
+{
+    let entry = merged.entry_at(position);
+    // Only the last step leads to instances with other dependencies than marked ones.
+    if are_marked(graph.edges(position), marks) {
+        return write_arrows(text, entry);
+    }
+    write_marked_arrows(text, graph, marks, entry)
+}
+
+/// Writes the arrows between instances that are marked.
+fn write_arrows_between(
+    text: &mut String,
+    merged: &Merged,
+    graph: &Graph,
+    marks: &[bool],
+) -> Result<(), AllocError>
+    requires graph { IsGraphOf merged.now graph.now }
+    requires marks { length marks.now ≡ length graph.now.ids }
+    ensures { OnOk result ((near : Id → Bool) → marks.now ≡ map near graph.now.ids
+        → string_bytes text.new
+        ≡ string_bytes text.old ++ flat_map arrow_lines (part_near near merged.now)) }
+{
+    for position in 0..merged.len() {
+        if marks[position] {
+            write_arrows_from(text, merged, graph, marks, position)?;
+        }
+    }
+    Ok(())
+}
+
+/// The text of a picture up to its arrows.
+fn write_nodes(alloc: Global, node_boxes: &[NodeBox], missing: &[Id]) -> Result<String, AllocError>
+    ensures { IfOk result (λ text. string_bytes text ≡ (head_text
+        ++ flat_map box_line node_boxes.now) ++ flat_map missing_box_line missing.now) }
+{
+    let mut text = String::from_str(alloc, "digraph dependencies {\n  node [shape=box];\n")?;
+    write_boxes(&mut text, node_boxes)?;
+    write_all_missing(&mut text, missing)?;
+    Ok(text)
+}
+
 /// The text of a picture.
 pub(crate) fn write_picture(
     alloc: Global,
@@ -81,10 +190,28 @@ pub(crate) fn write_picture(
     ensures { IfOk result
         (λ text. text.items ≡ picture_text merged.now node_boxes.now missing.now) }
 {
-    let mut text = String::from_str(alloc, "digraph dependencies {\n  node [shape=box];\n")?;
-    write_boxes(&mut text, node_boxes)?;
-    write_all_missing(&mut text, missing)?;
+    let mut text = write_nodes(alloc, node_boxes, missing)?;
     write_all_arrows(&mut text, merged)?;
+    text.push_str("}\n")?;
+    Ok(text.into_bytes())
+}
+
+/// The text of the picture of the instances that are marked.
+pub(crate) fn write_marked(
+    alloc: Global,
+    merged: &Merged,
+    graph: &Graph,
+    marks: &[bool],
+    node_boxes: &[NodeBox],
+    missing: &[Id],
+) -> Result<Vec<u8>, Memory>
+    requires graph { IsGraphOf merged.now graph.now }
+    requires marks { length marks.now ≡ length graph.now.ids }
+    ensures { IfOk result (λ text. (near : Id → Bool) → marks.now ≡ map near graph.now.ids
+        → text.items ≡ picture_text (part_near near merged.now) node_boxes.now missing.now) }
+{
+    let mut text = write_nodes(alloc, node_boxes, missing)?;
+    write_arrows_between(&mut text, merged, graph, marks)?;
     text.push_str("}\n")?;
     Ok(text.into_bytes())
 }

@@ -13,8 +13,8 @@ use Rattle.epx_report.specs.ViewLines.{covered_line, lawful_line}
 use Rattle.epx_linear.specs.LinearTexts.{linear_line}
 use Rattle.epx_names.specs.declared.task.Task.{Task}
 use Rattle.epx_names.specs.declared.task.Task.TheVariants.{Run, Order, Levels, Blockers, Audit}
-use Rattle.epx_names.specs.declared.task.Task.TheVariants.{Resume, Check, CheckPrefix, Compare}
-use Rattle.epx_names.specs.declared.task.Task.TheVariants.{Verify, Linear}
+use Rattle.epx_names.specs.declared.task.Task.TheVariants.{AuditAll, Resume, Check, CheckPrefix}
+use Rattle.epx_names.specs.declared.task.Task.TheVariants.{Compare, Verify, Linear}
 use Rattle.epx_tool.specs.declared.findings.Answer.{Answer}
 use Rattle.epx_tool.specs.Answer.{Answers}
 use Rattle.epx_tool.specs.TaskTexts.{IsTaskText}
@@ -32,6 +32,7 @@ FindsIn Order input m text = SomeWaits m
 FindsIn Levels input m text = SomeWaits m
 FindsIn Blockers input m text = SomeWaits m
 FindsIn Audit input m text = text ≢ covered_line
+FindsIn AuditAll input m text = text ≢ covered_line
 FindsIn Resume base m text = (done : List Id) × (stored : Contents) × IsBase base done stored
     × SomeWaits (remaining done m)
 FindsIn Check list m text = text ≢ lawful_line

@@ -7,8 +7,9 @@ use Rattle.epx_compare.specs.ComparisonAnswers.{Compares}
 use Rattle.epx_names.specs.declared.task.Task.{Task}
 use Rattle.epx_names.specs.declared.task.Task.TheVariants as task
 use Rattle.epx_tool.specs.declared.ask.Ask.{Ask}
-use Rattle.epx_tool.specs.declared.ask.Ask.TheVariants.{Order, Levels, Blockers, Audit, Graph}
-use Rattle.epx_tool.specs.declared.ask.Ask.TheVariants.{Why, Path, Trace, Compare}
+use Rattle.epx_tool.specs.declared.ask.Ask.TheVariants.{Order, Levels, Blockers, Audit}
+use Rattle.epx_tool.specs.declared.ask.Ask.TheVariants.{AuditAll, Graph, Around, Why, Path, Trace}
+use Rattle.epx_tool.specs.declared.ask.Ask.TheVariants.{Compare}
 use Rattle.epx_tool.specs.Answer.{Answers}
 use Rattle.epx_tool.specs.TaskTexts.{IsTaskText}
 use Rattle.epx_tool.specs.WithInput.{AnswersWithInput}
@@ -21,7 +22,9 @@ task_of Order = task.Order
 task_of Levels = task.Levels
 task_of Blockers = task.Blockers
 task_of Audit = task.Audit
+task_of AuditAll = task.AuditAll
 task_of Graph = task.Graph
+task_of (Around x steps) = task.Around x steps
 task_of (Why x) = task.Why x
 task_of (Path x y) = task.Path x y
 task_of (Trace key reads) = task.Trace key reads

@@ -3,9 +3,9 @@ use Rattle.std.specs.Prelude.{ℕ, List}
 use Rattle.epx_types.specs.Instances.{Instance}
 use Rattle.epx_names.specs.declared.task.Task.{Task}
 use Rattle.epx_names.specs.declared.task.Task.TheVariants.{Run, Order, Levels, Blockers, Graph}
-use Rattle.epx_names.specs.declared.task.Task.TheVariants.{Resume, Audit, Check, CheckPrefix}
-use Rattle.epx_names.specs.declared.task.Task.TheVariants.{Compare, Replay, Verify, Linear, Why}
-use Rattle.epx_names.specs.declared.task.Task.TheVariants.{Path, Trace}
+use Rattle.epx_names.specs.declared.task.Task.TheVariants.{Around, Resume, Audit, AuditAll, Check}
+use Rattle.epx_names.specs.declared.task.Task.TheVariants.{CheckPrefix, Compare, Replay, Verify}
+use Rattle.epx_names.specs.declared.task.Task.TheVariants.{Linear, Why, Path, Trace}
 use Rattle.epx_tool.specs.Report.{IsReport}
 use Rattle.epx_views.specs.OrderText.{IsOrderText}
 use Rattle.epx_views.specs.LevelText.{IsLevelText}
@@ -14,7 +14,9 @@ use Rattle.epx_tool.specs.AuditText.{IsAuditText}
 use Rattle.epx_tool.specs.CheckAnswers.{IsCheckText, IsPrefixCheckText, IsReplayText}
 use Rattle.epx_tool.specs.CheckAnswers.{IsHistoryCheckText, IsVerifyText}
 use Rattle.epx_tool.specs.Resumption.{IsResumedText}
+use Rattle.epx_neighbours.specs.UncoveredTexts.{IsUncoveredText}
 use Rattle.epx_picture.specs.Pictures.{IsPicture}
+use Rattle.epx_picture.specs.PicturesAround.{IsPictureAround}
 use Rattle.epx_why.specs.WhyTexts.{IsWhyText, IsPathText}
 use Rattle.epx_trace.specs.TraceTexts.{IsTraceText}
 
@@ -26,7 +28,9 @@ IsTaskText Order = λ input. IsOrderText
 IsTaskText Levels = λ input. IsLevelText
 IsTaskText Blockers = λ input. IsBlockersText
 IsTaskText Graph = λ input. IsPicture
+IsTaskText (Around x steps) = λ input m. IsPictureAround m x steps
 IsTaskText Audit = λ input. IsAuditText
+IsTaskText AuditAll = λ input. IsUncoveredText
 IsTaskText Resume = IsResumedText
 IsTaskText Check = IsCheckText
 IsTaskText CheckPrefix = IsPrefixCheckText

@@ -15,8 +15,12 @@ pub enum Ask {
     Blockers,
     /// Whether the instances are covered, and if not, the least two that are not.
     Audit,
+    /// Whether the instances are covered, and if not, all pairs that would have to be related.
+    AuditAll,
     /// The dependency graph, as a picture in DOT.
     Graph,
+    /// The part of the dependency graph within some steps of an instance, as a picture in DOT.
+    Around { id: Id, steps: u64 },
     /// Why an instance is executed where it is, or which missing instances it waits for.
     Why(Id),
     /// The first of the shortest paths of dependencies from one instance to another.
@@ -40,7 +44,9 @@ impl From<Ask> for Task {
             Ask::Levels => Task::Levels,
             Ask::Blockers => Task::Blockers,
             Ask::Audit => Task::Audit,
+            Ask::AuditAll => Task::AuditAll,
             Ask::Graph => Task::Graph,
+            Ask::Around { id, steps } => Task::Around { id, steps },
             Ask::Why(id) => Task::Why(id),
             Ask::Path(from, to) => Task::Path(from, to),
             Ask::Trace { key, reads } => Task::Trace { key, reads },

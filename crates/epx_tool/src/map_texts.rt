@@ -12,6 +12,7 @@ ghost use Rattle.epx_tool.specs.ResumedReport.{IsReportAfter};
 ghost use Rattle.epx_tool.specs.Findings.{SomeWaits};
 ghost use Rattle.epx_tool.specs.inner.MapQuestions.{FindsOf, IsTextOf};
 ghost use Rattle.epx_blockers.specs.BlockerTexts.{IsBlockersText};
+ghost use Rattle.epx_neighbours.specs.UncoveredTexts.{IsUncoveredText};
 ghost use Rattle.epx_why.specs.WhyTexts.{IsWhyText};
 ghost use Rattle.epx_trace.specs.TraceTexts.{IsTraceText};
 
@@ -24,7 +25,8 @@ use epx_blockers::blockers_text;
 use epx_graph::{build, build_after, waiting};
 use epx_merge::Merged;
 use epx_names::KeyName;
-use epx_picture::picture;
+use epx_neighbours::uncovered_text;
+use epx_picture::{picture, picture_around};
 use epx_ranking::order;
 use epx_replay::{append_store_lines, replay};
 use epx_trace::trace_text;
@@ -143,6 +145,24 @@ fn audit_of<R: Threads + Sync>(
     Ok(Answer::new(text, has_findings))
 }
 
+/// The text that says which instances of a committed map would have to be related.
+fn audit_all_of<R: Threads + Sync>(
+    rt: &R,
+    alloc: Global,
+    merged: &Merged,
+    plan: Plan,
+) -> Result<Answer, Memory>
+    ensures text { IfOk result (λ answer. IsUncoveredText merged.now answer.text.items) }
+    ensures found { IfOk result (λ answer. (answer.has_findings ≡ true)
+        ↔ (answer.text.items ≢ covered_line)) }
+{
+    let graph = build(rt, alloc, merged, plan)?;
+    let order = order(rt, alloc, merged, &graph)?;
+    let text = uncovered_text(alloc, merged, &graph, &order)?;
+    let has_pairs = is_other(alloc, &text, "covered")?;
+    Ok(Answer::new(text, has_pairs))
+}
+
 /// The text that says why an instance is executed where it is, or what it waits for.
 fn why_of<R: Threads + Sync>(
     rt: &R,
@@ -199,9 +219,14 @@ pub(crate) fn text_of<R: Threads + RandomSource + Sync>(
         MapQuestion::Levels => levels_of(rt, alloc, merged, plan),
         MapQuestion::Blockers => blockers_of(rt, alloc, merged, plan),
         MapQuestion::Audit => audit_of(rt, alloc, merged, plan),
+        MapQuestion::AuditAll => audit_all_of(rt, alloc, merged, plan),
         MapQuestion::Graph => {
             let graph = build(rt, alloc, merged, plan)?;
             Ok(Answer::new(picture(alloc, merged, &graph)?, false))
+        }
+        MapQuestion::Around { id, steps } => {
+            let graph = build(rt, alloc, merged, plan)?;
+            Ok(Answer::new(picture_around(alloc, merged, &graph, id, steps)?, false))
         }
         MapQuestion::Why(id) => Ok(Answer::new(why_of(rt, alloc, merged, id, plan)?, false)),
         MapQuestion::Path(from, to) => {

@@ -10,14 +10,16 @@ use Rattle.clap.specs.Simple.{is_simple, marked_built, names_of, subcommand_of, 
 use Rattle.clap.specs.Walk.{Row, Text, finished, nothing_held, one_of, rows_after, settled}
 use Rattle.clap.specs.Walk.{stop_after, walk, walk_from}
 use Rattle.clap.proofs.OnLiterals.{clap_on_literals}
-use Rattle.epx_words.specs.App.{base_app, epx_app, finding_app, follow_app, input_app, linear_app}
-use Rattle.epx_words.specs.App.{list_app, trace_app, why_app, work_app}
+use Rattle.epx_words.specs.App.{audit_app, base_app, epx_app, finding_app, follow_app, graph_app}
+use Rattle.epx_words.specs.App.{input_app, linear_app, list_app, trace_app, why_app}
 use Rattle.epx_words.specs.SubcommandRows.{AsksForWork, IsNumberIn, IsOneOf, IsTaskName, IsWorkName}
 use Rattle.epx_words.specs.SubcommandRows.{NeedsFirst, first_names, max_skew, task_names}
 use Rattle.epx_words.proofs.AbsentRowLemmas.{no_flag}
 use Rattle.epx_words.proofs.KindLemmas.{none_after, none_first}
 use Rattle.epx_words.proofs.StopLemmas.{IsKnownName, StopsAtWork, walk_work}
-use Rattle.epx_words.proofs.SoundArgumentLemmas.{HasNumbers, IsFirstThere, code_to_first}
+use Rattle.epx_words.proofs.SoundArgumentLemmas.{HasNumbers, IsFirstThere, all_to_logs}
+use Rattle.epx_words.proofs.SoundArgumentLemmas.{all_to_logs_keep, around_to_logs}
+use Rattle.epx_words.proofs.SoundArgumentLemmas.{around_to_logs_keep, code_to_first}
 use Rattle.epx_words.proofs.SoundArgumentLemmas.{code_to_first_keep, code_to_logs}
 use Rattle.epx_words.proofs.SoundArgumentLemmas.{code_to_logs_keep, each_to_logs, each_to_logs_keep}
 use Rattle.epx_words.proofs.SoundArgumentLemmas.{first_has_row, level_numbers, level_skew}
@@ -25,7 +27,7 @@ use Rattle.epx_words.proofs.SoundArgumentLemmas.{prefix_to_first, prefix_to_firs
 use Rattle.epx_words.proofs.SoundArgumentLemmas.{reaches_to_first, reaches_to_first_keep}
 use Rattle.epx_words.proofs.SoundArgumentLemmas.{reads_to_first, reads_to_first_keep}
 use Rattle.epx_words.proofs.SoundArgumentLemmas.{skew_to_first, skew_to_first_keep}
-use Rattle.epx_words.proofs.SoundArgumentLemmas.{to_first, to_first_keep, to_logs, to_logs_keep}
+use Rattle.epx_words.proofs.SoundArgumentLemmas.{to_first, to_first_keep}
 
 pub epx_is_simple : is_simple epx_app ≡ true
 unfolding clap_on_literals
@@ -48,10 +50,16 @@ IsFaultless shape rest = level_fault shape [] nothing_held rest false [] ≡ []
 
 -- such a level ends with both numbers
 module _ (name : Text) (rest : List Text) where
-  logs_numbers : IsFaultless (leaf_of (work_app name)) rest
-      → HasNumbers (rows_after (leaf_of (work_app name)).rules [] rest)
-  logs_numbers none =
-      level_numbers (leaf_of (work_app name)) to_logs refl refl to_logs_keep rest none
+  graph_numbers : IsFaultless (leaf_of (graph_app name)) rest
+      → HasNumbers (rows_after (leaf_of (graph_app name)).rules [] rest)
+  graph_numbers none =
+      level_numbers (leaf_of (graph_app name)) around_to_logs refl refl around_to_logs_keep rest
+      none
+
+  audit_numbers : IsFaultless (leaf_of (audit_app name)) rest
+      → HasNumbers (rows_after (leaf_of (audit_app name)).rules [] rest)
+  audit_numbers none =
+      level_numbers (leaf_of (audit_app name)) all_to_logs refl refl all_to_logs_keep rest none
 
   finding_numbers : IsFaultless (leaf_of (finding_app name)) rest
       → HasNumbers (rows_after (leaf_of (finding_app name)).rules [] rest)
@@ -226,12 +234,6 @@ no_first name none = not_one_of name first_names none
 
 -- the work of each subcommand
 module _ (rest : List Text) where
-  over_logs : (name : Text) → IsTaskName name → is_none_of name first_names ≡ true
-      → IsFaultless (leaf_of (work_app name)) rest
-      → AsksForWork (Some (name, rows_after (leaf_of (work_app name)).rules [] rest))
-  over_logs name is no_input none = logs_work (leaf_of (work_app name)) name rest is
-      (logs_numbers name rest none) (no_first name no_input)
-
   over_findings : (name : Text) → IsTaskName name → is_none_of name first_names ≡ true
       → IsFaultless (leaf_of (finding_app name)) rest
       → AsksForWork (Some (name, rows_after (leaf_of (finding_app name)).rules [] rest))
@@ -312,7 +314,8 @@ task_works n rest (inr (inr (inr (inl is)))) =
     (over_findings rest (codes "blockers") is_blockers refl)
 task_works n rest (inr (inr (inr (inr (inl is))))) =
     named n (codes "graph") rest is
-    (over_logs rest (codes "graph") is_graph refl)
+    (λ none. logs_work (leaf_of (graph_app (codes "graph"))) (codes "graph") rest is_graph
+    (graph_numbers (codes "graph") rest none) (no_first (codes "graph") refl))
 task_works n rest (inr (inr (inr (inr (inr (inl is)))))) =
     named n (codes "resume") rest is
     (λ none. first_work (leaf_of (base_app (codes "resume"))) (codes "resume") rest is_resume
@@ -320,7 +323,8 @@ task_works n rest (inr (inr (inr (inr (inr (inl is)))))) =
     (λ e. absurd (apart (codes "resume") (codes "linear") refl e)) none)
 task_works n rest (inr (inr (inr (inr (inr (inr (inl is))))))) =
     named n (codes "audit") rest is
-    (over_findings rest (codes "audit") is_audit refl)
+    (λ none. logs_work (leaf_of (audit_app (codes "audit"))) (codes "audit") rest is_audit
+    (audit_numbers (codes "audit") rest none) (no_first (codes "audit") refl))
 task_works n rest (inr (inr (inr (inr (inr (inr (inr later))))))) = later_works n rest later
 
 name_works : (name : Text) (rest : List Text) → IsWorkName name

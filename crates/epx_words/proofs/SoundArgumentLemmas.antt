@@ -57,7 +57,7 @@ numbers_and rest = workers_leaf ∷ cut_leaf ∷ flag_leaf (codes "explain") ∷
 
 -- what follows: the logs, or a first argument and the logs, each with or without further flags and
 -- options whose values are texts or a number
-abbrev pub to_logs : List Rule
+abbrev to_logs : List Rule
 to_logs = logs_leaf 1 ∷ filled help_rule ∷ []
 
 abbrev pub to_first : List Rule
@@ -65,6 +65,12 @@ to_first = first_leaf ∷ logs_leaf 2 ∷ filled help_rule ∷ []
 
 abbrev pub code_to_logs : List Rule
 code_to_logs = flag_leaf (codes "exit-code") ∷ to_logs
+
+abbrev pub all_to_logs : List Rule
+all_to_logs = flag_leaf (codes "exit-code") ∷ flag_leaf (codes "all") ∷ to_logs
+
+abbrev pub around_to_logs : List Rule
+around_to_logs = text_leaf (codes "around") ∷ text_leaf (codes "steps") ∷ to_logs
 
 abbrev pub code_to_first : List Rule
 code_to_first = flag_leaf (codes "exit-code") ∷ to_first
@@ -246,7 +252,7 @@ text_is_kept : (name : Text) → bytes_eq name (codes "workers") ≡ false
 text_is_kept name workers cut first skew =
     (text_keeps name workers cut first skew true, no_default_keeps (text_leaf name) refl)
 
-pub to_logs_keep : AllByRecursion Keeps to_logs
+to_logs_keep : AllByRecursion Keeps to_logs
 to_logs_keep = (
   (logs_keep true 1, no_default_keeps (logs_leaf 1) refl),
   ((help_keeps true, no_default_keeps (filled help_rule) refl), tt),
@@ -263,6 +269,18 @@ to_first_keep = (
 
 pub code_to_logs_keep : AllByRecursion Keeps code_to_logs
 code_to_logs_keep = (flag_is_kept (codes "exit-code") refl refl refl refl, to_logs_keep)
+
+pub all_to_logs_keep : AllByRecursion Keeps all_to_logs
+all_to_logs_keep = (
+  flag_is_kept (codes "exit-code") refl refl refl refl,
+  (flag_is_kept (codes "all") refl refl refl refl, to_logs_keep),
+)
+
+pub around_to_logs_keep : AllByRecursion Keeps around_to_logs
+around_to_logs_keep = (
+  text_is_kept (codes "around") refl refl refl refl,
+  (text_is_kept (codes "steps") refl refl refl refl, to_logs_keep),
+)
 
 pub code_to_first_keep : AllByRecursion Keeps code_to_first
 code_to_first_keep = (flag_is_kept (codes "exit-code") refl refl refl refl, to_first_keep)

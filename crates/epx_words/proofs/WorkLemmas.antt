@@ -8,28 +8,32 @@ use Rattle.clap.specs.Words.{App, Kinds, Row, Text, is_simple, subcommand_of}
 use Rattle.epx_words.specs.App.{epx_app}
 use Rattle.epx_words.specs.ExitStatus.{IsTaken}
 use Rattle.epx_words.specs.Requests.{AsksFor, AsksToFollow, FitFlags, FitsRows, IfFollow, IfText}
-use Rattle.epx_words.specs.Requests.{IfWork, IsMeaningOf, IsText, IsWork, flags_of, task_name}
-use Rattle.epx_words.specs.Subjects.{IsIdName, IsNameOf, NameIds, NamesAll, NamesLogs, NamesSubject}
-use Rattle.epx_words.specs.SubcommandRows.{Given, HasFlag, first_in, name_in, rows_in}
+use Rattle.epx_words.specs.Requests.{IfWork, IsMeaningOf, IsStepsOf, IsText, IsWork, flags_of}
+use Rattle.epx_words.specs.Requests.{task_name}
+use Rattle.epx_words.specs.Subjects.{ArePartNames, IsIdName, IsNameOf, IsNumberName, NameIds}
+use Rattle.epx_words.specs.Subjects.{NamesAll, NamesLogs, NamesPart, NamesSubject}
+use Rattle.epx_words.specs.SubcommandRows.{Given, HasFlag, first_in, name_in, rows_in, steps_in}
 use Rattle.epx_names.specs.declared.task.Task.{Task}
 use Rattle.epx_names.specs.declared.task.Task.TheVariants as task
 use Rattle.epx_words.specs.declared.words.Words.{Words}
 use Rattle.epx_words.specs.declared.words.Words.TheVariants as words
 use Rattle.epx_words.proofs.FaultLemmas.{epx_is_simple}
 
--- ---- what is to name an instance or a key names one
+-- ---- what is to name an instance, a key or a part names one
 
 apart : (a b name : Text) → bytes_eq a b ≡ false → Some name ≡ Some a → ¬ (name ≡ b)
 apart a b name differ is other =
     let same : a ≡ b = cc in
     true≢false (sym ((bytes_eq-Decides a b).1 same) ∙ differ)
 
--- a subcommand that is to name neither
+-- a subcommand that is to name none of these
 no_subject : (p : Text × List Row) (a : Text) → Some p.0 ≡ Some a
-    → bytes_eq a (codes "why") ≡ false → bytes_eq a (codes "trace") ≡ false → NamesSubject (Some p)
-no_subject p a is no_why no_trace = (
+    → bytes_eq a (codes "why") ≡ false → bytes_eq a (codes "trace") ≡ false
+    → bytes_eq a (codes "graph") ≡ false → NamesSubject (Some p)
+no_subject p a is no_why no_trace no_graph = (
   λ e. absurd (apart a (codes "why") p.0 no_why is e),
   λ e. absurd (apart a (codes "trace") p.0 no_trace is e),
+  λ e. absurd (apart a (codes "graph") p.0 no_graph is e),
 )
 
 id_named : (x : Id) (rows : List Row)
@@ -37,29 +41,49 @@ id_named : (x : Id) (rows : List Row)
     → MatchOption (first_in rows) ⊥ IsIdName
 id_named x rows named = subst (λ o. MatchOption o ⊥ IsIdName) (sym named.1) (x, named.2)
 
--- a subcommand about instances
+-- the subcommand `why`, whose instances are named
 ids_subject : (p : Text × List Row) → Some p.0 ≡ Some (codes "why") → NameIds p.1
     → NamesSubject (Some p)
 ids_subject p is named = (
   λ e. named,
   λ e. absurd (apart (codes "why") (codes "trace") p.0 refl is e),
+  λ e. absurd (apart (codes "why") (codes "graph") p.0 refl is e),
 )
+
+-- the subcommand `graph`, whose part is named
+part_subject : (p : Text × List Row) → Some p.0 ≡ Some (codes "graph") → NamesPart p.1
+    → NamesSubject (Some p)
+part_subject p is named = (
+  λ e. absurd (apart (codes "graph") (codes "why") p.0 refl is e),
+  λ e. absurd (apart (codes "graph") (codes "trace") p.0 refl is e),
+  λ e. named,
+)
+
+steps_named : (steps : Option Text) (n : ℕ) → IsStepsOf steps n
+    → IfSome steps (λ far. (k : ℕ) × IsNumberName k far)
+steps_named None n is = tt
+steps_named (Some far) n is = (n, is)
 
 subject_of : (t : Task) (p : Text × List Row) → Some p.0 ≡ Some (task_name t) → FitsRows t p.1
     → NamesSubject (Some p)
-subject_of task.Run p is fits = no_subject p (codes "run") is refl refl
-subject_of task.Order p is fits = no_subject p (codes "order") is refl refl
-subject_of task.Levels p is fits = no_subject p (codes "levels") is refl refl
-subject_of task.Blockers p is fits = no_subject p (codes "blockers") is refl refl
-subject_of task.Graph p is fits = no_subject p (codes "graph") is refl refl
-subject_of task.Resume p is fits = no_subject p (codes "resume") is refl refl
-subject_of task.Audit p is fits = no_subject p (codes "audit") is refl refl
-subject_of task.Check p is fits = no_subject p (codes "check") is refl refl
-subject_of task.CheckPrefix p is fits = no_subject p (codes "check") is refl refl
-subject_of task.Verify p is fits = no_subject p (codes "verify") is refl refl
-subject_of (task.Linear skew) p is fits = no_subject p (codes "linear") is refl refl
-subject_of task.Replay p is fits = no_subject p (codes "replay") is refl refl
-subject_of task.Compare p is fits = no_subject p (codes "compare") is refl refl
+subject_of task.Run p is fits = no_subject p (codes "run") is refl refl refl
+subject_of task.Order p is fits = no_subject p (codes "order") is refl refl refl
+subject_of task.Levels p is fits = no_subject p (codes "levels") is refl refl refl
+subject_of task.Blockers p is fits = no_subject p (codes "blockers") is refl refl refl
+subject_of task.Graph p is fits =
+    part_subject p is (subst (λ o. ArePartNames o (steps_in p.1)) (sym fits.0) fits.1)
+subject_of (task.Around x steps) p is fits =
+    part_subject p is (subst (λ o. ArePartNames o (steps_in p.1)) (sym fits.around.1)
+    ((x, fits.around.2), steps_named (steps_in p.1) steps fits.within))
+subject_of task.Resume p is fits = no_subject p (codes "resume") is refl refl refl
+subject_of task.Audit p is fits = no_subject p (codes "audit") is refl refl refl
+subject_of task.AuditAll p is fits = no_subject p (codes "audit") is refl refl refl
+subject_of task.Check p is fits = no_subject p (codes "check") is refl refl refl
+subject_of task.CheckPrefix p is fits = no_subject p (codes "check") is refl refl refl
+subject_of task.Verify p is fits = no_subject p (codes "verify") is refl refl refl
+subject_of (task.Linear skew) p is fits = no_subject p (codes "linear") is refl refl refl
+subject_of task.Replay p is fits = no_subject p (codes "replay") is refl refl refl
+subject_of task.Compare p is fits = no_subject p (codes "compare") is refl refl refl
 subject_of (task.Why x) p is fits = ids_subject p is (
   id_named x p.1 fits.named,
   subst (λ o. IfSome o IsIdName) (sym fits.alone) tt,
@@ -71,6 +95,7 @@ subject_of (task.Path x y) p is fits = ids_subject p is (
 subject_of (task.Trace key reads) p is fits = (
   λ e. absurd (apart (codes "trace") (codes "why") p.0 refl is e),
   λ e. subst (λ o. MatchOption o ⊥ FitsKey) (sym fits.0) key.fits,
+  λ e. absurd (apart (codes "trace") (codes "graph") p.0 refl is e),
 )
 
 names_subject : (given : Given) (t : Task) (plan : PlanNumbers) (paths : Option (List Text))
@@ -78,12 +103,12 @@ names_subject : (given : Given) (t : Task) (plan : PlanNumbers) (paths : Option 
 names_subject None t plan paths asks = tt
 names_subject (Some p) t plan paths asks = subject_of t p asks.task asks.parts
 
--- the subcommand `follow` is about neither, and has no status of its own
+-- the subcommand `follow` is about none of these, and has no status of its own
 follow_names_all : (given : Given) → name_in given ≡ Some (codes "follow")
     → ¬ HasFlag (codes "exit-code") (rows_in given) → NamesAll given
 follow_names_all None is no_code = (tt, λ has. absurd (no_code has))
 follow_names_all (Some p) is no_code =
-    (no_subject p (codes "follow") is refl refl, λ has. absurd (no_code has))
+    (no_subject p (codes "follow") is refl refl refl, λ has. absurd (no_code has))
 
 -- ---- the words as they are read
 

@@ -50,14 +50,26 @@ numbers_app name =
     (number_rule (codes "cut") (codes "256") 1 65536))
     (flag_rule (codes "explain"))
 
--- a subcommand over logs
-abbrev pub work_app : Text → App
-work_app name = with_rule (numbers_app name) logs_rule
-
 -- a subcommand over logs that can find something
 abbrev pub finding_app : Text → App
 finding_app name =
     with_rule (with_rule (numbers_app name) (flag_rule (codes "exit-code"))) logs_rule
+
+-- a subcommand over logs that finds what is not covered, or all of it
+abbrev pub audit_app : Text → App
+audit_app name =
+    with_rule
+    (with_rule (with_rule (numbers_app name) (flag_rule (codes "exit-code")))
+    (flag_rule (codes "all")))
+    logs_rule
+
+-- a subcommand over logs that draws them, or the part around an instance
+abbrev pub graph_app : Text → App
+graph_app name =
+    with_rule
+    (with_rule (with_rule (numbers_app name) (text_rule (codes "around")))
+    (text_rule (codes "steps")))
+    logs_rule
 
 -- a subcommand over logs and an input, a base or what a replica said, which can find something
 abbrev pub base_app : Text → App
@@ -131,7 +143,7 @@ runs_app =
     (with_subcommand (with_subcommand (with_subcommand epx_top (finding_app (codes "run")).top)
     (finding_app (codes "order")).top) (finding_app (codes "levels")).top)
     (finding_app (codes "blockers")).top)
-    (work_app (codes "graph")).top
+    (graph_app (codes "graph")).top
 
 -- and `resume`, `audit`, `check`, `verify` and `linear`
 abbrev pub checks_app : App
@@ -140,7 +152,7 @@ checks_app =
     (with_subcommand
     (with_subcommand
     (with_subcommand (with_subcommand runs_app (base_app (codes "resume")).top)
-    (finding_app (codes "audit")).top) (list_app (codes "check")).top)
+    (audit_app (codes "audit")).top) (list_app (codes "check")).top)
     (base_app (codes "verify")).top) (linear_app (codes "linear")).top
 
 -- the program with all subcommands

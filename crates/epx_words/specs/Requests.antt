@@ -10,10 +10,11 @@ use Rattle.epx_words.specs.declared.words.Words.{Words}
 use Rattle.epx_words.specs.declared.words.Words.TheVariants as words
 use Rattle.epx_words.specs.declared.words.Flags.{Flags}
 use Rattle.epx_words.specs.declared.words.FollowOptions.{FollowOptions}
-use Rattle.epx_words.specs.SubcommandRows.{Given, HasFlag, IsCutOf, IsSkewOf, IsWorkersOf, first_in}
-use Rattle.epx_words.specs.SubcommandRows.{logs_in, max_skew, name_in, reaches_in, rows_in}
-use Rattle.epx_words.specs.SubcommandRows.{save_in, some_logs_in, state_in}
-use Rattle.epx_words.specs.Subjects.{IsNameOf, NamesAll, NamesLogs}
+use Rattle.epx_words.specs.SubcommandRows.{Given, HasFlag, IsCutOf, IsSkewOf, IsWorkersOf}
+use Rattle.epx_words.specs.SubcommandRows.{around_in, first_in, logs_in, max_skew, name_in}
+use Rattle.epx_words.specs.SubcommandRows.{reaches_in, rows_in, save_in, some_logs_in, state_in}
+use Rattle.epx_words.specs.SubcommandRows.{steps_in}
+use Rattle.epx_words.specs.Subjects.{IsNameOf, IsNumberName, NamesAll, NamesLogs}
 
 -- the words are the program's name at most, or this and a hyphen: they name no subcommand
 abbrev pub IsBare : List Text → Type 0
@@ -27,8 +28,10 @@ task_name task.Order = codes "order"
 task_name task.Levels = codes "levels"
 task_name task.Blockers = codes "blockers"
 task_name task.Graph = codes "graph"
+task_name (task.Around x steps) = codes "graph"
 task_name task.Resume = codes "resume"
 task_name task.Audit = codes "audit"
+task_name task.AuditAll = codes "audit"
 task_name task.Check = codes "check"
 task_name task.CheckPrefix = codes "check"
 task_name task.Verify = codes "verify"
@@ -64,9 +67,23 @@ pub record NamesOne (x : Id) (rows : List Row) : Type 0 where
   pub named : (text : Text) × (first_in rows ≡ Some text) × IsNameOf x text
   pub alone : reaches_in rows ≡ None
 
+-- so many steps: one where the option `--steps` is not there
+abbrev pub IsStepsOf : Option Text → ℕ → Type 0
+IsStepsOf None n = n ≡ 1
+IsStepsOf (Some text) n = IsNumberName n text
+
+-- the part within so many steps of x is named
+pub record NamesAround (x : Id) (steps : ℕ) (rows : List Row) : Type 0 where
+  pub around : (text : Text) × (around_in rows ≡ Some text) × IsNameOf x text
+  pub within : IsStepsOf (steps_in rows) steps
+
 -- what a task has besides its name is what the rows have: a check is one of a prefix exactly
 -- if the flag `--prefix` is there, and so on
 abbrev pub FitsRows : Task → List Row → Type 0
+FitsRows task.Graph rows = (around_in rows ≡ None) × (steps_in rows ≡ None)
+FitsRows (task.Around x steps) rows = NamesAround x steps rows
+FitsRows task.Audit rows = ¬ HasFlag (codes "all") rows
+FitsRows task.AuditAll rows = HasFlag (codes "all") rows
 FitsRows task.Check rows = ¬ HasFlag (codes "prefix") rows
 FitsRows task.CheckPrefix rows = HasFlag (codes "prefix") rows
 FitsRows (task.Linear skew) rows = IsSkewOf rows skew × (skew ≤ max_skew)

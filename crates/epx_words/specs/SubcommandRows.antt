@@ -60,6 +60,14 @@ first_in rows = first_of (codes "first") rows
 abbrev pub reaches_in : List Row → Option Text
 reaches_in rows = first_of (codes "reaches") rows
 
+-- the value of the option `--around`, if it is there
+abbrev pub around_in : List Row → Option Text
+around_in rows = first_of (codes "around") rows
+
+-- the value of the option `--steps`, if it is there
+abbrev pub steps_in : List Row → Option Text
+steps_in rows = first_of (codes "steps") rows
+
 -- the value of the option `--state`, if it is there
 abbrev pub state_in : List Row → Option Text
 state_in rows = first_of (codes "state") rows

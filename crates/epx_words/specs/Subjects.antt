@@ -1,13 +1,15 @@
--- What a subcommand has to name: an instance or a key that it is about, and a log where its status
--- is asked for.
-use Rattle.std.specs.Prelude.{◌≡◌, ◌≢◌, ⊤, List, [], Some, None, codes, MatchOption}
+-- What a subcommand has to name: an instance, a key or a part of the graph that it is about, and a
+-- log where its status is asked for.
+use Rattle.std.specs.Prelude.{◌≡◌, ◌≢◌, ⊤, ℕ, ◌<◌, ◌^◌, List, [], Option, Some, None, codes}
+use Rattle.std.specs.Prelude.{decimal, MatchOption}
 use Rattle.std.specs.Option.{IfSome}
 use Rattle.clap.specs.Words.{Row, Text}
 use Rattle.epx_types.specs.Faults.{id_text}
 use Rattle.epx_types.specs.Keys.{FitsKey}
 use Rattle.epx_types.specs.declared.id.Id.{Id}
 use Rattle.epx_names.specs.IdNames.{FitsIdTypes}
-use Rattle.epx_words.specs.SubcommandRows.{Given, HasFlag, first_in, logs_in, reaches_in, rows_in}
+use Rattle.epx_words.specs.SubcommandRows.{Given, HasFlag, around_in, first_in, logs_in, reaches_in}
+use Rattle.epx_words.specs.SubcommandRows.{rows_in, steps_in}
 
 -- the text names x, as faults name it
 abbrev pub IsNameOf : Id → Text → Type 0
@@ -21,15 +23,29 @@ IsIdName text = (x : Id) × IsNameOf x text
 abbrev pub NameIds : List Row → Type 0
 NameIds rows = MatchOption (first_in rows) ⊥ IsIdName × IfSome (reaches_in rows) IsIdName
 
+-- the text is a number below 2^64, as numbers are printed
+abbrev pub IsNumberName : ℕ → Text → Type 0
+IsNumberName n text = (n < 2 ^ 64) × (text ≡ decimal n)
+
+-- what `--around` and `--steps` say: `--around` names an instance, and `--steps`, which goes with
+-- it alone, is a number
+abbrev pub ArePartNames : Option Text → Option Text → Type 0
+ArePartNames None steps = steps ≡ None
+ArePartNames (Some text) steps = IsIdName text × IfSome steps (λ far. (n : ℕ) × IsNumberName n far)
+
+abbrev pub NamesPart : List Row → Type 0
+NamesPart rows = ArePartNames (around_in rows) (steps_in rows)
+
 -- the first argument is a key
 abbrev pub NamesKey : List Row → Type 0
 NamesKey rows = MatchOption (first_in rows) ⊥ FitsKey
 
--- what is to name an instance or a key names one
+-- what is to name an instance, a key or a part names one
 abbrev pub NamesSubject : Given → Type 0
 NamesSubject None = ⊤
 NamesSubject (Some p) =
     (p.0 ≡ codes "why" → NameIds p.1) × (p.0 ≡ codes "trace" → NamesKey p.1)
+    × (p.0 ≡ codes "graph" → NamesPart p.1)
 
 -- with `--exit-code` there is a log: a status is about something
 abbrev pub NamesLogs : List Row → Type 0

@@ -1,10 +1,10 @@
 //! The program's command line, as a clap `Command`.
 ghost use Rattle.std.specs.Prelude.{◌≡◌, IfOk, codes};
 ghost use Rattle.clap.specs.Words.{app_of, new_app, rule_of};
-ghost use Rattle.epx_words.specs.App.{base_app, checks_app, epx_app, epx_top, finding_app};
-ghost use Rattle.epx_words.specs.App.{first_rule, flag_rule, follow_app, input_app, linear_app};
-ghost use Rattle.epx_words.specs.App.{list_app, logs_rule, number_rule, numbers_app, runs_app};
-ghost use Rattle.epx_words.specs.App.{text_rule, trace_app, why_app, work_app};
+ghost use Rattle.epx_words.specs.App.{audit_app, base_app, checks_app, epx_app, epx_top};
+ghost use Rattle.epx_words.specs.App.{finding_app, first_rule, flag_rule, follow_app, graph_app};
+ghost use Rattle.epx_words.specs.App.{input_app, linear_app, list_app, logs_rule, number_rule};
+ghost use Rattle.epx_words.specs.App.{numbers_app, runs_app, text_rule, trace_app, why_app};
 
 use clap::builder::ValueParser;
 use clap::{Arg, ArgAction, Command};
@@ -106,15 +106,22 @@ const GRAPH: Help = Help {
     long_about: "Prints the dependency graph of what the logs commit in DOT, the language of
 Graphviz, and executes nothing: a box for each instance with its depth and
 sequence number, an arrow to each of its dependencies, a cluster for each
-component of two or more; instances that wait are dashed, missing ones dotted.",
+component of two or more; instances that wait are dashed, missing ones dotted.
+With --around it prints the part within --steps steps of one instance, which is
+to be drawn where the whole graph is too large.",
     after: "Example:
   epx graph examples/replicas/*.jsonl | dot -Tsvg > graph.svg",
     long_after: "Of two ready instances that an arrow joins, the one that it leads to is executed
 first, but for two of one cluster, which reach each other: these are executed by
 sequence number, then replica, then number.
 
-Example:
-  epx graph examples/replicas/*.jsonl | dot -Tsvg > graph.svg",
+With --around a step leads from an instance to one of its dependencies, or to
+one that depends on it. Each box says what it says in the whole graph, and each
+dependency between two boxes has its arrow.
+
+Examples:
+  epx graph examples/replicas/*.jsonl | dot -Tsvg > graph.svg
+  epx graph --around 1.1 --steps 2 examples/replicas/*.jsonl | dot -Tsvg",
 };
 
 const RESUME: Help = Help {
@@ -138,7 +145,8 @@ const AUDIT: Help = Help {
     long_about: "Says whether the logs are covered, and executes nothing: whether of any two
 ready instances that conflict one reaches the other by dependencies. Where they
 are, all orders that the protocol allows give each instance the same reply, and
-the same final store.",
+the same final store. With --all it prints all pairs that would have to be
+related for that.",
     after: "Example:
   epx audit examples/replicas/*.jsonl",
     long_after: "What comes out is one line. The second form names the least pair that conflicts
@@ -147,8 +155,14 @@ and of which neither reaches the other, here the instances 0.7 and 1.0:
   [\"covered\"]
   [\"uncovered\",0,7,1,0]
 
-Example:
-  epx audit examples/replicas/*.jsonl",
+With --all it is a line for each pair that is next to each other on a key in the
+execution order and not related, the one that is executed first in front:
+
+  [\"uncovered\",0,7,1,0,\"k\"]   1.0 would have to depend on 0.7, for the key k
+
+Examples:
+  epx audit examples/replicas/*.jsonl
+  epx audit --all examples/replicas/*.jsonl",
 };
 
 const CHECK: Help = Help {
@@ -466,13 +480,6 @@ fn first<'a>(alloc: Global, value: &'a str, help: &'a str) -> Arg<'a>
         .help(help)
 }
 
-/// A subcommand whose arguments are logs.
-fn logs_subcommand<'a>(alloc: Global, name: &'a str, help: Help) -> Result<Command<'a>, AllocError>
-    ensures { IfOk result (λ c. app_of c ≡ work_app name.entry.now) }
-{
-    subcommand(alloc, name, help)?.arg(logs(alloc))
-}
-
 /// A subcommand over logs that can find something.
 fn finding_subcommand<'a>(
     alloc: Global,
@@ -485,6 +492,39 @@ fn finding_subcommand<'a>(
     subcommand(alloc, name, help)?
         .arg(exit_code(alloc, found))?
         .arg(logs(alloc))
+}
+
+/// The subcommand `graph`, whose arguments are logs.
+fn graph<'a>(alloc: Global) -> Result<Command<'a>, AllocError>
+    ensures { IfOk result (λ c. app_of c ≡ graph_app (codes "graph")) }
+{
+    let around = text_option(
+        alloc,
+        "around",
+        "R.I",
+        "Prints the part around this instance alone",
+    );
+    let steps = text_option(
+        alloc,
+        "steps",
+        "N",
+        "How many steps around it, either way along dependencies [default: 1]",
+    );
+    let graph = subcommand(alloc, "graph", GRAPH)?.arg(around)?;
+    graph.arg(steps)?.arg(logs(alloc))
+}
+
+/// The subcommand `audit`, whose arguments are logs.
+fn audit<'a>(alloc: Global) -> Result<Command<'a>, AllocError>
+    ensures { IfOk result (λ c. app_of c ≡ audit_app (codes "audit")) }
+{
+    let all = flag(
+        alloc,
+        "all",
+        "Prints all pairs that would have to be related, each with its key",
+    );
+    let audit = subcommand(alloc, "audit", AUDIT)?.arg(exit_code(alloc, IF_FOUND))?;
+    audit.arg(all)?.arg(logs(alloc))
 }
 
 /// The subcommand `resume`, whose arguments are BASE and logs.
@@ -617,7 +657,7 @@ fn with_runs<'a>(alloc: Global) -> Result<Command<'a>, AllocError>
     let order = finding_subcommand(alloc, "order", ORDER, IF_WAITING)?;
     let levels = finding_subcommand(alloc, "levels", LEVELS, IF_WAITING)?;
     let blockers = finding_subcommand(alloc, "blockers", BLOCKERS, IF_WAITING)?;
-    let graph = logs_subcommand(alloc, "graph", GRAPH)?;
+    let graph = graph(alloc)?;
     start(alloc)
         .subcommand(run)?
         .subcommand(order)?
@@ -631,7 +671,7 @@ fn with_checks<'a>(alloc: Global) -> Result<Command<'a>, AllocError>
     ensures { IfOk result (λ c. app_of c ≡ checks_app) }
 {
     let resume = resume(alloc)?;
-    let audit = finding_subcommand(alloc, "audit", AUDIT, IF_FOUND)?;
+    let audit = audit(alloc)?;
     let check = check(alloc)?;
     let verify = verify(alloc)?;
     let linear = linear(alloc)?;

@@ -78,7 +78,8 @@ fn paths_of(alloc: Global, task: Task, matches: &ArgMatches<'_>) -> Result<Vec<S
         Task::Resume | Task::Check | Task::CheckPrefix => first_and_logs(alloc, matches),
         Task::Verify | Task::Linear { .. } | Task::Replay => first_and_logs(alloc, matches),
         Task::Run | Task::Order | Task::Levels | Task::Blockers => logs_of(alloc, matches),
-        Task::Graph | Task::Audit | Task::Compare => logs_of(alloc, matches),
+        Task::Graph | Task::Around { .. } => logs_of(alloc, matches),
+        Task::Audit | Task::AuditAll | Task::Compare => logs_of(alloc, matches),
         Task::Why(_) | Task::Path(_, _) | Task::Trace { .. } => logs_of(alloc, matches),
     }
 }
@@ -95,12 +96,14 @@ fn plan_of(matches: &ArgMatches<'_>) -> Plan
     Plan::new(workers, cut).unwrap()
 }
 
-/// The text with status 2 if what is to name an instance or a key names none.
+/// The text with status 2 if what is to name an instance, a key or a part of the graph names none.
 fn refuse_subject(alloc: Global, name: &str) -> Result<Words, AllocError>
     ensures { IfOk result (IsText 2) }
 {
     let why = if name == "trace" {
         "KEY is a text of 1 to 64 bytes"
+    } else if name == "graph" {
+        PART
     } else {
         "R.I is a replica below 256, a dot and a number below 2^64, as 0.7"
     };
@@ -218,6 +221,11 @@ fn status_of(kind: ErrorKind) -> u8
         _ => 2,
     }
 }
+
+/// What `--around` and `--steps` of `graph` have to say.
+const PART: &str =
+    "'--around R.I' has a replica below 256, a dot and a number below 2^64, as 0.7,\n\
+and '--steps N', which goes with it alone, a number below 2^64";
 
 /// The text if a status is asked for, and no log is named.
 const NO_LOG: &str = "error: with '--exit-code' there must be a LOG, '-' for standard input\n\n\

@@ -1,12 +1,13 @@
 //! The task that a subcommand asks for.
-ghost use Rattle.std.specs.Prelude.{◌≡◌, ◌≢◌, ◌↔◌, Some, codes, true, IfNone, IfSome};
+ghost use Rattle.std.specs.Prelude.{◌≡◌, ◌≢◌, ◌↔◌, ℕ, None, Some, codes, true, IfNone, IfSome};
 ghost use Rattle.clap.specs.Words.{found_of, one_of, rows_of};
-ghost use Rattle.epx_words.specs.Requests.{FitsRows, task_name};
-ghost use Rattle.epx_words.specs.Subjects.{NameIds, NamesKey, NamesSubject};
-ghost use Rattle.epx_words.specs.SubcommandRows.{HasFlag, IsNumberIn, IsTaskName, max_skew};
+ghost use Rattle.epx_words.specs.Requests.{FitsRows, IsStepsOf, task_name};
+ghost use Rattle.epx_words.specs.Subjects.{IsNumberName, NameIds, NamesKey, NamesPart, NamesSubject};
+ghost use Rattle.epx_words.specs.SubcommandRows.{HasFlag, IsNumberIn, IsTaskName, around_in};
+ghost use Rattle.epx_words.specs.SubcommandRows.{max_skew, steps_in};
 
 use clap::ArgMatches;
-use epx_names::{KeyName, Task, read_id};
+use epx_names::{KeyName, Task, read_id, read_number};
 
 /// Whether a flag is there. Subcommands that have no such flag never have it.
 pub(crate) fn has_flag(matches: &ArgMatches<'_>, flag: &str) -> bool
@@ -27,6 +28,18 @@ fn check_task(matches: &ArgMatches<'_>) -> Task
         Task::CheckPrefix
     } else {
         Task::Check
+    }
+}
+
+/// The task of the subcommand `audit`.
+fn audit_task(matches: &ArgMatches<'_>) -> Task
+    ensures name { task_name result ≡ codes "audit" }
+    ensures rows { FitsRows result (rows_of (found_of matches.now)) }
+{
+    if has_flag(matches, "all") {
+        Task::AuditAll
+    } else {
+        Task::Audit
     }
 }
 
@@ -66,11 +79,57 @@ fn trace_task(matches: &ArgMatches<'_>) -> Option<Task>
     })
 }
 
+/// The task of the subcommand `graph` without `--around`. None if `--steps` is there.
+fn whole_graph(matches: &ArgMatches<'_>) -> Option<Task>
+    requires { None ≡ around_in (rows_of (found_of matches.now)) }
+    ensures name { IfSome result (λ task. task_name task ≡ codes "graph") }
+    ensures rows { IfSome result (λ task. FitsRows task (rows_of (found_of matches.now))) }
+    ensures none { IfNone result (¬ NamesPart (rows_of (found_of matches.now))) }
+{
+    match matches.get_str("steps") {
+        None => Some(Task::Graph),
+        Some(_) => None,
+    }
+}
+
+/// How many steps `--steps` says: one where it is not there. None if its text is no number.
+fn steps_of(matches: &ArgMatches<'_>) -> Option<u64>
+    ensures some { IfSome result (IsStepsOf (steps_in (rows_of (found_of matches.now)))) }
+    ensures none { IfNone result
+        (¬ IfSome (steps_in (rows_of (found_of matches.now))) (λ t. (n : ℕ) × IsNumberName n t)) }
+{
+    match matches.get_str("steps") {
+        None => Some(1),
+        Some(text) => {
+            let steps = read_number(text)?;
+            Some(steps)
+        }
+    }
+}
+
+/// The task of the subcommand `graph`. None if `--around` names no instance, or `--steps`, which
+/// goes with it alone, is no number.
+fn graph_task(matches: &ArgMatches<'_>) -> Option<Task>
+    ensures name { IfSome result (λ task. task_name task ≡ codes "graph") }
+    ensures rows { IfSome result (λ task. FitsRows task (rows_of (found_of matches.now))) }
+    ensures none { IfNone result (¬ NamesPart (rows_of (found_of matches.now))) }
+{
+    match matches.get_str("around") {
+        None => whole_graph(matches),
+        Some(text) => {
+            let id = read_id(text)?;
+            let steps = steps_of(matches)?;
+            Some(Task::Around { id, steps })
+        }
+    }
+}
+
 /// The task of any other subcommand.
 fn plain_task(name: &str, matches: &ArgMatches<'_>) -> Task
     requires task { IsTaskName name.now }
     requires no_why { name.now ≢ codes "why" }
     requires no_trace { name.now ≢ codes "trace" }
+    requires no_graph { name.now ≢ codes "graph" }
     requires skew { name.now ≡ codes "linear"
         → IsNumberIn 0 max_skew (one_of (codes "skew") (rows_of (found_of matches.now))) }
     ensures name { task_name result ≡ name.now }
@@ -82,12 +141,10 @@ fn plain_task(name: &str, matches: &ArgMatches<'_>) -> Task
         Task::Levels
     } else if name == "blockers" {
         Task::Blockers
-    } else if name == "graph" {
-        Task::Graph
     } else if name == "resume" {
         Task::Resume
     } else if name == "audit" {
-        Task::Audit
+        audit_task(matches)
     } else if name == "check" {
         check_task(matches)
     } else if name == "verify" {
@@ -103,7 +160,8 @@ fn plain_task(name: &str, matches: &ArgMatches<'_>) -> Task
     }
 }
 
-/// The task that a subcommand names. None if what is to name an instance or a key names none.
+/// The task that a subcommand names. None if what is to name an instance, a key or a part of the
+/// graph names none.
 pub(crate) fn task_of(name: &str, matches: &ArgMatches<'_>) -> Option<Task>
     requires task { IsTaskName name.now }
     requires skew { name.now ≡ codes "linear"
@@ -118,6 +176,9 @@ pub(crate) fn task_of(name: &str, matches: &ArgMatches<'_>) -> Option<Task>
     }
     if name == "trace" {
         return trace_task(matches);
+    }
+    if name == "graph" {
+        return graph_task(matches);
     }
     Some(plain_task(name, matches))
 }

@@ -39,10 +39,17 @@ abbrev pub AreInRange : ℕ → ℕ → List DoubtfulTouch → Type 0
 AreInRange nodes keys touches =
     (t : DoubtfulTouch) → Contains touches t → (t.node < nodes) × (t.key < keys)
 
--- the touches of the doubtful keys of a map
+-- two nodes that share a doubtful key are related, or the first one is marked
+abbrev pub HoldUnsettled : (ℕ → List ℕ) → List DoubtfulTouch → List Bool → Type 0
+HoldUnsettled edges touches unsettled = (k j : ℕ) → ShareKey touches k j
+    → IsTrue (is_marked unsettled k) ⊎ AreRelated edges k j
+
+-- the touches of the doubtful keys of a map, and the marks of the nodes
 pub record AreDoubtful (m : List Instance) (g : DependencyGraph) (keys : ℕ)
-    (touches : List DoubtfulTouch) : Type 0 where
+    (touches : List DoubtfulTouch) (unsettled : List Bool) : Type 0 where
   pub in_range : AreInRange (length m) keys touches
+  pub marks : length unsettled ≡ length m
+  pub settled : HoldUnsettled (edges_of g) touches unsettled
   pub whole : (ready : List Bool) → AreReadyMarks g ready
       → HoldAllConflicts m (edges_of g) ready touches
 

@@ -1,6 +1,6 @@
 -- Reachability between the nodes of an order, by its chains.
 use Rattle.std.specs.Prelude.{◌≡◌, ℕ, ◌-◌, ◌<◌, ◌≤◌, List, length, slice_get, slice_index, Some}
-use Rattle.std.specs.Prelude.{All}
+use Rattle.std.specs.Prelude.{All, IfSome}
 use Rattle.epx_types.specs.CommittedMap.{ids_of}
 use Rattle.epx_types.specs.ExecutionOrder.{Ranked}
 use Rattle.epx_types.specs.Instances.{Instance}
@@ -8,6 +8,7 @@ use Rattle.epx_graph.specs.Graphs.{DependencyGraph, edges_of}
 use Rattle.epx_graph.specs.NodePaths.{NodeReaches}
 use Rattle.epx_audit.specs.declared.reach_index.Chain.{Chain}
 use Rattle.epx_audit.specs.declared.reach_index.ReachIndex.{ReachIndex}
+use Rattle.epx_audit.specs.inner.PathCovers.{IsPathCover}
 
 -- the node at each position of an order
 pub record AreOrderNodes (m : List Instance) (order : List Ranked) (nodes : List ℕ) : Type 0 where
@@ -30,7 +31,7 @@ pub record IsChain (edges : ℕ → List ℕ) (nodes : List ℕ) (n : ℕ) (chai
       → NodeReaches edges (slice_index nodes (n - 1)) (slice_index nodes q)
 
 -- each node reaches the nodes at all positions from its chain's start up to its own; each position
--- is reached from the start of its component
+-- is reached from the start of its component; the cover, if there is one, is of these nodes
 pub record IsReachIndex (g : DependencyGraph) (w : ReachIndex) : Type 0 where
   pub in_range : All (λ k. k < length g.ids) w.nodes.items
   pub each_place : length w.starts.items ≡ length w.nodes.items
@@ -43,3 +44,4 @@ pub record IsReachIndex (g : DependencyGraph) (w : ReachIndex) : Type 0 where
   pub down : (k q : ℕ) → k < length g.ids → slice_index w.chain_start.items k ≤ q
       → q ≤ slice_index w.positions.items k → (q < length w.nodes.items)
       × NodeReaches (edges_of g) k (slice_index w.nodes.items q)
+  pub cover : IfSome w.cover (IsPathCover g w.nodes.items)

@@ -1,19 +1,17 @@
 -- The nodes from which an audit looks for uncovered pairs, in increasing order.
 use Rattle.std.specs.Prelude.{◌≡◌, ℕ, ◌<◌, List, Bool, length, slice_index, Contains, IsTrue}
 use Rattle.epx_types.specs.Instances.{Instance}
-use Rattle.epx_audit.specs.declared.doubtful_touches.DoubtfulTouch.{DoubtfulTouch}
 use Rattle.epx_audit.specs.inner.NodeConflicts.{IsSettled, IsPartner}
 use Rattle.epx_components.specs.ReadyMarks.{is_marked}
 
--- all ready nodes that touch a doubtful key
-pub record AreSources (ready : List Bool) (touches : List DoubtfulTouch) (sources : List ℕ) : Type
-    0 where
+-- all ready nodes that are marked as unsettled
+pub record AreSources (ready unsettled : List Bool) (sources : List ℕ) : Type 0 where
   pub rising : (i j : ℕ) → i < j → j < length sources
       → slice_index sources i < slice_index sources j
   pub each : (i : ℕ) → i < length sources → IsTrue (is_marked ready (slice_index sources i))
-      × ((t : DoubtfulTouch) × Contains touches t × (t.node ≡ slice_index sources i))
-  pub whole : (t : DoubtfulTouch) → Contains touches t → IsTrue (is_marked ready t.node)
-      → Contains sources t.node
+      × (slice_index sources i < length unsettled)
+  pub whole : (k : ℕ) → IsTrue (is_marked unsettled k) → IsTrue (is_marked ready k)
+      → Contains sources k
 
 -- the first n sources are settled with each node above them
 abbrev pub AreSettled : List Instance → (ℕ → List ℕ) → List Bool → List ℕ → ℕ → Type 0

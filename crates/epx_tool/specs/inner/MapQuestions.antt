@@ -10,13 +10,16 @@ use Rattle.epx_report.specs.declared.base.BaseFault.{BaseFault}
 use Rattle.epx_report.specs.Bases.{IsBaseFault}
 use Rattle.epx_report.specs.Lists.{IsListFault}
 use Rattle.epx_report.specs.ViewLines.{covered_line, lawful_line}
+use Rattle.epx_neighbours.specs.UncoveredTexts.{IsUncoveredText}
 use Rattle.epx_picture.specs.Pictures.{IsPicture}
+use Rattle.epx_picture.specs.PicturesAround.{IsPictureAround}
 use Rattle.epx_why.specs.WhyTexts.{IsWhyText, IsPathText}
 use Rattle.epx_trace.specs.TraceTexts.{IsTraceText}
 use Rattle.epx_tool.specs.declared.question.MapQuestion.{MapQuestion}
 use Rattle.epx_tool.specs.declared.question.MapQuestion.TheVariants.{Report, Resume, Order, Levels}
 use Rattle.epx_tool.specs.declared.question.MapQuestion.TheVariants.{Blockers}
-use Rattle.epx_tool.specs.declared.question.MapQuestion.TheVariants.{Audit, Graph, Why, Path, Trace}
+use Rattle.epx_tool.specs.declared.question.MapQuestion.TheVariants.{Audit, AuditAll, Graph, Around}
+use Rattle.epx_tool.specs.declared.question.MapQuestion.TheVariants.{Why, Path, Trace}
 use Rattle.epx_tool.specs.declared.question.MapQuestion.TheVariants.{Check, CheckPrefix}
 use Rattle.epx_tool.specs.declared.question.MapQuestion.TheVariants.{Replay, Verify, Linear}
 use Rattle.epx_blockers.specs.BlockerTexts.{IsBlockersText}
@@ -43,7 +46,9 @@ IsTextOf Order = IsOrderText
 IsTextOf Levels = IsLevelText
 IsTextOf Blockers = IsBlockersText
 IsTextOf Audit = IsAuditText
+IsTextOf AuditAll = IsUncoveredText
 IsTextOf Graph = IsPicture
+IsTextOf (Around x steps) = λ m. IsPictureAround m x steps
 IsTextOf (Why x) = λ m. IsWhyText m x
 IsTextOf (Path x y) = λ m. IsPathText m x y
 IsTextOf (Trace key reads) = λ m. IsTraceText m key.text.bytes reads
@@ -61,6 +66,7 @@ FindsOf Order m text = SomeWaits m
 FindsOf Levels m text = SomeWaits m
 FindsOf Blockers m text = SomeWaits m
 FindsOf Audit m text = text ≢ covered_line
+FindsOf AuditAll m text = text ≢ covered_line
 FindsOf (Check ids) m text = text ≢ lawful_line
 FindsOf (CheckPrefix ids) m text = text ≢ lawful_line
 FindsOf (Verify said) m text = text ≢ lawful_line

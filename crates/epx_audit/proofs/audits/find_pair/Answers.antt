@@ -1,5 +1,5 @@
-use Rattle.std.proofs.Common.{◌≡◌, ◌+◌, ◌-◌, ◌*◌, ◌<◌, All, Contains, length, length-take}
-use Rattle.std.proofs.Common.{length-drop, take, drop, min, IsTrue, sym, subst, arith}
+use Rattle.std.proofs.Common.{◌≡◌, ◌+◌, ◌-◌, ◌*◌, ◌<◌, All, length, length-take}
+use Rattle.std.proofs.Common.{length-drop, take, drop, min, IsTrue, sym, subst, arith, ap}
 use Rattle.epx_graph.proofs.Common.{edges_of}
 use Rattle.epx_components.specs.ReadyMarks.{is_marked}
 use Rattle.epx_audit.specs.inner.Sources.{AreSources, AreSettled}
@@ -8,42 +8,49 @@ use Rattle.epx_audit.proofs.SourceLemmas.{settled_batch, least_from_first}
 use Rattle.epx_audit.proofs.audits.find_pair.Goals as goal
 
 pub find_sources-requires : goal.find_sources-requires
-find_sources-requires c t h =
-    let in_range = c.requires.doubtful t (subst (λ ts. Contains ts t) c.deref.ensures.value h) in
-    omega (arith, in_range.0, c.requires.nodes, c.requires.ready)
+find_sources-requires c = omega (
+  arith,
+  ap length c.deref.ensures.value,
+  c.requires.unsettled,
+  c.requires.nodes,
+  c.requires.ready,
+)
 
 pub first_pair-requires-clause-in_range : goal.first_pair-requires-clause-in_range
 first_pair-requires-clause-in_range c =
     let ready = c.args.ready.now in
+    let unsettled = c.args.doubtful.now.unsettled.items in
     let touches = c.args.doubtful.now.touches.items in
     let sources = c.in_ok-sources.sources.items in
-    let are = subst (λ ts. AreSources ready ts sources) c.deref.ensures.value
+    let are = subst (λ us. AreSources ready us sources) c.deref.ensures.value
     c.in_ok-sources.ensures in
     let n = c.min-end.result - c.min-first.result in
     subst (λ xs. All (λ k. k < length c.args.keys.now) (take n (drop c.min-first.result xs)))
     (sym c.deref-in-loop-number.ensures.value)
-    (part_in_range ready touches sources are c.min-first.result n (length c.args.keys.now)
-    c.args.doubtful.now.keys c.requires.doubtful)
+    (part_in_range ready unsettled sources are c.min-first.result n (length c.args.keys.now)
+    (omega (arith, c.requires.unsettled)))
 
 pub first_pair-requires-clause-sources : goal.first_pair-requires-clause-sources
 first_pair-requires-clause-sources c =
     let ready = c.args.ready.now in
+    let unsettled = c.args.doubtful.now.unsettled.items in
     let touches = c.args.doubtful.now.touches.items in
     let sources = c.in_ok-sources.sources.items in
-    let are = subst (λ ts. AreSources ready ts sources) c.deref.ensures.value
+    let are = subst (λ us. AreSources ready us sources) c.deref.ensures.value
     c.in_ok-sources.ensures in
     let n = c.min-end.result - c.min-first.result in
     subst (λ xs. All (λ k. IsTrue (is_marked ready k)) (take n (drop c.min-first.result xs)))
     (sym c.deref-in-loop-number.ensures.value)
-    (part_ready ready touches sources are c.min-first.result n)
+    (part_ready ready unsettled sources are c.min-first.result n)
 
 pub returns-in-Some-clause-least : goal.returns-in-Some-clause-least
-returns-in-Some-clause-least c m same hold =
+returns-in-Some-clause-least c m same hold settled =
     let edges = edges_of c.args.graph.now in
     let ready = c.args.ready.now in
+    let unsettled = c.args.doubtful.now.unsettled.items in
     let touches = c.args.doubtful.now.touches.items in
     let sources = c.in_ok-sources.sources.items in
-    let are = subst (λ ts. AreSources ready ts sources) c.deref.ensures.value
+    let are = subst (λ us. AreSources ready us sources) c.deref.ensures.value
     c.in_ok-sources.ensures in
     let first = c.min-first.result in
     let n = c.min-end.result - first in
@@ -53,8 +60,8 @@ returns-in-Some-clause-least c m same hold =
     omega (arith, c.min-first.ensures, c.len.ensures) in
     let before : AreSettled m edges ready sources first =
     subst (AreSettled m edges ready sources) count (c.loop-number.invariant m same hold) in
-    least_from_first m edges ready touches sources are hold first n before c.in-Some.pair.0
-    c.in-Some.pair.1 found
+    least_from_first m edges ready touches unsettled sources are hold settled first n before
+    c.in-Some.pair.0 c.in-Some.pair.1 found
 
 pub loop-number-preserved : goal.loop-number-preserved
 loop-number-preserved c m same hold =
@@ -86,16 +93,17 @@ loop-number-preserved c m same hold =
     subst (AreSettled m edges ready sources) reached done
 
 pub returns-clause-least : goal.returns-clause-least
-returns-clause-least c m same hold k j above =
+returns-clause-least c m same hold settled k j above =
     let edges = edges_of c.args.graph.now in
     let ready = c.args.ready.now in
+    let unsettled = c.args.doubtful.now.unsettled.items in
     let touches = c.args.doubtful.now.touches.items in
     let sources = c.in_ok-sources.sources.items in
-    let are = subst (λ ts. AreSources ready ts sources) c.deref.ensures.value
+    let are = subst (λ us. AreSources ready us sources) c.deref.ensures.value
     c.in_ok-sources.ensures in
     let end : min (length sources) (c.loop-number.number * 64) ≡ length sources =
     omega (arith, c.loop-number-test.false, c.len.ensures) in
     let done : AreSettled m edges ready sources (length sources) =
     subst (AreSettled m edges ready sources) end (c.loop-number.invariant m same hold) in
-    settled_below m edges ready touches sources are hold (length sources) done k j (λ i l is. l)
-    above
+    settled_below m edges ready touches unsettled sources are hold settled (length sources) done k j
+    (λ i l is. l) above

@@ -1,13 +1,15 @@
 use Rattle.std.proofs.Common.{◌≡◌, ℕ, ◌<◌, All, Contains, length, get_or, sym, subst, ap, arith}
-use Rattle.epx_types.proofs.Common.{All-contains}
+use Rattle.std.proofs.Common.{List, Bool, true, false, IsTrue, inl, ◌∙◌}
+use Rattle.epx_components.specs.ReadyMarks.{is_marked}
+use Rattle.epx_types.proofs.Common.{All-contains, get_or-replicate, length-replicate}
 use Rattle.epx_graph.proofs.Common.{edges_of}
 use Rattle.epx_audit.specs.declared.touches.KeyUse.{KeyUse}
-use Rattle.epx_audit.specs.inner.DoubtfulKeys.{doubtful_touch, AreInRange}
+use Rattle.epx_audit.specs.inner.DoubtfulKeys.{doubtful_touch, AreInRange, HoldUnsettled}
 use Rattle.epx_audit.specs.inner.RelatedTouches.{AreAllRelated}
 use Rattle.epx_audit.specs.inner.Touches.{HoldTouches}
 use Rattle.epx_audit.proofs.DoubtfulKeyLemmas.{hold_all_conflicts, hold_if_all_doubtful}
 use Rattle.epx_audit.proofs.DoubtfulTouchLemmas.{writes_the_only_key}
-use Rattle.epx_audit.proofs.OrderNodeLemmas.{nodes_in_map, nodes_in_graph, leaders_join}
+use Rattle.epx_audit.proofs.OrderNodeLemmas.{nodes_in_map}
 use Rattle.epx_audit.proofs.doubtful_touches.find_doubtful.Goals as goal
 
 pub find_touches-requires : goal.find_touches-requires
@@ -15,15 +17,6 @@ find_touches-requires c =
     let m = c.args.merged.now in
     subst (All (λ k. k < length m)) (sym c.deref.ensures.value)
     (nodes_in_map m c.args.order.now c.in_ok-nodes.nodes.items c.in_ok-nodes.ensures)
-
-pub of-requires-clause-in_range : goal.of-requires-clause-in_range
-of-requires-clause-in_range c = nodes_in_graph c.args.merged.now c.args.order.now
-    c.in_ok-nodes.nodes.items c.in_ok-nodes.ensures c.args.graph.now c.requires.graph
-
-pub of-requires-clause-joined : goal.of-requires-clause-joined
-of-requires-clause-joined c = leaders_join c.args.merged.now c.args.order.now
-    c.in_ok-nodes.nodes.items c.in_ok-nodes.ensures c.args.graph.now c.requires.graph
-    c.requires.order
 
 pub doubtful_hashes-requires-clause-placed : goal.doubtful_hashes-requires-clause-placed
 doubtful_hashes-requires-clause-placed c t h =
@@ -51,10 +44,42 @@ doubtful_touches-requires-clause-placed c t h =
       ap length c.deref-6.ensures.value,
     )
 
+pub unsettled_nodes-requires-clause-touches : goal.unsettled_nodes-requires-clause-touches
+unsettled_nodes-requires-clause-touches c t h =
+    let m = c.args.merged.now in
+    let nodes = c.in_ok-nodes.nodes.items in
+    let e = (rw (c.deref-6.ensures.value, c.deref-8.ensures.value, c.in_ok-reach.ensures.nodes) at
+    c.in_ok-touches-2.ensures.in_range) t (subst (λ ts. Contains ts t) c.deref-9.ensures.value h) in
+    let in_map = nodes_in_map m c.args.order.now nodes c.in_ok-nodes.ensures in
+    omega (
+      arith,
+      All-contains (λ k. k < length m) nodes t.node in_map e.0,
+      c.len-2.ensures.len,
+    )
+
+pub unsettled_nodes-requires-clause-in_graph : goal.unsettled_nodes-requires-clause-in_graph
+unsettled_nodes-requires-clause-in_graph c t h =
+    let ids = c.args.graph.now.ids in
+    let reach = c.in_ok-reach.ensures.reach in
+    let e = (rw c.deref-6.ensures.value at c.in_ok-touches-2.ensures.in_range) t
+    (subst (λ ts. Contains ts t) c.deref-9.ensures.value h) in
+    omega (
+      arith,
+      All-contains (λ k. k < length ids) c.in_ok-reach.reach.nodes.items t.node reach.in_range e.0,
+      reach.each_node.0,
+    )
+
 pub returns-then-not-branch : goal.returns-then-not-branch
 returns-then-not-branch c = record {
   in_range = subst (λ n. AreInRange n c.in_ok-one.one.keys c.in_ok-one.one.touches.items)
       c.len.ensures.len c.in_ok-one.ensures.in_range;
+  marks = ap length c.in_ok-one.ensures.unsettled ∙ length-replicate c.len.result true
+      ∙ c.len.ensures.len;
+  settled = λ k j share.
+      let within = (c.in_ok-one.ensures.in_range share.mine share.held.0).0 in
+      inl (subst (λ (marks : List Bool). IsTrue (is_marked marks k))
+      (sym c.in_ok-one.ensures.unsettled)
+      (get_or-replicate c.len.result k true false (omega (arith, within, share.nodes.0))));
   whole = λ ready marks. hold_if_all_doubtful c.args.merged.now c.args.graph.now c.requires.graph
       c.in_ok-one.one.touches.items
       (subst (λ n. (k : ℕ) → k < n → Contains c.in_ok-one.one.touches.items
@@ -92,8 +117,12 @@ returns c =
     record {
       in_range = λ t h. let e = each t h in (
         All-contains (λ k. k < length m) nodes t.node in_map e.0,
-        omega (arith, e.1, c.len-2.ensures),
+        omega (arith, e.1, c.len-3.ensures),
       );
+      marks = c.in_ok-unsettled.ensures.len ∙ c.len-2.ensures.len;
+      settled = subst (λ ts. HoldUnsettled (edges_of g) ts c.in_ok-unsettled.unsettled.items)
+          c.deref-9.ensures.value
+          (c.in_ok-unsettled.ensures.unsettled g c.in_ok-reach.ensures.reach);
       whole = hold_all_conflicts m g c.requires.graph c.args.order.now c.requires.order nodes
           c.in_ok-nodes.ensures start touches sure hashes hold keeps linked doubtful found;
     }

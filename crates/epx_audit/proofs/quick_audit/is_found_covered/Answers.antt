@@ -4,7 +4,7 @@ use Rattle.epx_graph.proofs.Common.{edges_of}
 use Rattle.epx_audit.specs.inner.RelatedTouches.{AreAllRelated}
 use Rattle.epx_audit.specs.inner.Touches.{HoldTouches}
 use Rattle.epx_audit.proofs.QuickAuditLemmas.{covered_from_related}
-use Rattle.epx_audit.proofs.OrderNodeLemmas.{nodes_in_map, nodes_in_graph, leaders_join}
+use Rattle.epx_audit.proofs.OrderNodeLemmas.{nodes_in_map}
 use Rattle.epx_audit.proofs.quick_audit.is_found_covered.Goals as goal
 
 pub find_touches-requires : goal.find_touches-requires
@@ -12,15 +12,6 @@ find_touches-requires c =
     let m = c.args.merged.now in
     subst (All (λ k. k < length m)) (sym c.deref.ensures.value)
     (nodes_in_map m c.args.order.now c.in_ok-nodes.nodes.items c.in_ok-nodes.ensures)
-
-pub of-requires-clause-in_range : goal.of-requires-clause-in_range
-of-requires-clause-in_range c = nodes_in_graph c.args.merged.now c.args.order.now
-    c.in_ok-nodes.nodes.items c.in_ok-nodes.ensures c.args.graph.now c.requires.graph
-
-pub of-requires-clause-joined : goal.of-requires-clause-joined
-of-requires-clause-joined c = leaders_join c.args.merged.now c.args.order.now
-    c.in_ok-nodes.nodes.items c.in_ok-nodes.ensures c.args.graph.now c.requires.graph
-    c.requires.order
 
 pub are_all_related-requires-clause-placed : goal.are_all_related-requires-clause-placed
 are_all_related-requires-clause-placed c t h =

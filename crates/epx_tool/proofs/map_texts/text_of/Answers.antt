@@ -2,6 +2,7 @@ use Rattle.std.proofs.Common.{◌≡◌, ◌∙◌, ◌↔◌, List, [], true, I
 use Rattle.epx_types.proofs.Common.{IfOk-weaker, Contents, remaining, Instance, remaining-nil}
 use Rattle.epx_types.specs.declared.id.Id.{Id}
 use Rattle.epx_picture.specs.Pictures.{IsPicture}
+use Rattle.epx_picture.specs.PicturesAround.{IsPictureAround}
 use Rattle.epx_trace.specs.TraceTexts.{IsTraceText}
 use Rattle.epx_why.specs.WhyTexts.{IsPathText}
 use Rattle.epx_tool.specs.Findings.{SomeWaits}
@@ -66,6 +67,24 @@ returns-in-Audit-clause-found g c = subst
     (λ question. IfOk c.audit_of.result
     (λ a. (a.has_findings ≡ true) ↔ FindsOf question c.args.merged.now a.text.items))
     (sym c.in-Audit.is) c.audit_of.ensures.found
+
+pub returns-in-AuditAll-clause-text : goal.returns-in-AuditAll-clause-text
+returns-in-AuditAll-clause-text g c = subst
+    (λ question. IfOk c.audit_all_of.result (λ a. IsTextOf question c.args.merged.now a.text.items))
+    (sym c.in-AuditAll.is) c.audit_all_of.ensures.text
+
+pub returns-in-AuditAll-clause-found : goal.returns-in-AuditAll-clause-found
+returns-in-AuditAll-clause-found g c = subst
+    (λ question. IfOk c.audit_all_of.result
+    (λ a. (a.has_findings ≡ true) ↔ FindsOf question c.args.merged.now a.text.items))
+    (sym c.in-AuditAll.is) c.audit_all_of.ensures.found
+
+pub returns-in_ok-picture_around-in-Around-clause-text : goal.returns-in_ok-picture_around-in-Around-clause-text
+returns-in_ok-picture_around-in-Around-clause-text g c =
+    let m = c.args.merged.now in
+    subst (λ question. IsTextOf question m c.new-in-Around.result.text.items) (sym c.in-Around.is)
+    (subst (λ t. IsPictureAround m c.in-Around.id c.in-Around.steps t.items)
+    (sym c.new-in-Around.ensures.text) c.in_ok-picture_around-in-Around.ensures)
 
 pub returns-in_ok-picture-in-Graph-clause-text : goal.returns-in_ok-picture-in-Graph-clause-text
 returns-in_ok-picture-in-Graph-clause-text g c =

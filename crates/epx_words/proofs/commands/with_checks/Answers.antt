@@ -1,7 +1,7 @@
 use Rattle.std.proofs.Common.{codes, refl}
 use Rattle.epx_types.proofs.Common.{IfOk-weaker}
 use Rattle.clap.specs.Words.{App, with_subcommand}
-use Rattle.epx_words.specs.App.{base_app, finding_app, linear_app, list_app, runs_app}
+use Rattle.epx_words.specs.App.{audit_app, base_app, linear_app, list_app, runs_app}
 use Rattle.epx_words.proofs.CommandLemmas.{with_command}
 use Rattle.epx_words.proofs.commands.with_checks.Goals as goal
 
@@ -9,7 +9,7 @@ abbrev to_resume : App
 to_resume = with_subcommand runs_app (base_app (codes "resume")).top
 
 abbrev to_audit : App
-to_audit = with_subcommand to_resume (finding_app (codes "audit")).top
+to_audit = with_subcommand to_resume (audit_app (codes "audit")).top
 
 abbrev to_check : App
 to_check = with_subcommand to_audit (list_app (codes "check")).top
@@ -23,7 +23,7 @@ returns c =
     c.in_ok-subcommand.field-0 runs_app (base_app (codes "resume")) c.in_ok-subcommand.ensures
     c.in_ok-with_runs.ensures c.in_ok-resume.ensures refl in
     let two = with_command c.in_ok-subcommand.field-0 c.in_ok-audit.audit
-    c.in_ok-subcommand-2.field-0 to_resume (finding_app (codes "audit"))
+    c.in_ok-subcommand-2.field-0 to_resume (audit_app (codes "audit"))
     c.in_ok-subcommand-2.ensures one c.in_ok-audit.ensures refl in
     let three = with_command c.in_ok-subcommand-2.field-0 c.in_ok-check.check
     c.in_ok-subcommand-3.field-0 to_audit (list_app (codes "check"))

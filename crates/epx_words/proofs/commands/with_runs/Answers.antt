@@ -1,7 +1,7 @@
 use Rattle.std.proofs.Common.{codes, refl}
 use Rattle.epx_types.proofs.Common.{IfOk-weaker}
 use Rattle.clap.specs.Words.{App, with_subcommand}
-use Rattle.epx_words.specs.App.{epx_top, finding_app, work_app}
+use Rattle.epx_words.specs.App.{epx_top, finding_app, graph_app}
 use Rattle.epx_words.proofs.CommandLemmas.{with_command}
 use Rattle.epx_words.proofs.commands.with_runs.Goals as goal
 
@@ -33,4 +33,4 @@ returns c =
     c.in_ok-subcommand-4.ensures three c.in_ok-blockers.ensures refl in
     IfOk-weaker c.subcommand-5.result _ _ (λ made added.
     with_command c.in_ok-subcommand-4.field-0 c.in_ok-graph.graph made blockers
-    (work_app (codes "graph")) added four c.in_ok-graph.ensures refl) c.subcommand-5.ensures
+    (graph_app (codes "graph")) added four c.in_ok-graph.ensures refl) c.subcommand-5.ensures

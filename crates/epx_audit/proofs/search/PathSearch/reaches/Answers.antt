@@ -6,6 +6,12 @@ use Rattle.epx_audit.proofs.search.PathSearch.reaches.Goals as goal
 use Rattle.epx_audit.proofs.search.PathSearch.reaches.Goals.{then-reaches_by_chain-via-then-reaches_by_chain}
 use Rattle.epx_audit.proofs.search.PathSearch.reaches.Goals.{then-reaches_by_chain-via-else-reaches_by_chain+then-has_edge}
 
+pub returns-in-Some-clause-reaches : goal.returns-in-Some-clause-reaches
+returns-in-Some-clause-reaches c = λ yes.
+    let cover = rw c.in-Some.is at c.requires.reach.cover in
+    (c.reaches.ensures c.args.graph.now c.args.reach.now.nodes.items cover c.requires.later
+    c.requires.earlier).0 yes
+
 pub returns-then-reaches_by_chain-clause-reaches : goal.returns-then-reaches_by_chain-clause-reaches
 returns-then-reaches_by_chain-clause-reaches c = λ yes.
     let g = c.args.graph.now in

@@ -1,0 +1,15 @@
+mod UniqueListLemmas
+mod RowOrderLemmas
+mod TouchOrderLemmas
+mod WalkLemmas
+mod MadeLemmas
+mod RowLemmas
+mod RowLineLemmas
+mod NumberedPairLemmas
+mod KeyNumberLemmas
+mod TouchLemmas
+mod UncoveredPairLemmas
+mod CoverLemmas
+mod UncoveredTextLemmas
+mod ExistenceLemmas
+mod MendingLemmas

@@ -1,0 +1,39 @@
+-- The lines of rows.
+use Rattle.std.proofs.Common.{◌≡◌, ◌++◌, ◌+◌, ◌<◌, ℕ, List, [], ◌∷◌, flat_map, map, take, length}
+use Rattle.std.proofs.Common.{Bor, zero, suc, get_or, refl, sym, ap, ◌∙◌, arith}
+use Rattle.epx_types.proofs.Common.{flat_map_more, take_more}
+use Rattle.epx_neighbours.specs.UncoveredLines.{pair_line, pairs_text}
+use Rattle.epx_neighbours.specs.declared.uncovered_row.UncoveredRow.{UncoveredRow}
+use Rattle.epx_neighbours.specs.inner.UncoveredRows.{pair_of}
+
+module _ (keys : List (List ℕ)) where
+  abbrev pub row_line : UncoveredRow → List ℕ
+  row_line r = pair_line (pair_of keys r)
+
+  row_lines : (rows : List UncoveredRow)
+      → flat_map row_line rows ≡ flat_map pair_line (map (pair_of keys) rows)
+  row_lines [] = refl
+  row_lines (r ∷ rows) = ap (λ lines. row_line r ++ lines) (row_lines rows)
+
+  -- some rows have a line each
+  pub some_rows : (rows : List UncoveredRow) → 0 < length rows
+      → flat_map row_line rows ≡ pairs_text (map (pair_of keys) rows)
+  some_rows [] some = absurd (omega arith)
+  some_rows (r ∷ rows) some = row_lines (r ∷ rows)
+
+  -- one more row
+  pub rows_more : (text : List ℕ) (rows : List UncoveredRow) (i : ℕ) (r : UncoveredRow)
+      → i < length rows → r ≡ get_or rows i r
+      → (text ++ flat_map row_line (take i rows)) ++ row_line r
+      ≡ text ++ flat_map row_line (take (i + 1) rows)
+  rows_more text rows i r l is =
+      flat_map_more row_line text (take i rows) r
+      ∙ ap (λ rs. text ++ flat_map row_line rs)
+      (ap (λ s. take i rows ++ s ∷ []) is ∙ sym (take_more rows i r l))
+
+-- what a list of borrowed lists has at a position
+pub now_at : {A : Type 0} (xs : List (Bor (List A))) (i : ℕ) (x : Bor (List A)) → i < length xs
+    → x ≡ get_or xs i x → x.now ≡ get_or (map (λ c. c.now) xs) i []
+now_at [] i x l is = absurd (omega arith)
+now_at (y ∷ xs) zero x l is = ap (λ c. c.now) is
+now_at (y ∷ xs) (suc i) x l is = now_at xs i x (omega arith) is

@@ -1,0 +1,7 @@
+pub mod Neighbours
+pub mod UncoveredNeighbours
+pub mod UncoveredLines
+pub mod UncoveredTexts
+pub mod Mending
+pub mod UncoveredTextLaws
+pub mod inner
