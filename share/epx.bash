@@ -21,15 +21,15 @@ _epx() {
     esac
     # the options of the subcommand, and how many names that are no paths come first
     case ${COMP_WORDS[1]} in
-        run|order|levels|blockers|resume|verify|compare) options=" --workers --cut --explain --exit-code --help " firsts=0 ;;
-        graph) options=" --workers --cut --explain --around --steps --help " firsts=0 ;;
-        audit) options=" --workers --cut --explain --exit-code --all --help " firsts=0 ;;
-        check) options=" --workers --cut --explain --exit-code --prefix --help " firsts=0 ;;
-        linear) options=" --workers --cut --explain --exit-code --skew --help " firsts=0 ;;
-        replay) options=" --workers --cut --explain --help " firsts=0 ;;
-        why) options=" --workers --cut --explain --reaches --help " firsts=1 ;;
-        trace) options=" --workers --cut --explain --reads --help " firsts=1 ;;
-        follow) options=" --workers --cut --explain --each --state --save --help " firsts=0 ;;
+        run|order|levels|blockers|resume|verify|compare) options=" --workers --cut --explain --quiet --exit-code --help " firsts=0 ;;
+        graph) options=" --workers --cut --explain --quiet --around --steps --help " firsts=0 ;;
+        audit) options=" --workers --cut --explain --quiet --exit-code --all --help " firsts=0 ;;
+        check) options=" --workers --cut --explain --quiet --exit-code --prefix --help " firsts=0 ;;
+        linear) options=" --workers --cut --explain --quiet --exit-code --skew --help " firsts=0 ;;
+        replay) options=" --workers --cut --explain --quiet --help " firsts=0 ;;
+        why) options=" --workers --cut --explain --quiet --reaches --help " firsts=1 ;;
+        trace) options=" --workers --cut --explain --quiet --reads --help " firsts=1 ;;
+        follow) options=" --workers --cut --explain --quiet --each --state --save --help " firsts=0 ;;
         *) _epx_offer ""; return ;;
     esac
     for word in "${COMP_WORDS[@]:2:COMP_CWORD-2}"; do

@@ -70,6 +70,7 @@ complete -c epx -n __epx_at_command -a help -d 'Print this message or the help o
 complete -c epx -n '__epx_in run order levels blockers graph resume audit check verify linear replay compare why trace follow; and not __fish_contains_opt workers' -l workers -x -d 'Workers that share the work, 1 to 64'
 complete -c epx -n '__epx_in run order levels blockers graph resume audit check verify linear replay compare why trace follow; and not __fish_contains_opt cut' -l cut -x -d 'Items in a piece of work, 1 to 65536'
 complete -c epx -n '__epx_in run order levels blockers graph resume audit check verify linear replay compare why trace follow; and not __fish_contains_opt explain' -l explain -d 'Explains a fault or a finding in further lines'
+complete -c epx -n '__epx_in run order levels blockers graph resume audit check verify linear replay compare why trace follow; and not __fish_contains_opt quiet' -l quiet -d 'Shows no progress on a terminal'
 complete -c epx -n '__epx_in run order levels blockers resume; and not __fish_contains_opt exit-code' -l exit-code -d 'Exits with status 5 if an instance waits'
 complete -c epx -n '__epx_in run order levels blockers graph resume audit check verify linear replay compare why trace follow; and not __fish_contains_opt help' -l help -d 'Print help'
 complete -c epx -n '__epx_in graph; and not __fish_contains_opt around' -l around -x -d 'Prints the part around this instance alone'

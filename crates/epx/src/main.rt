@@ -3,17 +3,17 @@
 #![tactic(auto)]
 
 use epx_devices::{FileSaver, StdSink, StdSource};
-use epx_program::{InputKind, start};
+use epx_program::{StreamKind, Streams, start};
 use std::io::IsTerminal;
 use std::process::ExitCode;
 use std::{env, fs};
 
-/// What standard input is.
-fn kind_of_input(rt: &HostRuntime) -> InputKind {
-    if rt.stdin().is_terminal() {
-        InputKind::Terminal
+/// What a stream is.
+fn kind_of(stream: &impl IsTerminal) -> StreamKind {
+    if stream.is_terminal() {
+        StreamKind::Terminal
     } else {
-        InputKind::Other
+        StreamKind::Other
     }
 }
 
@@ -21,7 +21,10 @@ fn main(rt: HostRuntime) -> ExitCode {
     // If standard input is closed, the first file that is opened gets its descriptor, and `-`
     // would read that file. So a folder is opened first: reading a folder always fails.
     let held = fs::open(&rt, "/");
-    let kind = kind_of_input(&rt);
+    let streams = Streams {
+        input: kind_of(&rt.stdin()),
+        errors: kind_of(&rt.stderr()),
+    };
     let mut output = StdSink::new(rt.stdout());
     let words = env::args(&rt);
     let mut saver = FileSaver::new(&rt);
@@ -30,7 +33,7 @@ fn main(rt: HostRuntime) -> ExitCode {
         &rt,
         &mut saver,
         words,
-        kind,
+        streams,
         StdSource::new(rt.stdin()),
         &mut output,
     );

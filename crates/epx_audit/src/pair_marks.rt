@@ -92,7 +92,7 @@ fn searched_marks(
             left.push(LeftPair { from, to, index })?;
         }
     }
-    // Pairs from one node stand together, so that they share a source.
+    // Pairs from one node are next to each other, so that they share a source.
     left.sort()?;
     mark_left(alloc, graph, &left, &mut marks)?;
     Ok(marks)

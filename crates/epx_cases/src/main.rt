@@ -11,17 +11,21 @@ mod flow;
 mod line;
 mod meaning;
 mod outcome;
+mod progress_lines;
 mod script;
+mod slow_runtime;
 mod state;
 mod test_runtime;
 mod word_lists;
 mod words;
 
+use crate::progress_lines::print_progress;
 use crate::script::run_scripts;
 use crate::test_runtime::TestRuntime;
 use crate::word_lists::{calls_of, lists_with_input, words_of};
 use epx_devices::{MemorySaver, StdSink, StdSource};
-use epx_program::{InputKind, start};
+use epx_program::{StreamKind, Streams, start};
+use epx_tool::Task;
 use std::alloc::Alloc;
 use std::io::{self, ErrorKind, Print};
 use std::process::ExitCode;
@@ -49,7 +53,11 @@ fn main(rt: HostRuntime) -> io::Result<ExitCode> {
         return Ok(ExitCode::SUCCESS);
     }
 
-    let kind = InputKind::Other;
+    let other = StreamKind::Other;
+    let streams = Streams {
+        input: other,
+        errors: other,
+    };
     let calls = calls_of(rt.alloc(), fs::read_to_string(&rt, "calls.txt")?.as_str())?;
     for call in calls.as_str().lines() {
         let words = &words_of(rt.alloc(), call)?;
@@ -59,21 +67,30 @@ fn main(rt: HostRuntime) -> io::Result<ExitCode> {
         let input = StdSource::new(rt.stdin());
         let mut output = StdSink::new(rt.stdout());
         let mut saver = MemorySaver::new(rt.alloc(), ROOM);
-        let status = start(&host, &host, &mut saver, args, kind, input, &mut output);
+        let status = start(&host, &host, &mut saver, args, streams, input, &mut output);
         print_end(&rt, status, &saver)?;
     }
 
     println!(rt; "== with a log as input")?;
     for (words, kind) in lists_with_input() {
         println!(rt; "== {kind:?}\n== {words:?}")?;
+        let streams = Streams {
+            input: kind,
+            errors: other,
+        };
         let host = TestRuntime { rt: &rt, words };
         let args = env::args(&host);
         let input = StdSource::new(INPUT.as_bytes());
         let mut output = StdSink::new(rt.stdout());
         let mut saver = MemorySaver::new(rt.alloc(), ROOM);
-        let status = start(&host, &host, &mut saver, args, kind, input, &mut output);
+        let status = start(&host, &host, &mut saver, args, streams, input, &mut output);
         print_end(&rt, status, &saver)?;
     }
+
+    println!(rt; "== how far a run is, where each look at the clock takes 300 milliseconds")?;
+    print_progress(&rt, Task::Run, Some(20))?;
+    print_progress(&rt, Task::Check, None)?;
+    print_progress(&rt, Task::Audit, Some(0))?;
 
     let line = "epx follow --explain --save full.state follow/begun.jsonl";
     let words = &words_of(rt.alloc(), line)?;
@@ -83,7 +100,7 @@ fn main(rt: HostRuntime) -> io::Result<ExitCode> {
     let input = StdSource::new(rt.stdin());
     let mut output = StdSink::new(rt.stdout());
     let mut saver = MemorySaver::new(rt.alloc(), 10);
-    let status = start(&host, &host, &mut saver, args, kind, input, &mut output);
+    let status = start(&host, &host, &mut saver, args, streams, input, &mut output);
     print_end(&rt, status, &saver)?;
 
     println!(rt; "== words that could not be had as memory ran out")?;
@@ -92,7 +109,15 @@ fn main(rt: HostRuntime) -> io::Result<ExitCode> {
     let failed = Err(io::Error::from(ErrorKind::OutOfMemory));
     let input = StdSource::new(rt.stdin());
     let mut output = StdSink::new(rt.stdout());
-    let status = start(&host, &host, &mut saver, failed, kind, input, &mut output);
+    let status = start(
+        &host,
+        &host,
+        &mut saver,
+        failed,
+        streams,
+        input,
+        &mut output,
+    );
     println!(rt; "== {status:?}")?;
 
     println!(rt; "== room for ten bytes of output\n== {words:?}")?;
@@ -100,7 +125,7 @@ fn main(rt: HostRuntime) -> io::Result<ExitCode> {
     let input = StdSource::new(rt.stdin());
     let mut room = [0; 10];
     let mut output = StdSink::new(room.as_mut_slice());
-    let status = start(&host, &host, &mut saver, args, kind, input, &mut output);
+    let status = start(&host, &host, &mut saver, args, streams, input, &mut output);
     println!(rt; "== {status:?}\n== taken: {room:?}")?;
     Ok(status)
 }

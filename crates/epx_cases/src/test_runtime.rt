@@ -6,8 +6,9 @@ use std::fmt::Display;
 use std::fs::{Metadata, OpenOptions};
 use std::io::{self, Eprint, Print};
 use std::random::RandomSource;
-use std::rt::{Env, Files};
+use std::rt::{Clock, Env, Files};
 use std::thread::Threads;
+use std::time::Duration;
 
 /// The word that `epx` gets as a byte that is not UTF-8.
 pub(crate) const NOT_UTF_8: &str = "not_UTF-8";
@@ -66,6 +67,20 @@ impl<R: Alloc> Alloc for TestRuntime<'_, R> {
 }
 
 impl<R: Threads> Threads for TestRuntime<'_, R> {}
+
+impl<R: Clock> Clock for TestRuntime<'_, R> {
+    fn monotonic(&self) -> io::Result<Duration> {
+        self.rt.monotonic()
+    }
+
+    fn since_1970(&self) -> io::Result<Duration> {
+        self.rt.since_1970()
+    }
+
+    fn sleep(&self, duration: Duration) {
+        self.rt.sleep(duration);
+    }
+}
 
 impl<R: RandomSource> RandomSource for TestRuntime<'_, R> {
     fn fill_bytes(&self, buf: &mut [u8]) -> io::Result<()> {

@@ -1,7 +1,7 @@
 //! The lists of words that `epx` is run with.
 
 use crate::line::add_line;
-use epx_program::InputKind;
+use epx_program::StreamKind;
 use std::alloc::Global;
 use std::io::{self, ErrorKind};
 
@@ -26,15 +26,15 @@ pub(crate) fn words_of(alloc: Global, call: &str) -> io::Result<Vec<&str>> {
 }
 
 /// Lists of words that `epx` is run with while a log is its input, and what the input is.
-pub(crate) fn lists_with_input() -> [(&'static [&'static str], InputKind); 8] {
+pub(crate) fn lists_with_input() -> [(&'static [&'static str], StreamKind); 8] {
     [
-        (&["epx", "run", "apart.jsonl", "-", "-"], InputKind::Other),
-        (&["epx", "-"], InputKind::Other),
-        (&["epx"], InputKind::Terminal),
-        (&["epx", "run"], InputKind::Other),
-        (&["epx", "run", "-"], InputKind::Other),
-        (&["epx", "check", "--explain", "-"], InputKind::Other),
-        (&["epx", "follow"], InputKind::Terminal),
-        (&["epx", "follow", "--each", "-"], InputKind::Other),
+        (&["epx", "run", "apart.jsonl", "-", "-"], StreamKind::Other),
+        (&["epx", "-"], StreamKind::Other),
+        (&["epx"], StreamKind::Terminal),
+        (&["epx", "run"], StreamKind::Other),
+        (&["epx", "run", "-"], StreamKind::Other),
+        (&["epx", "check", "--explain", "-"], StreamKind::Other),
+        (&["epx", "follow"], StreamKind::Terminal),
+        (&["epx", "follow", "--each", "-"], StreamKind::Other),
     ]
 }

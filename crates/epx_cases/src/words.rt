@@ -28,11 +28,15 @@ fn work_text<T: Debug + Drop>(
 
 /// What the flags ask for.
 fn flags_text(flags: Flags) -> &'static str {
-    match (flags.exit_code, flags.explain) {
-        (false, false) => "",
-        (true, false) => ", and a status of its own",
-        (false, true) => ", and an explanation of a fault",
-        (true, true) => ", a status of its own, and an explanation of a fault",
+    match (flags.exit_code, flags.explain, flags.quiet) {
+        (false, false, false) => "",
+        (true, false, false) => ", and a status of its own",
+        (false, true, false) => ", and an explanation of a fault",
+        (true, true, false) => ", a status of its own, and an explanation of a fault",
+        (false, false, true) => ", and no progress",
+        (true, false, true) => ", a status of its own, and no progress",
+        (false, true, true) => ", an explanation of a fault, and no progress",
+        (true, true, true) => ", a status of its own, an explanation of a fault, and no progress",
     }
 }
 

@@ -11,20 +11,23 @@ ghost use Rattle.epx_program.specs.inner.Outcomes.{TaskOutcome};
 
 use crate::inputs::sources_at;
 use epx_devices::{KeptSource, Opener};
-use epx_tool::{Answer, MemorySource, Sink, Source, Task, run_task};
+use epx_progress::Progress;
+use epx_tool::{Answer, MemorySource, Sink, Source, Task, run_shown};
 use epx_types::{Fault, Memory, Plan};
 use std::alloc::Global;
+use std::io::Eprint;
 use std::random::RandomSource;
-use std::rt::Files;
+use std::rt::{Clock, Files};
 use std::thread::Threads;
 
 /// Writes the answer to the task. If the task has an input, the first source has it and the others
 /// have the logs. If there is no source, the input is empty.
-fn write_answer<R: Threads + RandomSource + Sync, S: Source, W: Sink>(
+fn write_answer<R: Clock + Eprint + Threads + RandomSource + Sync, S: Source, W: Sink>(
     rt: &R,
     alloc: Global,
     task: Task,
     plan: Plan,
+    progress: &Progress<'_, R>,
     sources: &mut [S],
     output: &mut W,
 ) -> Result<Answer, Fault>
@@ -36,13 +39,17 @@ fn write_answer<R: Threads + RandomSource + Sync, S: Source, W: Sink>(
     let mut empty = MemorySource::new(&[]);
     let asked = &task;
     if !asked.has_input() {
-        return run_task(rt, alloc, *asked, &mut empty, sources, plan, output);
+        return run_shown(
+            rt, alloc, *asked, progress, &mut empty, sources, plan, output,
+        );
     }
     match sources.split_first_mut() {
-        Some((first, logs)) => run_task(rt, alloc, *asked, first, logs, plan, output),
+        Some((first, logs)) => run_shown(rt, alloc, *asked, progress, first, logs, plan, output),
         None => {
             let mut logs: [MemorySource; 0] = [];
-            run_task(rt, alloc, *asked, &mut empty, &mut logs, plan, output)
+            run_shown(
+                rt, alloc, *asked, progress, &mut empty, &mut logs, plan, output,
+            )
         }
     }
 }
@@ -66,6 +73,7 @@ pub(crate) fn do_task<R, O, I, W>(
     alloc: Global,
     task: Task,
     plan: Plan,
+    progress: &Progress<'_, R>,
     paths: &Option<Vec<String>>,
     keeps: bool,
     input: I,
@@ -73,7 +81,7 @@ pub(crate) fn do_task<R, O, I, W>(
     output: &mut W,
 ) -> Result<Answer, Fault>
 where
-    R: Files + Threads + RandomSource + Sync,
+    R: Clock + Eprint + Files + Threads + RandomSource + Sync,
     O: Opener,
     I: Source + Drop,
     W: Sink,
@@ -102,12 +110,12 @@ where
     let Some(paths) = paths else {
         let mut sources = Vec::new(alloc);
         sources.push(input).map_err(Memory::from)?;
-        return write_answer(rt, alloc, task, plan, &mut sources, output);
+        return write_answer(rt, alloc, task, plan, progress, &mut sources, output);
     };
     let Ok(mut sources) = sources_at(rt, opener, alloc, paths, keeps, Some(input)) else {
         return Err(Fault::Memory);
     };
-    let done = write_answer(rt, alloc, task, plan, &mut sources, output);
+    let done = write_answer(rt, alloc, task, plan, progress, &mut sources, output);
     take_kept(&mut sources, kept);
     done
 }

@@ -5,11 +5,12 @@ mod do_follow;
 mod do_task;
 mod exit_report;
 mod explain;
-pub mod input_kind;
 mod inputs;
 mod program;
 mod read_args;
 mod read_state;
+mod shown_job;
+pub mod streams;
 
-pub use input_kind::InputKind;
 pub use program::{execute_words, start};
+pub use streams::{StreamKind, Streams};

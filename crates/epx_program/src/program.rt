@@ -17,9 +17,11 @@ use crate::do_follow::do_follow;
 use crate::do_task::do_task;
 use crate::exit_report::{print_text, report_fault, report_task};
 use crate::explain::explain;
-use crate::input_kind::{InputKind, say_what_is_read};
 use crate::read_args::read_args;
+use crate::shown_job::job_of;
+use crate::streams::{Streams, say_what_is_read};
 use epx_devices::{Opener, Saver};
+use epx_progress::{CountedOpener, CountedSource, Progress};
 use epx_tool::{Flags, Sink, Source, Task, Words};
 use epx_types::{Fault, Memory, Plan};
 use std::alloc::AllocGlobal;
@@ -28,15 +30,16 @@ use std::io::{self, Eprint, ErrorKind};
 use std::mem;
 use std::process::ExitCode;
 use std::random::RandomSource;
-use std::rt::Files;
+use std::rt::{Clock, Files};
 use std::thread::Threads;
 
 /// Does a task, and returns the exit status. With `--exit-code` the status of an answer says
 /// whether it finds something. With `--explain` further lines on standard error explain a fault, or
-/// what an answer finds.
+/// what an answer finds. On a terminal a line says how far the work is, and is erased at the end.
 fn do_work<R, O, I, W>(
     rt: &R,
     opener: &O,
+    streams: Streams,
     flags: Flags,
     task: Task,
     plan: Plan,
@@ -45,7 +48,7 @@ fn do_work<R, O, I, W>(
     output: &mut W,
 ) -> u8
 where
-    R: AllocGlobal + Eprint + Files + Threads + RandomSource + Sync,
+    R: AllocGlobal + Clock + Eprint + Files + Threads + RandomSource + Sync,
     O: Opener,
     I: Source + Drop,
     W: Sink,
@@ -63,18 +66,23 @@ where
 {
     let asked = &task;
     let mut kept = Vec::new(rt.alloc());
+    let progress = Progress::new(rt, job_of(rt, streams, flags, *asked, &paths));
+    let opener = CountedOpener::new(opener, &progress);
+    let input = CountedSource::new(input, &progress);
     let done = do_task(
         rt,
-        opener,
+        &opener,
         rt.alloc(),
         *asked,
         plan,
+        &progress,
         &paths,
         flags.explain,
         input,
         &mut kept,
         output,
     );
+    progress.end();
     let status = report_task(rt, flags.exit_code, &done);
     if flags.explain {
         explain(rt, asked, plan, &paths, &kept, &done);
@@ -92,11 +100,12 @@ pub fn execute_words<R, O, I, W, V>(
     opener: &O,
     saver: &mut V,
     words: Words,
+    streams: Streams,
     input: I,
     output: &mut W,
 ) -> u8
 where
-    R: AllocGlobal + Eprint + Files + Threads + RandomSource + Sync,
+    R: AllocGlobal + Clock + Eprint + Files + Threads + RandomSource + Sync,
     O: Opener,
     I: Source + Drop,
     W: Sink,
@@ -139,15 +148,16 @@ where
             let flags = Flags {
                 exit_code: false,
                 explain: false,
+                quiet: false,
             };
-            do_work(rt, opener, flags, task, plan, paths, input, output)
+            do_work(rt, opener, streams, flags, task, plan, paths, input, output)
         }
         Words::WorkWith {
             task,
             plan,
             paths,
             flags,
-        } => do_work(rt, opener, flags, task, plan, paths, input, output),
+        } => do_work(rt, opener, streams, flags, task, plan, paths, input, output),
         Words::Follow {
             plan,
             paths,
@@ -160,18 +170,19 @@ where
 /// Does what the operating system's words ask for, and returns the exit status. The opener opens
 /// the files at the paths among the words, and the saver saves the state after following logs. The
 /// answer is written to the output. Faults and the text about refused words are written to standard
-/// error, and so is a line where a person may expect that something else is read.
+/// error, and so is a line where a person may expect that something else is read. Where standard
+/// error is a terminal, a line on it says how far the work is, once a second has passed.
 pub fn start<R, O, I, W, V>(
     rt: &R,
     opener: &O,
     saver: &mut V,
     words: io::Result<Args>,
-    kind: InputKind,
+    streams: Streams,
     input: I,
     output: &mut W,
 ) -> ExitCode
 where
-    R: AllocGlobal + Eprint + Files + Threads + RandomSource + Sync,
+    R: AllocGlobal + Clock + Eprint + Files + Threads + RandomSource + Sync,
     O: Opener,
     I: Source + Drop,
     W: Sink,
@@ -203,8 +214,8 @@ where
 {
     let status = match read_args(rt.alloc(), words) {
         Ok(words) => {
-            say_what_is_read(rt, kind, &words);
-            execute_words(rt, opener, saver, words, input, output)
+            say_what_is_read(rt, streams.input, &words);
+            execute_words(rt, opener, saver, words, streams, input, output)
         }
         Err(Memory) => report_fault(rt, Fault::Memory),
     };

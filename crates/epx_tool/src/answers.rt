@@ -16,6 +16,7 @@ use epx_compare::compare;
 use epx_devices::MemorySource;
 use epx_merge::{memory_sources, read_logs};
 use epx_names::Task;
+use epx_progress::{Progress, ThreadsAlone};
 use epx_types::{Fault, Plan};
 use std::alloc::Global;
 use std::random::RandomSource;
@@ -66,7 +67,9 @@ pub fn answer_texts<R: Threads + RandomSource + Sync>(
     }
     let mut sources = memory_sources(alloc, logs)?;
     let mut given = MemorySource::new(input);
-    match answer_with_input(rt, alloc, *asked, &mut given, &mut sources, plan) {
+    let alone = ThreadsAlone::new(rt);
+    let unseen = Progress::new(&alone, None);
+    match answer_with_input(rt, alloc, *asked, &unseen, &mut given, &mut sources, plan) {
         Ok(answer) => Ok(answer.text),
         Err(fault) => Err(fault),
     }

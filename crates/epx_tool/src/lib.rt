@@ -29,4 +29,4 @@ pub use epx_words::{Flags, Words, read_words};
 pub use findings::Answer;
 pub use resumed_runs::run_resume;
 pub use runs::{run, show};
-pub use task_runs::run_task;
+pub use task_runs::{run_shown, run_task};

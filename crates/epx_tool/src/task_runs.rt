@@ -10,10 +10,47 @@ use crate::answer_task::answer_task;
 use crate::findings::Answer;
 use epx_devices::{MemorySource, Sink, Source, write_out};
 use epx_names::Task;
+use epx_progress::{Progress, ThreadsAlone};
 use epx_types::{Fault, Plan};
 use std::alloc::Global;
+use std::io::Eprint;
 use std::random::RandomSource;
+use std::rt::Clock;
 use std::thread::Threads;
+
+/// As `run_task`, and shows that the answer is made.
+pub fn run_shown<
+    T: Threads + RandomSource + Sync,
+    P: Clock + Eprint + Threads + Sync,
+    I: Source,
+    S: Source,
+    W: Sink,
+>(
+    rt: &T,
+    alloc: Global,
+    task: Task,
+    progress: &Progress<'_, P>,
+    input: &mut I,
+    sources: &mut [S],
+    plan: Plan,
+    sink: &mut W,
+) -> Result<Answer, Fault>
+    requires input { I.model.has_failed input.old ≡ false }
+    requires sources { All (λ s. S.model.has_failed s ≡ false) sources.old }
+    requires sink { W.model.has_failed sink.old ≡ false }
+    ensures { EndsTaskRun I.model S.model W.model task input.old input.new sources.old sources.new
+        sink.old sink.new (found_of result) }
+{
+    let answer = match answer_task(rt, alloc, task, progress, input, sources, plan) {
+        Ok(answer) => answer,
+        Err(fault) => return Err(fault),
+    };
+    progress.end();
+    match write_out(&answer.text, sink) {
+        Ok(()) => Ok(answer),
+        Err(fault) => Err(fault),
+    }
+}
 
 /// Reads the logs from the sources in order, and then the input of the task, if it has one, from
 /// its own. Writes the answer to the sink. A task without an input leaves the source of the input
@@ -33,14 +70,9 @@ pub fn run_task<T: Threads + RandomSource + Sync, I: Source, S: Source, W: Sink>
     ensures { EndsTaskRun I.model S.model W.model task input.old input.new sources.old sources.new
         sink.old sink.new (found_of result) }
 {
-    let answer = match answer_task(rt, alloc, task, input, sources, plan) {
-        Ok(answer) => answer,
-        Err(fault) => return Err(fault),
-    };
-    match write_out(&answer.text, sink) {
-        Ok(()) => Ok(answer),
-        Err(fault) => Err(fault),
-    }
+    let alone = ThreadsAlone::new(rt);
+    let unseen = Progress::new(&alone, None);
+    run_shown(rt, alloc, task, &unseen, input, sources, plan, sink)
 }
 
 /// As `run_task`, for a task without an input. It frees the answer.

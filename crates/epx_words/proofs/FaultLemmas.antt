@@ -252,7 +252,7 @@ module _ (rest : List Text) where
         numbers.cut,
         λ has. absurd (no_first (codes "follow") refl has),
         λ e. no_flag (codes "exit-code") follow_leaf
-            (refl, (refl, (refl, (refl, (refl, (refl, (refl, (refl, tt)))))))) rest none,
+            (refl, (refl, (refl, (refl, (refl, (refl, (refl, (refl, (refl, tt))))))))) rest none,
         λ e. absurd (apart (codes "follow") (codes "linear") refl e),
       )
 

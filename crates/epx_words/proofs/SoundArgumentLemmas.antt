@@ -51,9 +51,10 @@ flag_leaf name = filled (flag_rule name)
 abbrev text_leaf : Text → Rule
 text_leaf name = filled (text_rule name)
 
--- what each subcommand begins with: its numbers and the flag for explanations
+-- what each subcommand begins with: its numbers and the flags that all have
 abbrev pub numbers_and : List Rule → List Rule
-numbers_and rest = workers_leaf ∷ cut_leaf ∷ flag_leaf (codes "explain") ∷ rest
+numbers_and rest =
+    workers_leaf ∷ cut_leaf ∷ flag_leaf (codes "explain") ∷ flag_leaf (codes "quiet") ∷ rest
 
 -- what follows: the logs, or a first argument and the logs, each with or without further flags and
 -- options whose values are texts or a number
@@ -334,7 +335,10 @@ numbers_and_keep rest keep = (
   number_keeps (codes "workers") (codes "4") 1 64 workers_fit true,
   (
     number_keeps (codes "cut") (codes "256") 1 65536 cut_fits true,
-    ((flag_is_kept (codes "explain") refl refl refl refl).0, uses_keep rest keep),
+    (
+      (flag_is_kept (codes "explain") refl refl refl refl).0,
+      ((flag_is_kept (codes "quiet") refl refl refl refl).0, uses_keep rest keep),
+    ),
   ),
 )
 
@@ -376,9 +380,13 @@ numbers_have_rows rest keep rows ok =
     let workers_has = default_keeps_row (codes "workers") cut_leaf one
     (default_has_row workers_leaf (codes "4") [] rows refl refl) in
     let cut_has = default_has_row cut_leaf (codes "256") [] one refl refl in
-    let more = flag_leaf (codes "explain") ∷ rest in
+    let more = flag_leaf (codes "explain") ∷ flag_leaf (codes "quiet") ∷ rest in
     let all = fold with_default two more in
-    let end = defaults_keep more two (flag_is_kept (codes "explain") refl refl refl refl, keep)
+    let flags_keep : AllByRecursion Keeps more = (
+      flag_is_kept (codes "explain") refl refl refl refl,
+      (flag_is_kept (codes "quiet") refl refl refl refl, keep),
+    ) in
+    let end = defaults_keep more two flags_keep
     (record { workers = workers_has; cut = cut_has; sound = two_sound }) in
     record {
       workers = number_read (codes "workers") 1 64 all (λ r h e. h.0 e) end.sound end.workers;
@@ -409,7 +417,8 @@ skew_has_row : (rows : List Row)
     → has_row (codes "skew") (fold with_default rows (numbers_and skew_to_first)) ≡ true
 skew_has_row rows =
     let numbered = with_default (with_default rows workers_leaf) cut_leaf in
-    let flagged = with_default (with_default numbered (flag_leaf (codes "explain")))
+    let flagged = with_default
+    (with_default (with_default numbered (flag_leaf (codes "explain"))) (flag_leaf (codes "quiet")))
     (flag_leaf (codes "exit-code")) in
     row_stays (codes "skew") to_first (with_default flagged skew_leaf)
     (default_has_row skew_leaf (codes "0") [] flagged refl refl)

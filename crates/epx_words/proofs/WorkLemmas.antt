@@ -157,6 +157,7 @@ module _ (given : Given) where
   has_flags (words.Follow plan paths options) means work = record {
     exit_code = (λ e. absurd (true≢false (sym e)), λ has. absurd (means.1 has));
     explain = means.0.explain;
+    quiet = means.0.quiet;
   }
   has_flags (words.Text text status) means work = absurd work
 

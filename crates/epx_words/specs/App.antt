@@ -1,6 +1,6 @@
--- The program as clap knows it. Each subcommand has two options with numbers, the flag `--explain`
--- and any number of logs. Some have a required argument before the logs, further flags, a third
--- number, or options whose values are texts: the end of a path, or where states are.
+-- The program as clap knows it. Each subcommand has two options with numbers, the flags `--explain`
+-- and `--quiet`, and any number of logs. Some have a required argument before the logs, further
+-- flags, a third number, or options whose values are texts: the end of a path, or where states are.
 use Rattle.std.specs.Prelude.{ℕ, true, Some, [], ◌∷◌, codes}
 use Rattle.clap.specs.Simple.{on_top}
 use Rattle.clap.specs.Words.{App, Rule, Text, new_app, new_rule, with_rule, with_subcommand}
@@ -42,13 +42,15 @@ text_rule name = record (new_rule name) {
   value_names = 1;
 }
 
--- a subcommand with its two numbers and the flag for explanations
+-- a subcommand with its two numbers and the flags that all have
 abbrev pub numbers_app : Text → App
 numbers_app name =
     with_rule
+    (with_rule
     (with_rule (with_rule (new_app name) (number_rule (codes "workers") (codes "4") 1 64))
     (number_rule (codes "cut") (codes "256") 1 65536))
-    (flag_rule (codes "explain"))
+    (flag_rule (codes "explain")))
+    (flag_rule (codes "quiet"))
 
 -- a subcommand over logs that can find something
 abbrev pub finding_app : Text → App

@@ -118,20 +118,21 @@ IsWork (words.Follow plan paths options) = ⊤
 IsWork (words.Text text status) = ⊥
 
 abbrev pub no_flags : Flags
-no_flags = record { exit_code = false; explain = false }
+no_flags = record { exit_code = false; explain = false; quiet = false }
 
 -- the flags of the words
 abbrev pub flags_of : Words → Flags
 flags_of (words.Work task plan paths) = no_flags
 flags_of (words.WorkWith task plan paths flags) = flags
 flags_of (words.Follow plan paths options) =
-    record { exit_code = false; explain = options.explain }
+    record { exit_code = false; explain = options.explain; quiet = options.quiet }
 flags_of (words.Text text status) = no_flags
 
 -- the flags are those that the rows have
 pub record FitFlags (flags : Flags) (rows : List Row) : Type 0 where
   pub exit_code : (flags.exit_code ≡ true) ↔ HasFlag (codes "exit-code") rows
   pub explain : (flags.explain ≡ true) ↔ HasFlag (codes "explain") rows
+  pub quiet : (flags.quiet ≡ true) ↔ HasFlag (codes "quiet") rows
 
 -- if the words ask for a text, P holds of the status
 abbrev pub IfText : (ℕ → Type 0) → Words → Type 0
@@ -165,6 +166,7 @@ pub record AsksToFollow (given : Given) (cutting : PlanNumbers) (logs : Option (
   pub paths : logs ≡ some_logs_in (rows_in given)
   pub each : (options.each ≡ true) ↔ HasFlag (codes "each") (rows_in given)
   pub explain : (options.explain ≡ true) ↔ HasFlag (codes "explain") (rows_in given)
+  pub quiet : (options.quiet ≡ true) ↔ HasFlag (codes "quiet") (rows_in given)
   pub state : option_map string_bytes options.state ≡ state_in (rows_in given)
   pub save : option_map string_bytes options.save ≡ save_in (rows_in given)
 

@@ -422,7 +422,8 @@ fn flag<'a>(alloc: Global, name: &'a str, help: &'a str) -> Arg<'a>
         .help(help)
 }
 
-/// A subcommand with the options that all subcommands have: `--workers`, `--cut` and `--explain`.
+/// A subcommand with the options that all subcommands have: `--workers`, `--cut`, `--explain` and
+/// `--quiet`.
 fn subcommand<'a>(alloc: Global, name: &'a str, help: Help) -> Result<Command<'a>, AllocError>
     ensures { IfOk result (λ c. app_of c ≡ numbers_app name.entry.now) }
 {
@@ -437,8 +438,10 @@ fn subcommand<'a>(alloc: Global, name: &'a str, help: Help) -> Result<Command<'a
         "explain",
         "Explains a fault or a finding in further lines",
     );
+    let quiet = flag(alloc, "quiet", "Shows no progress on a terminal");
     let numbered = with_help(alloc, name, help).arg(workers)?.arg(cut)?;
-    numbered.arg(explain)
+    let explained = numbered.arg(explain)?;
+    explained.arg(quiet)
 }
 
 /// The flag `--exit-code`, of a subcommand that finds this.

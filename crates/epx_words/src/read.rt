@@ -143,6 +143,7 @@ fn flags_of(matches: &ArgMatches<'_>) -> Flags
     Flags {
         exit_code: has_flag(matches, "exit-code"),
         explain: has_flag(matches, "explain"),
+        quiet: has_flag(matches, "quiet"),
     }
 }
 
@@ -171,6 +172,7 @@ fn follow_of(alloc: Global, matches: &ArgMatches<'_>) -> Result<Words, AllocErro
     let options = FollowOptions {
         each: has_flag(matches, "each"),
         explain: has_flag(matches, "explain"),
+        quiet: has_flag(matches, "quiet"),
         state: value_of(alloc, matches, "state")?,
         save: value_of(alloc, matches, "save")?,
     };
@@ -201,7 +203,7 @@ fn work_of(alloc: Global, matches: &ArgMatches<'_>) -> Result<Words, AllocError>
     let plan = plan_of(given);
     let paths = Some(paths_of(alloc, task, given)?);
     let flags = flags_of(given);
-    if flags.exit_code || flags.explain {
+    if flags.exit_code || flags.explain || flags.quiet {
         return Ok(Words::WorkWith {
             task,
             plan,
@@ -266,9 +268,9 @@ fn is_bare(words: &[&str]) -> bool
 /// or if the words name no subcommand: then it is `Run` with 4 workers, 256 items a piece and no
 /// paths. Otherwise it is `Text`. The words have to name an instance or a key where the subcommand
 /// is about one, and a log where `--exit-code` is there. The one error is running out of memory.
-/// With `--exit-code` or `--explain` the work is `WorkWith`, `check --prefix` is the task
-/// `CheckPrefix`, and `why --reaches` is the task `Path`. `linear` without `--skew` has the skew 0.
-/// The subcommand `follow` is no task: in place of `Work` it is `Follow`.
+/// With `--exit-code`, `--explain` or `--quiet` the work is `WorkWith`. `check --prefix` is the
+/// task `CheckPrefix`, and `why --reaches` the task `Path`. `linear` without `--skew` has the skew
+/// 0. The subcommand `follow` is no task: in place of `Work` it is `Follow`.
 pub fn read_words(alloc: Global, words: &[&str]) -> Result<Words, Memory>
     ensures bare { IsBare (map (λ w. w.now) words.now)
         → IfOk result (λ asked. asked ≡ Words.Work Task.Run (record { workers = 4; cut = 256 })

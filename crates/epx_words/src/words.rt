@@ -10,6 +10,8 @@ pub struct Flags {
     pub exit_code: bool,
     /// `--explain`: a further line explains a fault.
     pub explain: bool,
+    /// `--quiet`: no line on a terminal says how far the work is.
+    pub quiet: bool,
 }
 
 /// How logs are followed.
@@ -19,6 +21,8 @@ pub struct FollowOptions {
     pub each: bool,
     /// `--explain`: a further line explains a fault.
     pub explain: bool,
+    /// `--quiet`: no line on a terminal says how far the work is.
+    pub quiet: bool,
     /// `--state`: the path of a state, or of a report, to go on from.
     pub state: Option<String>,
     /// `--save`: the path under which the state at the end is saved.

@@ -10,14 +10,14 @@ returns-then-not-has_input g c =
     let alone : ¬ HasInput c.args.task = λ has.
     let yes = c.has_input.ensures.1 has in absurd (cc (yes, c.if-not-has_input.true)) in
     outcome_of_logs g.S.Source.model g.W.Sink.model c.args.task c.args.sources.now _ _ _ alone
-    (found_of c.run_task.result) (c.run_task.ensures.alone alone)
+    (found_of c.run_shown.result) (c.run_shown.ensures.alone alone)
 
 pub returns-in-Some : goal.returns-in-Some
 returns-in-Some g c =
     let has = c.has_input.ensures.0 c.if-not-has_input.false in
     outcome_of_first g.S.Source.model g.W.Sink.model c.args.task c.args.sources.now _ _ _ has
-    _ _ _ _ c.in-Some.ensures.cases.0 refl (found_of c.run_task-in-Some.result)
-    (c.run_task-in-Some.ensures.with_input has)
+    _ _ _ _ c.in-Some.ensures.cases.0 refl (found_of c.run_shown-in-Some.result)
+    (c.run_shown-in-Some.ensures.with_input has)
 
 pub returns-in-None : goal.returns-in-None
 returns-in-None g c =
@@ -26,4 +26,4 @@ returns-in-None g c =
     outcome_of_nothing g.S.Source.model g.W.Sink.model c.args.task sources sources _ _ has
     memory_source _ _ _
     c.in-None.ensures.cases (ap Some c.new-empty.ensures) (λ bad. bad.1.failed)
-    (found_of c.run_task-in-None.result) (c.run_task-in-None.ensures.with_input has)
+    (found_of c.run_shown-in-None.result) (c.run_shown-in-None.ensures.with_input has)

@@ -16,11 +16,11 @@ returns-clause-do_task g c =
     let failed = g.W.Sink.model.has_failed c.do_task-done.new.output in
     let old = g.W.Sink.model.contents c.args.output.now in
     let new = g.W.Sink.model.contents c.do_task-done.new.output in
-    let Is = text_relation g.O.Opener.model g.O.Opened.Source.model c.args.opener.now
-    g.I.Source.model c.args.input in
+    let Is = text_relation g.O.Opener.model g.O.Opened.Source.model c.new-opener.result
+    g.I.Source.model c.new-input.result in
     let Adds : Bool → Type 0 =
     λ found. AddsAnswer c.args.task found (AreTextsRead Is (paths_of c.args.paths)) old new in
-    record {
+    rw (← c.new-input.ensures, ← c.new-opener.ensures) (record {
       ends = is_status exit_code done _ ended;
       over_input = λ bytes alone known. rw ended
           (ends-as-done exit_code c.args.task (bytes ∷ []) done _ _
@@ -29,7 +29,7 @@ returns-clause-do_task g c =
       part = λ bad. do_task.part (do_task.written.1 bad);
       broken = λ alone. failed_device {P = failed ≡ true} exit_code done _ ended
           do_task.written.0 (λ log unread. do_task.unread log unread alone);
-    }
+    })
 
 pub returns-clause-nothing : goal.returns-clause-nothing
 returns-clause-nothing g c =

@@ -6,8 +6,8 @@ use Rattle.epx_tool.proofs.AcceptedLogLemmas.{accepted_are_few}
 use Rattle.epx_tool.proofs.QuestionLemmas.{finding_text}
 use Rattle.epx_tool.proofs.answer_task.answer_with_input.Goals as goal
 
-pub text_of-requires-clause-few : goal.text_of-requires-clause-few
-text_of-requires-clause-few g c κs within =
+pub shown_text-requires-clause-few : goal.shown_text-requires-clause-few
+shown_text-requires-clause-few g c κs within =
     let both = c.in-Ok.ensures in
     let read = both.3 in
     accepted_are_few both.1 c.in-Ok.read.0 read.1
@@ -23,8 +23,8 @@ returns g c =
     let read = both.3 in
     let task = c.args.task in
     let m = c.in-Ok.read.0 in
-    let answer = c.in-Ok-text_of.answer in
-    let said = c.in-Ok-text_of.ensures in
+    let answer = c.in-Ok-shown_text.answer in
+    let said = c.in-Ok-shown_text.ensures in
     let found = finding_text task input c.in-Ok.read.1 read.2 answer.has_findings m
     answer.text.items (said.text, said.found) in (
       input,

@@ -16,7 +16,10 @@ returns c =
     workers c.in_ok-arg.ensures c.with_help.ensures workers_is refl in
     let two = with_argument c.in_ok-arg.field-0 c.in_ok-numbered.numbered c.help-cut.result
     (with_rule start workers) cut c.in_ok-numbered.ensures one cut_is refl in
-    IfOk-weaker c.arg-3.result _ _
-    (λ made added. with_argument c.in_ok-numbered.numbered made c.flag-explain.result
-    (with_rule (with_rule start workers) cut) (flag_rule (codes "explain")) added two
-    c.flag-explain.ensures refl) c.arg-3.ensures
+    let three = with_argument c.in_ok-numbered.numbered c.in_ok-explained.explained
+    c.flag-explain.result (with_rule (with_rule start workers) cut) (flag_rule (codes "explain"))
+    c.in_ok-explained.ensures two c.flag-explain.ensures refl in
+    IfOk-weaker c.arg-4.result _ _
+    (λ made added. with_argument c.in_ok-explained.explained made c.flag-quiet.result
+    (with_rule (with_rule (with_rule start workers) cut) (flag_rule (codes "explain")))
+    (flag_rule (codes "quiet")) added three c.flag-quiet.ensures refl) c.arg-4.ensures

@@ -10,6 +10,7 @@ returns c = (
     paths = c.in_ok-paths.ensures;
     each = c.has_flag.ensures;
     explain = c.has_flag-2.ensures;
+    quiet = c.has_flag-3.ensures;
     state = c.in_ok-value_of.ensures;
     save = c.in_ok-value_of-2.ensures;
   },

@@ -1,14 +1,21 @@
-//! What is read, where a person may expect something else.
+//! Which streams are terminals, and what is read, where a person may expect something else.
 
 use epx_tool::{Task, Words};
 use std::io::Eprint;
 
-/// What standard input is.
+/// What a stream is.
 #[derive(Clone, Copy, Debug, PartialEq, Eq)]
-pub enum InputKind {
+pub enum StreamKind {
     Terminal,
     /// A pipe, a file, a device, or closed.
     Other,
+}
+
+/// What standard input and standard error are.
+#[derive(Clone, Copy, Debug, PartialEq, Eq)]
+pub struct Streams {
+    pub input: StreamKind,
+    pub errors: StreamKind,
 }
 
 const FROM_TERMINAL: &str =
@@ -20,29 +27,33 @@ const FOLLOWED: &str =
 const NOTHING: &str = "epx: no LOG is named, so no log is read; the LOG - is standard input";
 
 /// The line about what a task reads, if there is one.
-fn reading_line(kind: InputKind, task: Task, paths: &Option<Vec<String>>) -> Option<&'static str> {
-    match (kind, paths) {
-        (InputKind::Terminal, None) => Some(FROM_TERMINAL),
+fn reading_line(
+    input: StreamKind,
+    task: Task,
+    paths: &Option<Vec<String>>,
+) -> Option<&'static str> {
+    match (input, paths) {
+        (StreamKind::Terminal, None) => Some(FROM_TERMINAL),
         (_, Some(paths)) if paths.len() <= usize::from(task.has_input()) => Some(NOTHING),
         _ => None,
     }
 }
 
 /// The line about what is followed, if there is one.
-fn following_line(kind: InputKind, paths: &Option<Vec<String>>) -> Option<&'static str> {
-    match (kind, paths) {
-        (InputKind::Terminal, None) => Some(FOLLOWED),
+fn following_line(input: StreamKind, paths: &Option<Vec<String>>) -> Option<&'static str> {
+    match (input, paths) {
+        (StreamKind::Terminal, None) => Some(FOLLOWED),
         _ => None,
     }
 }
 
 /// Writes a line to standard error where the words ask for one log from a terminal, or for no log.
-pub(crate) fn say_what_is_read(rt: &impl Eprint, kind: InputKind, words: &Words) {
+pub(crate) fn say_what_is_read(rt: &impl Eprint, input: StreamKind, words: &Words) {
     let line = match words {
         Words::Work { task, paths, .. } | Words::WorkWith { task, paths, .. } => {
-            reading_line(kind, *task, paths)
+            reading_line(input, *task, paths)
         }
-        Words::Follow { paths, .. } => following_line(kind, paths),
+        Words::Follow { paths, .. } => following_line(input, paths),
         Words::Text { .. } => None,
     };
     if let Some(line) = line {

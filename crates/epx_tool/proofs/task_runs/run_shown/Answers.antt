@@ -2,7 +2,7 @@ use Rattle.std.proofs.Common.{Ok, Err}
 use Rattle.epx_types.specs.declared.fault.Fault.{Fault}
 use Rattle.epx_tool.proofs.RunEndingLemmas.{failed_first}
 use Rattle.epx_tool.proofs.TaskRunLemmas.{task_refused, task_unwritten, task_written}
-use Rattle.epx_tool.proofs.task_runs.run_task.Goals as goal
+use Rattle.epx_tool.proofs.task_runs.run_shown.Goals as goal
 
 pub returns-in-Err : goal.returns-in-Err
 returns-in-Err g c =

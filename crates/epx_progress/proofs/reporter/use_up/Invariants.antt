@@ -1,0 +1,5 @@
+use Rattle.epx_claims.specs.Seated.{IsSeatOf}
+use Rattle.epx_progress.proofs.reporter.use_up.Given as goal
+
+abbrev pub invariant-loop : goal.invariant-loop
+invariant-loop l = IsSeatOf l.claims l.seat
