@@ -1,4 +1,4 @@
-# Completion of epx for bash, which tools/manual writes.
+# Completion of epx for bash, which tools/docs manual writes.
 
 # Offers those of these words that begin as the word at the cursor does, and no files.
 _epx_offer() {

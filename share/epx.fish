@@ -1,4 +1,4 @@
-# Completion of epx for fish, which tools/manual writes.
+# Completion of epx for fish, which tools/docs manual writes.
 
 # Whether the subcommand before the cursor is one of these.
 function __epx_in

@@ -1,8 +1,7 @@
-"""How the tools read their words, say how far they are, and end. A module, and no tool itself."""
+"""How scripts read their words, say how far they are, and end. A module, and no tool itself."""
 
 import argparse
 import contextlib
-import importlib
 import os
 import pathlib
 import signal
@@ -14,14 +13,35 @@ import time
 TOP = pathlib.Path(__file__).resolve().parent.parent
 # The archive of a release has PROVED.md, and the program beside it.
 PROGRAM = TOP / ("epx" if (TOP / "PROVED.md").exists() else "crates/epx/out/epx")
-NAME = f"tools/{pathlib.Path(sys.argv[0]).name}"
+# Scripts of one folder import modules of the others.
+sys.path += [str(TOP / folder) for folder in ("tools", "contrib", "contrib/tests")]
+# The folder and the name of the script, and its subcommand, if it has some.
+NAME = "/".join(pathlib.Path(sys.argv[0]).resolve().parts[-2:])
 # The seconds between two lines that say how far a tool is.
 OFTEN = 10
 
 
+# How the next line begins, where it is written over one that said how far the tool is.
+over = ""
+
+
 def say(text):
     """A line of the tool about itself, which is no part of what it prints."""
-    print(f"{NAME}: {text}", file=sys.stderr, flush=True)
+    global over
+    print(f"{over}{NAME}: {text}", file=sys.stderr, flush=True)
+    over = ""
+
+
+def say_for_now(text):
+    """As `say`, but on a terminal the next line is written over this one."""
+    global over
+    if not sys.stderr.isatty():
+        return say(text)
+    # some terminals do not say how wide they are
+    columns = os.get_terminal_size(sys.stderr.fileno()).columns or 80
+    line = f"{NAME}: {text}"[: columns - 1]
+    print(f"{over}{line}", end="", file=sys.stderr, flush=True)
+    over = "\r\x1b[K"
 
 
 def stop(why, status=2):
@@ -73,13 +93,6 @@ def built(program):
     if not path.is_file() or not os.access(path, os.X_OK):
         stop(f"there is no program {program}: ./epx run builds it")
     return str(path)
-
-
-def load_test(module, name="test"):
-    """The test of a tool, or what else a module of the repository does for one."""
-    if not (TOP / f"tools/{module}.py").is_file():
-        stop("the test is a part of the repository, and of no archive")
-    return getattr(importlib.import_module(module), name)
 
 
 def counted(what, items):
@@ -137,7 +150,7 @@ def run(main):
         command = " ".join(map(str, error.cmd[:2]))
         stop(f"{command} .. ended with {error.returncode}: {(error.stderr or b'')[:200]!r}")
     except BrokenPipeError:
-        # whoever read the output has enough of it
+        # the reader of the output has enough of it
         os.dup2(os.open(os.devnull, os.O_WRONLY), 1)
         status = 128 + signal.SIGPIPE
     sys.exit(status)

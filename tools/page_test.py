@@ -11,14 +11,15 @@ import tempfile
 
 from browser import find_browser
 from command_line import TOP, counted, say
-from executions import Tally, execute
-from histories import Executed, history_of, random_calls
+from fuzzing.cases import Tally
+from fuzzing.histories import Executed, history_of, random_calls
+from fuzzing.lines import text_of
+from fuzzing.maps import Map
+from fuzzing.streams import covered_instances
 from logs import is_committed
 from page_looks import try_keys, try_looks
 from page_refusals import try_refusals
 from page_shown import Shown
-from random_logs import covered_instances, text_of
-from random_maps import Map, answer
 
 EXAMPLES = ("one", "operations", "replicas", "statuses", "unrelated", "arriving")
 FOLDERS = ("replicas", "bank", "halves")
@@ -53,7 +54,9 @@ class Case:
         self.ops = {f"{line['r']}.{line['i']}": line["ops"] for line in lines if is_committed(line)}
 
     def ask(self, word, *more):
-        return answer(self.program, word, *more, *self.logs)
+        words = [self.program, word, *more, *self.logs]
+        ended = subprocess.run(list(map(str, words)), capture_output=True, check=True)
+        return [json.loads(line) for line in ended.stdout.splitlines()]
 
     def read_graph(self):
         """Reads the picture word by word: its boxes, arrows and clusters, and what has which
@@ -239,8 +242,7 @@ def try_histories(told, shown, program, rng, folder):
                                   clients / "seen.history"))  # fmt: skip
     for _ in range(HISTORIES):
         given, log, history = Map(rng, 10), folder / "log", folder / "history"
-        ops_of = {name: entry["ops"] for name, entry in given.entries.items()}
-        done = Executed(given.order, execute(given.order, ops_of)[0], ops_of)
+        done = Executed(given.map)
         others = sorted(given.entries.keys() - {*given.order}) + [(7, 0), (9, 9)]
         log.write_text(given.text())
         history.write_text(history_of(rng, random_calls(rng, done, others)))
@@ -298,7 +300,7 @@ def try_long_store(told, shown, program, folder):
 def try_large(told, shown, program, rng, folder):
     """Opens a page of many instances, and returns the seconds."""
     words = ["--instances", str(LARGE), "--seed", "7", "--out", folder / "bank"]
-    subprocess.run([TOP / "tools/bank", *words], stderr=subprocess.DEVNULL,
+    subprocess.run([TOP / "contrib/bank", *words], stderr=subprocess.DEVNULL,
                    stdout=subprocess.DEVNULL, check=True)  # fmt: skip
     case = Case(program, folder, sorted((folder / "bank").glob("*.jsonl")))
     seconds = [shown.open(case.path) for _ in range(3)]

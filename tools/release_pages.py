@@ -41,7 +41,8 @@ module:
 | [docs/INSTALL.md](docs/INSTALL.md) | where the files go |
 | [examples/](examples/README.md) | logs with what epx prints of them |
 | `share/` | the manual page, completions, and all texts of help |
-| `tools/` | the Python module, `expand` and `texts`, and `page` of [CLI.md](docs/CLI.md#a-page) |
+| [contrib/](contrib/README.md) | the Python module, `expand`, `texts` and `bank` |
+| `tools/` | `page` of [CLI.md](docs/CLI.md#a-page), and modules |
 | [PROVED.md](PROVED.md) | what is proved of the program, and what is trusted |
 | [CHANGELOG.md](CHANGELOG.md) | what each version can do |
 """
@@ -127,7 +128,7 @@ def fit(place, text, names):
         return found[0] if found[1] in names else f"{found[0]} of the repository"
 
     text = re.sub(r"(?<!!)\[([^\]\[]+)\]\(([^)\s]+)\)", link, text)
-    text = re.sub(r"`(tools/(?!install)\w+)[^`]*`", tool, text)
+    text = re.sub(r"`((?:tools/(?!install)|contrib/)[\w.]+)[^`]*`", tool, text)
     text = text.replace("tools/install", "./install")
     return "\n\n".join(map(fill, text.split("\n\n")))
 
@@ -171,7 +172,8 @@ def pages(version, origin, program, names):
     """The pages of the archive, by path, where it has files of these names beside them."""
     made = {f"docs/{name}.md": (TOP / f"docs/{name}.md").read_text() for name in PAGES}
     made["docs/INSTALL.md"] = install_page()
-    made["CHANGELOG.md"] = (TOP / "CHANGELOG.md").read_text()
+    for name in ("CHANGELOG.md", "contrib/README.md"):
+        made[name] = (TOP / name).read_text()
     examples = (TOP / "examples/README.md").read_text()
     made["examples/README.md"] = examples[: examples.index("\nThe worked cases of `epx_cases`")]
     made["PROVED.md"] = proved_page(version, origin, program)

@@ -101,7 +101,8 @@ class Conflicts:
 
     def note(self, name, instance):
         """Takes in an instance. Once it is committed, what depends on it need not name what it
-        depends on; but a read stands for no write, since later reads do not depend on it."""
+        depends on. A read never takes the place of a write, since later reads do not depend on
+        it."""
         passed = instance.deps if instance.status == COMMITTED else ()
         for key, writes in touched(instance.ops).items():
             known = self.keys[key]

@@ -153,7 +153,7 @@ fn what_is_done_is_passed_over(rt: HostRuntime) -> Result<(), Fail> {
     Fixture::new(&rt, rt.alloc()).run(&steps, None)
 }
 
-// Under `tools/refusals` the first call meets the refused allocation, and the second does not.
+// Under `tools/stress refusals` the first call meets the refused allocation, and the second none.
 #[test]
 fn a_commit_that_ran_out_of_memory_can_be_tried_again(rt: HostRuntime) -> Result<(), Fail> {
     let steps: [Step; 2] = [
@@ -165,8 +165,8 @@ fn a_commit_that_ran_out_of_memory_can_be_tried_again(rt: HostRuntime) -> Result
     fixture.run(&steps, Some(1))
 }
 
-// Under `tools/refusals` one of these calls meets the refused allocation: what waits stays, and is
-// executed once what it needs has come.
+// Under `tools/stress refusals` one of these calls meets the refused allocation: what waits stays,
+// and is executed once what it needs has come.
 #[test]
 fn what_waits_stays_where_a_commit_runs_out_of_memory(rt: HostRuntime) -> Result<(), Fail> {
     let all = [id(0, 0), id(0, 1), id(0, 2), id(0, 3)];

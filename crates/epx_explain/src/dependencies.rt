@@ -34,7 +34,7 @@ fn explain_list(alloc: Global, deps: &[Value]) -> Result<Option<String>, Memory>
     if has_number_a_replica(deps) {
         return Ok(Some(String::from_str(
             alloc,
-            "deps has no pairs: one number or null a replica? tools/expand writes pairs, as \
+            "deps has no pairs: one number or null a replica? contrib/expand writes pairs, as \
 docs/INPUT.md says",
         )?));
     }

@@ -1,0 +1,65 @@
+"""The rows of `times` and of `against`: one for each log, question and number of workers."""
+
+import os
+import pathlib
+import tempfile
+
+from benches.log_files import write_logs
+from benches.questions import QUESTIONS, words_of
+from benches.runs import least_runs, ratio
+from benches.shapes import SHAPES
+from command_line import Words, count, say, some_of, workers
+
+HEAD = "| Logs | Question | MB | Workers | Seconds | Ratio | Bytes a byte |\n" + "|---" * 7 + "|"
+
+
+def words_of_table(text):
+    """The words of a subcommand that prints such rows."""
+    words = Words(text)
+    words.add_program()
+    several = {"type": some_of(SHAPES), "default": [*SHAPES]}
+    words.add_argument("--shapes", **several, help="the shapes, with commas")
+    several = {"type": some_of(QUESTIONS), "default": ["run"]}
+    words.add_argument("--questions", **several, help="subcommands, with commas")
+    words.add_argument("--instances", type=count, default=65_536)
+    several = {"type": workers, "default": ["1", "4"]}
+    words.add_argument("--workers", **several, help="the numbers of workers, with commas")
+    words.add_argument("--rounds", type=count, default=5)
+    return words
+
+
+def measure(given, programs, name, logs, folder):
+    """The cells of each row of some logs: what is asked of them, and the least run of each
+    program."""
+    size = sum(os.path.getsize(log) for log in logs)
+    for question in given.questions:
+        paths = words_of(programs[0], question, logs, folder)
+        for workers in given.workers:
+            words = [question, "--workers", workers, *paths]
+            commands = [[program, *words] for program in programs]
+            runs = least_runs(commands, given.rounds, str(folder / "out"))
+            yield (name, question, f"{size / 1e6:.1f}", workers), size, runs
+
+
+def rows(given, programs):
+    """Those of all logs that are named, or of all shapes."""
+    for name in ["given"] if given.logs else given.shapes:
+        with tempfile.TemporaryDirectory() as folder:
+            folder = pathlib.Path(folder)
+            logs = given.logs or write_logs(SHAPES[name](given.instances), folder)
+            yield from measure(given, programs, name, logs, folder)
+
+
+def print_table(given, programs, base_of):
+    """Prints the rows, each with the ratio of its run to the one that `base_of` names. Returns how
+    many they are, and whether all programs agree."""
+    number = (1 if given.logs else len(given.shapes)) * len(given.questions) * len(given.workers)
+    say(f"{number} rows, each the least of {given.rounds} times")
+    print(HEAD)
+    agree = True
+    for cells, size, runs in rows(given, programs):
+        run = runs[0]
+        agree = agree and all(run.digest == other.digest for other in runs)
+        times = f"{run.seconds:.3f}", ratio(run, base_of(cells, runs)), f"{run.peak / size:.1f}"
+        print(f"| {' | '.join([*cells, *times])} |", flush=True)
+    return number, agree

@@ -1,0 +1,31 @@
+"""Times the built program over logs of several shapes.
+
+    tools/bench times                                every shape, with one worker and with four
+    tools/bench times --shapes chain,ring --rounds 11
+    tools/bench times --instances 1048576            larger logs
+    tools/bench times --questions order,audit LOG..  these logs, in place of the shapes
+
+A row has the least time of its rounds, its ratio to the first row of as many workers, and the peak
+memory for each byte of the logs. Only ratios of one run count; run nothing else beside it.
+
+`check` is given the execution order, `linear` a call of each executed instance with its reply,
+`resume` the report of the first half of the lines, and `follow` the logs in batches of 100. The
+shapes `ordinary` and `colliding` differ in their Ids and keys alone: those of the second have one
+hash under the library's hasher where it starts from its fixed number. The exit status is 2 where
+the program is missing or fails.
+"""
+
+from benches.table import print_table, words_of_table
+from command_line import built, say
+
+
+def main():
+    words = words_of_table(__doc__)
+    words.add_argument("logs", nargs="*", metavar="LOG")
+    given, firsts = words.parse_args(), {}
+    programs = [built(given.program)]
+    rows, _ = print_table(
+        given, programs, lambda cells, runs: firsts.setdefault(cells[3], runs[0])
+    )
+    say(f"{rows} rows")
+    return 0

@@ -1,0 +1,1 @@
+"""What tools/docs does: a module for each subcommand, and what several of them use."""

@@ -1,0 +1,1 @@
+"""What tools/stress does: a module for each subcommand, and the parts of both."""

@@ -1,0 +1,1 @@
+"""Tests of tools, beside those that tools have themselves."""
