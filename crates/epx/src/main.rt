@@ -17,6 +17,7 @@ fn kind_of(stream: &impl IsTerminal) -> StreamKind {
     }
 }
 
+/// Does what the words of the process ask for. Ends with the status of the answer or the fault.
 fn main(rt: HostRuntime) -> ExitCode {
     // If standard input is closed, the first file that is opened gets its descriptor, and `-`
     // would read that file. So a folder is opened first: reading a folder always fails.

@@ -13,6 +13,7 @@ fn may_be_waiting(line: &[u8]) -> bool {
     matches!(rest.trim_ascii_start(), [b'"', b'w' | b'\\', ..])
 }
 
+/// The instance r.i of `["waiting",r,i,mr,mi]`. None for other elements.
 fn waiter_of(parts: &[Value]) -> Option<Id> {
     let [name, replica, number, _, _] = parts else {
         return None;

@@ -16,6 +16,7 @@ pub(crate) struct KeyUsers {
     pub first_waiting: Option<Id>,
 }
 
+/// Whether the key is one of those of an operation.
 fn op_has_key(op: &Op, key: &str) -> bool {
     let (first, second) = op.accesses();
     if first.key.text() == key {
@@ -39,6 +40,7 @@ fn users_of(alloc: Global, merged: &Merged, key: &str) -> Result<Vec<Id>, Memory
     Ok(ids)
 }
 
+/// Whether an instance is one of the waiters, whose Ids rise. Takes logarithmic time.
 fn is_waiting(waiters: &[Waiter], id: Id) -> bool {
     waiters
         .binary_search_by_key(&id, |waiter| waiter.id)

@@ -35,6 +35,8 @@ fn first_positions(
 }
 
 impl<'a> ListNodes<'a> {
+    /// Finds the components of the graph, and where the list has its nodes. Takes time linear in
+    /// the graph, and logarithmic time for each listed instance.
     pub fn new(alloc: Global, graph: &'a Graph, list: &[Listed]) -> Result<ListNodes<'a>, Memory> {
         Ok(ListNodes {
             graph,
@@ -43,14 +45,17 @@ impl<'a> ListNodes<'a> {
         })
     }
 
+    /// How many nodes the graph has.
     pub fn len(&self) -> usize {
         self.graph.len()
     }
 
+    /// The node of an Id. None if the graph has none. Takes logarithmic time.
     pub fn node(&self, id: Id) -> Option<usize> {
         self.graph.node(id)
     }
 
+    /// The Id of a node. None if the graph has no such node.
     pub fn id(&self, node: usize) -> Option<Id> {
         if node < self.graph.len() {
             Some(self.graph.id(node))

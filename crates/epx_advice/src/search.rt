@@ -14,6 +14,7 @@ struct LateSearch {
 }
 
 impl LateSearch {
+    /// A search over so many nodes that has met none.
     fn new(alloc: Global, nodes: usize) -> Result<LateSearch, Memory> {
         Ok(LateSearch {
             before: vec![in alloc; None; nodes]?,

@@ -9,6 +9,7 @@ use std::fs;
 use std::rt::Files;
 use std::thread::Threads;
 
+/// Whether a path leads to a file. False also where that cannot be found out.
 fn is_file<R: Files>(rt: &R, path: &str) -> bool {
     match fs::metadata(rt, path) {
         Ok(metadata) => metadata.is_file(),

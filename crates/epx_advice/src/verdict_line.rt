@@ -17,6 +17,7 @@ fn fault_at(name: &str, position: &Value) -> Option<OrderFault> {
     }
 }
 
+/// The fault that the elements of a verdict name. None for `["lawful"]`, and for other elements.
 fn fault_of(parts: &[Value]) -> Option<OrderFault> {
     match parts {
         [name, position] => fault_at(name.as_str()?, position),

@@ -25,10 +25,9 @@ use Rattle.epx_tool.specs.Answer.{IsAnswer}
 abbrev pub ReportExists : Type 0
 ReportExists = (m : List Instance) → IsRising (ids_of m) → (text : List ℕ) × IsReport m text
 
--- a committed map has a text for each task without an input but a comparison: a report, a text of
--- its execution order, a text of its conflict levels, a
--- text of its audit, a picture, a text about each instance, a text of a path between each two, and
--- a text of the trace of each key
+-- a committed map has a text for each task without an input, except a comparison: among them its
+-- report, its execution order, its conflict levels, its audit, a picture, a text about each
+-- instance, one of a path between each two, and one of the trace of each key
 abbrev pub MapTextExists : Type 0
 MapTextExists = (task : Task) → ¬ HasInput task → task ≢ Compare → (m : List Instance)
     → IsRising (ids_of m) → (text : List ℕ) × IsTaskText task [] m text

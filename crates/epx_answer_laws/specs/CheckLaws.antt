@@ -38,14 +38,15 @@ LawfulTextMeansLawful = (list : List ℕ) (logs : List (List ℕ)) (ids : List I
 
 -- ---- a list that is checked as a prefix
 
--- it is reported as lawful exactly if a lawful order of what the logs commit begins with it
+-- a list that is checked as a prefix is reported as lawful exactly if a lawful order of what the
+-- logs commit begins with it
 abbrev pub LawfulTextMeansPrefix : Type 0
 LawfulTextMeansPrefix = (list : List ℕ) (logs : List (List ℕ)) (ids : List Id)
     (m : List Instance) → IsShort list → IsList list ids → IsAccepted logs m →
     AnswersTask CheckPrefix list logs (Ok lawful_line) ↔ IsLawfulPrefix m ids
 
--- if it is reported as lawful and the logs as covered, executing it from the empty store gives each
--- listed instance the reply that the report of the logs has
+-- if a list is reported as a lawful prefix and the logs as covered, each listed instance has the
+-- same reply where the list is executed from the empty store as in the report of the logs
 abbrev pub LawfulPrefixRepliesAlike : Type 0
 LawfulPrefixRepliesAlike = (list : List ℕ) (logs : List (List ℕ))
     → AnswersTask CheckPrefix list logs (Ok lawful_line)
@@ -62,8 +63,8 @@ WholeListsAreAnsweredAlike = (list : List ℕ) (logs : List (List ℕ)) (ids : L
     (m : List Instance) → IsList list ids → IsAccepted logs m → HasAllReady m ids
     → (a : Result (List ℕ) Fault) → AnswersTask CheckPrefix list logs a ↔ Checks list logs a
 
--- if logs call it lawful, so do all accepted logs that have their lines: what a replica has
--- executed stays lawful, whatever is committed later
+-- a list that logs call a lawful prefix is called so by all accepted logs that have their lines:
+-- what a replica has executed stays lawful, whatever is committed later
 abbrev pub LawfulPrefixesStay : Type 0
 LawfulPrefixesStay = (list : List ℕ) (logs more : List (List ℕ)) → HaveLinesOf more logs
     → (m : List Instance) → IsAccepted more m

@@ -23,7 +23,8 @@ SameLinesAreAcceptedAlike = (logs other : List (List ℕ)) → HaveLinesOf logs 
     → HaveLinesOf other logs → FitLimits other → (m : List Instance) → IsAccepted logs m
     → IsAccepted other m
 
--- nor do they change a text of the committed map
+-- neither the order of logs and of their lines nor repeated lines change a text of the committed
+-- map
 abbrev pub SameLinesAreAnsweredAlike : Type 0
 SameLinesAreAnsweredAlike = (logs other : List (List ℕ)) → HaveLinesOf logs other
     → HaveLinesOf other logs → FitLimits other → (task : Task) (input text : List ℕ)

@@ -40,6 +40,7 @@ written_of_list (n ∷ r ∷ i ∷ before ∷ after ∷ []) =
     if is_text (codes "write") n then value_or_null after else None
 written_of_list _ = None
 
+-- the value with which a line of a trace ends, if it is a `write` line; null is `Some None`
 abbrev pub written_of : List ℕ → Option (Option ℤ)
 written_of line = option_and_then written_of_list (option_and_then elements (json_of line))
 

@@ -14,18 +14,24 @@ pub record Table : Type 0 where
   pub key_levels : List KeyLevels
   pub accesses : List TableAccess
 
+-- the levels of a key that no command has touched
 abbrev pub no_levels : KeyLevels
 no_levels = record { writers = 0; touchers = 0 }
 
+-- the levels of the key with the number x; for other numbers, those of a key that no command has
+-- touched
 abbrev pub key_levels_at : List KeyLevels → ℕ → KeyLevels
 key_levels_at key_levels x = slice_index_or key_levels x no_levels
 
+-- the key with the number x; the empty list if no key has this number
 abbrev pub key_at : List (List ℕ) → ℕ → List ℕ
 key_at keys x = slice_index_or keys x []
 
+-- the keys that a command touches, operation by operation, with repeats
 abbrev pub touched_in : List Op → List (List ℕ)
 touched_in ops = flat_map touched_by ops
 
+-- the keys that a command writes, operation by operation, with repeats
 abbrev pub written_in : List Op → List (List ℕ)
 written_in ops = flat_map written_by ops
 
@@ -40,6 +46,7 @@ pub record IsLevelAbove (keys_of : List Op → List (List ℕ)) (done : List (Li
 -- so far
 pub record IsKeyTableOf (done : List (List Op × ℕ)) (current : List (List ℕ × Bool))
     (t : Table) : Type 0 where
+  -- each key that a done command touches has a number in the table
   pub known : (ops : List Op) (l : ℕ) (k : List ℕ) → Contains done (ops, l)
       → Contains (touched_in ops) k → Contains t.keys k
   pub no_repeats : (x y : ℕ) → x < length t.keys → y < length t.keys
@@ -49,6 +56,8 @@ pub record IsKeyTableOf (done : List (List Op × ℕ)) (current : List (List ℕ
       → IsLevelAbove touched_in done (key_at t.keys x) (key_levels_at t.key_levels x).touchers
   pub writers : (x : ℕ) → x < length t.keys
       → IsLevelAbove written_in done (key_at t.keys x) (key_levels_at t.key_levels x).writers
+  -- the accesses, each with its key in place of the number, are those of the current command so
+  -- far
   pub current_keys : map (λ a. (key_at t.keys a.key, a.writes)) t.accesses ≡ current
   pub within : (a : TableAccess) → Contains t.accesses a → a.key < length t.keys
 

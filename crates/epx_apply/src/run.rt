@@ -58,7 +58,8 @@ fn evaluate(
     Ok(effects)
 }
 
-/// Does the same for one of the pieces into which the plan cuts the positions.
+/// Returns the effects of the commands at the positions of one piece, each over the same borrowed
+/// store. The plan cuts the positions into pieces.
 fn evaluate_piece(
     alloc: Global,
     store: &Store,
@@ -132,6 +133,7 @@ struct RunState {
 }
 
 impl RunState {
+    /// Returns the state before the first of so many commands: all replies are placeholders.
     fn new(alloc: Global, store: Store, commands: usize) -> Result<RunState, Memory>
         ensures store { IfOk result (λ w. w.store ≡ store) }
         ensures replies { IfOk result (λ w. length w.replies.items ≡ commands) }
@@ -289,6 +291,7 @@ fn run_levels<R: Threads + RandomSource + Sync, G: Gate + Sync>(
 /// time than to execute them.
 const MIN_LONG: usize = 4;
 
+/// Whether the commands have at least `MIN_LONG` operations on average.
 fn are_long(commands: &[Command]) -> bool {
     let mut ops = 0usize;
     for command in commands {

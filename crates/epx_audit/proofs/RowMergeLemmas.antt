@@ -118,7 +118,7 @@ paths_kept greatest paths path e value are noted = record {
   ];
 }
 
--- the same on another path
+-- the noted paths of a row, after a position is noted on a path that is appended to them
 pub paths_push : (greatest : List (Option ℕ)) (paths : List ℕ) (path value : ℕ)
     → AreNotedPaths greatest paths → path < length greatest
     → AreNotedPaths (set greatest path (Some value)) (paths ++ path ∷ [])
@@ -143,7 +143,7 @@ paths_push greatest paths path value are within = record {
   ];
 }
 
--- the same paths in another order
+-- the noted paths of a row may be listed in any order
 pub paths_sorted : (greatest : List (Option ℕ)) (paths sorted : List ℕ) → IsPermutation paths sorted
     → AreNotedPaths greatest paths → AreNotedPaths greatest sorted
 paths_sorted greatest paths sorted moves are = record {
@@ -333,7 +333,7 @@ module _ (old : CoverLists) (end : ℕ) (greatest row : List (Option ℕ)) (tail
     );
   }
 
-  -- the same for lists that are equal to these
+  -- lists that equal the old ones with the component pushed have it as their next component
   pub next_component : (members : List PathMember) (row_paths row_positions new_tails : List ℕ)
       → members ≡ old.members ++ replicate (end - length old.members) member
       → row_paths ≡ old.row_paths ++ paths → row_positions ≡ old.row_positions ++ added

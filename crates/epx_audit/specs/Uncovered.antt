@@ -14,7 +14,7 @@ pub record IsUncovered (m : List Instance) (x y : Id) : Type 0 where
       × Conflict d.ops e.ops
   pub apart : (¬ Reaches m x y) × (¬ Reaches m y x)
 
--- the least such pair: the lower Id first, compared by the first Id and then by the second
+-- the least uncovered pair: the lower Id first, compared by the first Id and then by the second
 pub record IsLeastUncovered (m : List Instance) (x y : Id) : Type 0 where
   pub rises : Below x y
   pub uncovered : IsUncovered m x y

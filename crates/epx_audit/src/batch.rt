@@ -30,6 +30,7 @@ pub(crate) struct SourceBatch {
 }
 
 impl SourceBatch {
+    /// The words of a batch of sources. Takes time linear in nodes, edges and doubtful touches.
     pub(crate) fn of(
         alloc: Global,
         graph: &Graph,

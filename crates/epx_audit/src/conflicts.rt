@@ -28,6 +28,7 @@ impl<'a> Model for CommandKeys<'a> {
 }
 
 impl<'a> CommandKeys<'a> {
+    /// The keys of the command with these operations, also if it aborts.
     fn of(alloc: Global, ops: &'a [Op]) -> Result<CommandKeys<'a>, Memory>
         ensures { IfOk result
             (λ keys. keys ≡ record {
@@ -77,6 +78,7 @@ fn have_common_key(keys: &[&Key], others: &[&Key]) -> bool
     false
 }
 
+/// Whether a key is in a list. Takes linear time.
 fn has_key(keys: &[&Key], key: &Key) -> bool
     ensures { IsTrue result ↔ Contains (map (λ k. k.now) keys.now) key.now }
 {

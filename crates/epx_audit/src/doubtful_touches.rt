@@ -42,6 +42,9 @@ pub(crate) struct DoubtfulTouches {
     pub(crate) unsettled: Vec<bool>,
 }
 
+/// Finds the doubtful keys of a map, and all their touches. Keys are distinguished by the hashes
+/// of a hasher that begins as `start`. If a second test does not find all other touches related,
+/// every node counts as a writer of one doubtful key.
 pub(crate) fn find_doubtful(
     alloc: Global,
     merged: &Merged,

@@ -121,6 +121,7 @@ impl PathCover {
         count
     }
 
+    /// A cover of no positions.
     fn new(alloc: Global) -> PathCover
         ensures members { (lists_of result).members ≡ [] }
         ensures row_paths { (lists_of result).row_paths ≡ [] }

@@ -27,6 +27,7 @@ pub(crate) struct PathSearch {
 }
 
 impl PathSearch {
+    /// The state before the first search of a graph with this many nodes.
     pub(crate) fn new(alloc: Global, nodes: usize) -> Result<PathSearch, Memory>
         ensures { IfOk result (λ path_search. length path_search.seen.items ≡ nodes) }
     {

@@ -22,6 +22,7 @@ pub(crate) fn source_marks(alloc: Global, len: usize, slots: &[usize]) -> Result
     Ok(words)
 }
 
+/// Whether a word has the source with this number.
 pub(crate) fn has_bit(word: u64, bit: usize) -> bool
     requires { bit < 64 }
     ensures { result ≡ has_bit bit word }

@@ -20,6 +20,7 @@ pub(crate) struct KeyUse {
     pub(crate) writes: bool,
 }
 
+/// The hash of a key, by a hasher that begins as `start`.
 fn hash_of(start: DefaultHasher, key: &Key) -> u64
     ensures { result ≡ hash_of start key.now }
 {

@@ -14,7 +14,7 @@ use Rattle.epx_blockers.specs.BlockerTexts.{IsBlockersText}
 abbrev pub BlockersTextExists : Type 0
 BlockersTextExists = (m : List Instance) → (text : List ℕ) × IsBlockersText m text
 
--- and no other one
+-- a map has at most one text that says what blocks its instances
 abbrev pub BlockersTextIsUnique : Type 0
 BlockersTextIsUnique = (m : List Instance) (text other : List ℕ) → IsBlockersText m text
     → IsBlockersText m other → text ≡ other

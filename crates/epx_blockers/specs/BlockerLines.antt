@@ -9,6 +9,7 @@ abbrev pub blocks_data : Blocker → List Data
 blocks_data b = string (codes "blocks") ∷ data_of_number b.id.replica
     ∷ data_of_number b.id.number ∷ data_of_number b.alone ∷ data_of_number b.named ∷ []
 
+-- the line about a missing instance, with both of its counts
 abbrev pub blocks_line : Blocker → List ℕ
 blocks_line b = line_of (blocks_data b)
 

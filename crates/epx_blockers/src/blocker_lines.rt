@@ -12,6 +12,7 @@ use epx_types::{Id, Memory};
 use serde_json::{Value, json};
 use std::alloc::{AllocError, Global};
 
+/// The array of a missing instance: `["blocks",r,i,alone,named]`.
 fn blocks_value(alloc: Global, blocker: Blocker) -> Result<Value, AllocError>
     ensures data { IfOk result (λ v. view v ≡ array_of (blocks_data blocker)) }
     ensures whole { IfOk result (λ v. has_float (view v) ≡ false) }

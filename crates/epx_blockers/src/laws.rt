@@ -7,7 +7,7 @@ pub fn blockers_text_exists()
     ensures { BlockersTextExists }
 {}
 
-/// A map has at most one such text.
+/// A map has at most one text that says what blocks its instances.
 pub fn blockers_text_is_unique()
     ensures { BlockersTextIsUnique }
 {}

@@ -114,7 +114,8 @@ fn expect_taken(
     Ok(())
 }
 
-/// The same for each number of bytes after which the sink fails.
+/// Expects that a sink which takes `at_once` bytes a call and fails after some bytes then holds
+/// these, for each number of bytes. One that would fail after the text takes all of it.
 fn expect_any_prefix(rt: &impl Abort, alloc: Global, at_once: usize) -> Result<(), Fail>
     requires { 1 ≤ at_once }
 {

@@ -6,7 +6,7 @@ use std::alloc::Global;
 use std::process::Abort;
 use std::test::Fail;
 
-/// The same instances as those of `three`, in the same order.
+/// The lines of a log with the instances of `three`, in their order.
 const THREE: &str = r#"{"r":2,"i":7,"seq":3,"deps":[[0,9]],"ops":[]}
 {"r":0,"i":9,"seq":2,"deps":[[1,1]],"ops":[]}
 {"r":1,"i":1,"seq":1,"deps":[[0,9]],"ops":[]}

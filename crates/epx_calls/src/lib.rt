@@ -33,9 +33,9 @@ mod lists;
 #[cfg(test)]
 mod orders;
 #[cfg(test)]
-mod read_logs_tests;
+mod read_logs;
 #[cfg(test)]
-mod run_order_tests;
+mod run_order;
 #[cfg(test)]
 mod seeds;
 #[cfg(test)]

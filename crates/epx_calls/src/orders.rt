@@ -102,7 +102,8 @@ fn deps_of(alloc: Global, numbers: &[u64]) -> Result<String, Memory> {
     Ok(deps)
 }
 
-/// The same for instances 0.0, 0.1 and so on. `edges` has the numbers that each depends on.
+/// Expects these leaders, and an order with these rows and `count` components, of a log of
+/// instances 0.0, 0.1 and so on. `edges` has the numbers that each depends on.
 fn expect_order_of<R: Abort + Threads + RandomSource + Sync>(
     rt: &R,
     alloc: Global,

@@ -27,7 +27,8 @@ impl Flow {
         Some(Flow { at_once, fuse })
     }
 
-    /// The same flow of a device that fails after this number of bytes.
+    /// The flow of a device that transfers as many bytes in one call, and that fails after this
+    /// number of bytes.
     pub(crate) fn with_failure_after(self, bytes: usize) -> Flow {
         Flow {
             at_once: self.at_once,

@@ -9,7 +9,7 @@ fn add_number(alloc: Global, text: &mut Vec<u8>, number: u64) -> Result<(), Allo
 }
 
 /// Adds the piece after a backslash. Its first letter selects what is added.
-fn add_piece(
+fn expand_escape(
     alloc: Global,
     text: &mut Vec<u8>,
     piece: &[u8],
@@ -46,7 +46,7 @@ fn add_round(
         text.extend_from_slice(first.as_bytes())?;
     }
     for piece in pieces {
-        add_piece(alloc, text, piece.as_bytes(), round, left)?;
+        expand_escape(alloc, text, piece.as_bytes(), round, left)?;
     }
     Ok(())
 }

@@ -26,7 +26,8 @@ fn written_again<R: Threads + RandomSource + Sync>(
     Ok(text)
 }
 
-/// The same, or the line of the fault.
+/// The state that is written of the executor that a text restores, behind the number of the line
+/// where the instances that wait begin. If the text is refused, the line of the fault.
 pub(crate) fn restored_state<R: Threads + RandomSource + Sync>(
     rt: &R,
     alloc: Global,

@@ -4,11 +4,11 @@ use Rattle.std.proofs.Common.{◌≡◌, ℕ, ◌+◌, ◌-◌, ◌/◌, ◌<◌
 use Rattle.std.proofs.Common.{List, [], ◌∷◌, get_or, sym, ap, ◌∙◌, arith}
 use Rattle.epx_types.proofs.Common.{All}
 use Rattle.epx_claims.specs.declared.seat_state.SeatState.{SeatState}
-use Rattle.epx_claims.specs.Count.{total, one_if, occurrences, once_below}
+use Rattle.epx_claims.specs.Count.{total, one_if, occurrences, indicator_below}
 use Rattle.epx_claims.specs.ClaimState.{ClaimState}
 use Rattle.epx_claims.specs.inner.Rule.{with_piece, at_end, split_in_two, join_two}
 use Rattle.epx_claims.proofs.SumLemmas.{total-le}
-use Rattle.epx_claims.proofs.CountLemmas.{once_below_more, once_below_full, total-append}
+use Rattle.epx_claims.proofs.CountLemmas.{indicator_below_more, indicator_below_full, total-append}
 use Rattle.epx_claims.proofs.CountLemmas.{occurs_at, below_from_once, below_min}
 use Rattle.epx_claims.proofs.CountLemmas.{positive_from_count, count_of_positive}
 
@@ -18,11 +18,11 @@ either_ended true b = omega arith
 either_ended false b = omega arith
 
 -- the ended shares of two are at most those of their join
-both_stops : (a b : Bool) (x y : ℕ) → cond a x 0 + cond b y 0 ≤ cond (a || b) (x + y) 0
-both_stops true true x y = omega arith
-both_stops true false x y = omega arith
-both_stops false true x y = omega arith
-both_stops false false x y = omega arith
+ended_shares-join : (a b : Bool) (x y : ℕ) → cond a x 0 + cond b y 0 ≤ cond (a || b) (x + y) 0
+ended_shares-join true true x y = omega arith
+ended_shares-join true false x y = omega arith
+ended_shares-join false true x y = omega arith
+ended_shares-join false false x y = omega arith
 
 stops_fit : (h : SeatState) → cond h.ended h.share 0 ≤ h.share
 stops_fit h = elim h.ended as (λ b. cond b h.share 0 ≤ h.share)
@@ -46,7 +46,7 @@ module _ (n w c : ℕ) where
       → ClaimState n w (c + 1) (with_piece c h ∷ hs)
   draw_keeps h hs left d = record {
     each_once = λ x. let p = total-append (λ y. one_if (eqb y x)) h.drawn (c ∷ []) in
-        let g = d.each_once x in let m = once_below_more x c n left in omega arith;
+        let g = d.each_once x in let m = indicator_below_more x c n left in omega arith;
     no_empty_share = d.no_empty_share;
     all_shares = d.all_shares;
     all_pieces_drawn = λ some_ended. let g = d.all_pieces_drawn some_ended in omega arith;
@@ -57,7 +57,8 @@ module _ (n w c : ℕ) where
   pub stop_keeps : (h : SeatState) (hs : List SeatState) → h.ended ≡ false → n ≤ c
       → ClaimState n w c (h ∷ hs) → ClaimState n w (c + 1) (at_end h ∷ hs)
   stop_keeps h hs not_ended full d = record {
-    each_once = λ x. let g = d.each_once x in let m = once_below_full x c n full in omega arith;
+    each_once = λ x.
+        let g = d.each_once x in let m = indicator_below_full x c n full in omega arith;
     no_empty_share = d.no_empty_share;
     all_shares = d.all_shares;
     all_pieces_drawn = λ some_ended. omega arith;
@@ -101,7 +102,7 @@ module _ (n w c : ℕ) where
     all_shares = let g = d.all_shares in omega arith;
     all_pieces_drawn = λ some_ended. let o = either_ended h.ended k.ended in
         d.all_pieces_drawn (omega arith);
-    few_stops = let g = d.few_stops in let b = both_stops h.ended k.ended h.share k.share in
+    few_stops = let g = d.few_stops in let b = ended_shares-join h.ended k.ended h.share k.share in
         omega arith;
   }
 
@@ -116,7 +117,7 @@ module _ (n w c : ℕ) where
 
   -- no number is in the lists of two seats, or twice in one
   pub apart : (h k : SeatState) (hs : List SeatState) → ClaimState n w c (h ∷ k ∷ hs) → (x : ℕ)
-      → occurrences x h.drawn + occurrences x k.drawn ≤ once_below x n
+      → occurrences x h.drawn + occurrences x k.drawn ≤ indicator_below x n
   apart h k hs d x = let e = d.each_once x in let b = below_min x c n in omega arith
 
   -- the word is at most the numbers of pieces and workers together, so it never wraps

@@ -7,7 +7,7 @@ use Rattle.atomic_table.specs.Table.{State, Final, Seen}
 use Rattle.epx_claims.specs.declared.seat_state.SeatState.{SeatState}
 use Rattle.epx_claims.specs.declared.seat_state.Terms.{Terms}
 use Rattle.epx_claims.specs.declared.seat_state.View.{View}
-use Rattle.epx_claims.specs.Count.{total, one_if, occurrences, once_below}
+use Rattle.epx_claims.specs.Count.{total, one_if, occurrences, indicator_below}
 use Rattle.epx_claims.specs.ClaimState.{ClaimState}
 use Rattle.epx_claims.specs.inner.Rule.{HasClaimState}
 use Rattle.epx_claims.proofs.StepLemmas.{drawn_in_all, state_by_view}
@@ -25,7 +25,7 @@ no_seat_states (h ∷ hs) none full = let p = positive_from_count h.share (omega
 -- has ended, the number of pieces
 pub record IsAllDrawn (pieces workers answer : ℕ) (h : SeatState) : Type 0 where
   pub length : answer ≡ length h.drawn
-  pub each_once : (x : ℕ) → occurrences x h.drawn ≡ once_below x answer
+  pub each_once : (x : ℕ) → occurrences x h.drawn ≡ indicator_below x answer
   pub all : h.ended ≡ true → answer ≡ pieces
   pub claim_state : (word : ℕ) × (answer ≡ min word pieces)
       × ClaimState pieces workers word (h ∷ [])
@@ -69,7 +69,8 @@ drawn_at_end terms id word v h ws xs is every found final =
       claim_state = (word, refl, d);
     }
 
--- the same, with the number of pieces and the answer under other names
+-- a seat that has every share when the table is closed has drawn all the pieces that were drawn;
+-- `pieces` and `answer` are variables with equations, so that they fit the fields of the claims
 pub drawn_at_close : (terms : Terms) (id word pieces answer : ℕ) (v : View) (h : SeatState)
     (ws : List ℕ) (xs : List (Unit {0})) → v.seat_states ≡ h ∷ [] → h.share ≡ terms.workers
     → get_elem? ws 0 ≡ some word

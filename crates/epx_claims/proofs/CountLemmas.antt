@@ -2,7 +2,7 @@
 use Rattle.std.proofs.Common.{◌≡◌, ◌≢◌, ℕ, ◌+◌, ◌<◌, ◌≤◌, eqb, min, List, [], ◌∷◌, ◌++◌, length}
 use Rattle.std.proofs.Common.{get_or, zero, suc, arith}
 use Rattle.epx_types.proofs.Common.{nat_tests}
-use Rattle.epx_claims.specs.Count.{total, one_if, occurrences, once_below}
+use Rattle.epx_claims.specs.Count.{total, one_if, occurrences, indicator_below}
 
 -- if the test that a number is 0 counts as 0, it is positive
 pub positive_from_count : (a : ℕ) → one_if (eqb a 0) ≡ 0 → 0 < a
@@ -13,16 +13,17 @@ pub count_of_positive : (a : ℕ) → 0 < a → one_if (eqb a 0) ≡ 0
 count_of_positive a h = grind (arith, nat_tests)
 
 -- if the bound grows by one, one more number is below it
-pub once_below_more : (x c n : ℕ) → c < n
-    → once_below x (min (c + 1) n) ≡ once_below x (min c n) + one_if (eqb c x)
-once_below_more x c n h = grind (arith, nat_tests)
+pub indicator_below_more : (x c n : ℕ) → c < n
+    → indicator_below x (min (c + 1) n) ≡ indicator_below x (min c n) + one_if (eqb c x)
+indicator_below_more x c n h = grind (arith, nat_tests)
 
 -- a word that grows past the number of pieces changes nothing
-pub once_below_full : (x c n : ℕ) → n ≤ c → once_below x (min (c + 1) n) ≡ once_below x (min c n)
-once_below_full x c n h = grind (arith, nat_tests)
+pub indicator_below_full : (x c n : ℕ) → n ≤ c
+    → indicator_below x (min (c + 1) n) ≡ indicator_below x (min c n)
+indicator_below_full x c n h = grind (arith, nat_tests)
 
 -- a number that counts is below the word
-pub below_from_once : (x c n : ℕ) → 1 ≤ once_below x (min c n) → x < c
+pub below_from_once : (x c n : ℕ) → 1 ≤ indicator_below x (min c n) → x < c
 below_from_once x c n h = grind (arith, nat_tests)
 
 -- the sum over two lists, one appended to the other
@@ -38,17 +39,17 @@ occurs_at (y ∷ ys) zero d h = grind (arith, nat_tests)
 occurs_at (y ∷ ys) (suc k) d h = omega (arith, occurs_at ys k d (omega arith))
 
 -- a number that counts as below the bound is below it
-pub below_from_once_below : (x n : ℕ) → 1 ≤ once_below x n → x < n
-below_from_once_below x n h = grind (arith, nat_tests)
+pub below_from_indicator_below : (x n : ℕ) → 1 ≤ indicator_below x n → x < n
+below_from_indicator_below x n h = grind (arith, nat_tests)
 
 -- the converse
-pub once_below_yes : (x n : ℕ) → x < n → once_below x n ≡ 1
-once_below_yes x n h = grind (arith, nat_tests)
+pub indicator_below_yes : (x n : ℕ) → x < n → indicator_below x n ≡ 1
+indicator_below_yes x n h = grind (arith, nat_tests)
 
 -- the test that two different numbers are equal counts as 0
 pub other_counts_none : (a b : ℕ) → b ≢ a → one_if (eqb a b) ≡ 0
 other_counts_none a b h = grind (arith, nat_tests)
 
 -- a number counts for the lesser of two bounds at most as often as for the other
-pub below_min : (x c n : ℕ) → once_below x (min c n) ≤ once_below x n
+pub below_min : (x c n : ℕ) → indicator_below x (min c n) ≤ indicator_below x n
 below_min x c n = grind (arith, nat_tests)

@@ -6,7 +6,7 @@ use Rattle.epx_claims.specs.declared.claims.Claims.TheInside.{Inside as Claims}
 use Rattle.epx_claims.specs.declared.seat.ClaimSeat.TheInside.{Inside as Seat}
 use Rattle.epx_claims.specs.declared.seat_state.SeatState.{SeatState}
 use Rattle.epx_claims.specs.inner.ClaimsFields.{claims_view}
-use Rattle.epx_claims.specs.Count.{occurrences, once_below}
+use Rattle.epx_claims.specs.Count.{occurrences, indicator_below}
 use Rattle.epx_claims.specs.ClaimState.{ClaimState, StateStep}
 use Rattle.epx_claims.specs.inner.Rule.{seat_state}
 use Rattle.epx_claims.specs.inner.SeatFields.{seat_view, drawn_of}
@@ -22,7 +22,7 @@ same_claims s c v k is own shows = ap (λ z. z.claims) is ∙ own ∙ sym shows
 pub step_apart : (pieces workers word next : ℕ) (seat_states after : List SeatState)
     (h k : SeatState) (n : ℕ) → seat_states ≡ h ∷ k ∷ [] → pieces ≡ n
     → StateStep pieces workers word next seat_states after → (x : ℕ)
-    → occurrences x h.drawn + occurrences x k.drawn ≤ once_below x n
+    → occurrences x h.drawn + occurrences x k.drawn ≤ indicator_below x n
 step_apart pieces workers word next seat_states after h k n is same change x =
     let with_rest =
     subst (λ (p : List SeatState × ℕ). ClaimState p.1 workers word (p.0 ++ change.others))

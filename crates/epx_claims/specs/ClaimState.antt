@@ -2,12 +2,14 @@
 -- seat has the list of pieces that it drew, a share, and a mark once it has ended.
 use Rattle.std.specs.Prelude.{◌≡◌, ℕ, ◌+◌, ◌<◌, ◌≤◌, ◌==◌, ◌++◌, min, List, if◌then◌else◌}
 use Rattle.epx_claims.specs.declared.seat_state.SeatState.{SeatState}
-use Rattle.epx_claims.specs.Count.{total, count, occurrences, once_below}
+use Rattle.epx_claims.specs.Count.{total, count, occurrences, indicator_below}
 
+-- The word and the seats are consistent: each piece below the word was drawn once, by one seat,
+-- and the shares of the seats add up to all workers
 pub record ClaimState (pieces workers word : ℕ) (seat_states : List SeatState) : Type 0 where
   -- the lists together hold each number below the word and below `pieces` once, and no other
   pub each_once : (x : ℕ) → total (λ h. occurrences x h.drawn) seat_states
-      ≡ once_below x (min word pieces)
+      ≡ indicator_below x (min word pieces)
   -- each seat has a share of at least 1
   pub no_empty_share : count (λ h. h.share == 0) seat_states ≡ 0
   -- the shares add up to `workers`

@@ -3,11 +3,14 @@ use Rattle.std.specs.Prelude.{◌≡◌, ℕ, Bool, false, List, []}
 use Rattle.atomic_table.specs.Seated.{TableId}
 use Rattle.epx_claims.specs.declared.seat_state.SeatState.{SeatState}
 
+-- claims as contracts see them: which table they are, and the numbers of pieces and of workers
 pub record ClaimsView : Type 0 where
   pub table : TableId
   pub pieces : ℕ
   pub workers : ℕ
 
+-- a seat as contracts see it: its claims, the pieces that it has drawn, in order, how many workers
+-- it counts for, and whether it has ended
 pub record SeatView : Type 0 where
   pub claims : ClaimsView
   pub drawn : List ℕ

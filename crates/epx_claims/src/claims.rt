@@ -2,7 +2,7 @@
 ghost use Rattle.std.specs.Prelude.{◌≡◌, ◌<◌, ◌≤◌, ◌^◌, ◌+◌, ◌-◌, ◌/◌, ◌++◌, ◌||◌, [], ◌∷◌, ℕ};
 ghost use Rattle.std.specs.Prelude.{min, true, false, None, length, IfOk, IfSome, IfNone};
 ghost use Rattle.std.specs.List.{All};
-ghost use Rattle.epx_claims.specs.Count.{occurrences, once_below};
+ghost use Rattle.epx_claims.specs.Count.{occurrences, indicator_below};
 ghost use Rattle.epx_claims.specs.ClaimStep.{ClaimStep, IsClaimState};
 ghost use Rattle.epx_claims.specs.Seated.{IsSeatOf, fresh_seat};
 
@@ -123,7 +123,7 @@ impl Claims {
           ended = seat.old.ended || other.ended;
         } }
         ensures apart { (x : ℕ) → occurrences x seat.old.drawn + occurrences x other.drawn
-            ≤ once_below x self.now.pieces }
+            ≤ indicator_below x self.now.pieces }
         ensures claim_state { (word : ℕ) × ClaimStep self.now word word (seat.old ∷ other ∷ [])
             (seat.new ∷ []) }
     {
@@ -145,7 +145,7 @@ impl Claims {
         requires own { IsSeatOf self seat }
         requires share { seat.share ≡ self.workers }
         ensures length { result ≡ length seat.drawn }
-        ensures each_once { (x : ℕ) → occurrences x seat.drawn ≡ once_below x result }
+        ensures each_once { (x : ℕ) → occurrences x seat.drawn ≡ indicator_below x result }
         ensures all { seat.ended ≡ true → result ≡ self.pieces }
         ensures claim_state { (word : ℕ) × (result ≡ min word self.pieces)
             × IsClaimState self word (seat ∷ []) }

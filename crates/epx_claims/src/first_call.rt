@@ -10,6 +10,7 @@ pub(crate) trait FirstCall {
 
     ghost run_gives: { Self → Self.Output → Type 0 };
 
+    /// Does the work. It takes the value, so the work is done at most once.
     fn run(self) -> Self::Output
         requires { can_run self }
         ensures { run_gives self result };

@@ -37,8 +37,11 @@ pub fn claimed_map<
     claimed_map_after(rt, alloc, n, plan, gate, &mut || (), f).1
 }
 
-/// As `claimed_map`, but the caller's thread calls `first` once before it draws numbers, while the
-/// other workers draw them. Returns also what `first` gave.
+/// What `first` returned, and the answers of `f` for all numbers below `n`, in order.
+///
+/// The caller's thread calls `first` once before it draws numbers, while the other workers draw
+/// them already. With one worker, or at most one number, `first` is called before any work.
+/// Workers, gate and errors are those of `claimed_map`.
 pub fn claimed_map_after<
     R: Threads + Sync,
     T: Send + Drop,
@@ -79,7 +82,8 @@ pub fn claimed_map_after<
     }
 }
 
-// Claims for the numbers below `n`, with a seat for each worker.
+/// Claims for the numbers below `n`, with a seat for each worker, that of the caller's thread
+/// first.
 fn seats_of(
     alloc: Global,
     n: usize,
@@ -97,7 +101,7 @@ fn seats_of(
     Ok((claims, seat, others))
 }
 
-// The values of all numbers, in order.
+/// The values of all numbers, in order, from the joined results of all workers.
 fn values_of<T: Drop, E: From<Memory> + Drop, F: Fn(usize) -> Result<T, E>>(
     alloc: Global,
     claims: Claims,
@@ -120,7 +124,7 @@ fn values_of<T: Drop, E: From<Memory> + Drop, F: Fn(usize) -> Result<T, E>>(
     Ok(values_by_number(alloc, drawn as usize, answers, f)?)
 }
 
-// The same map, in the caller's thread alone.
+/// The answers of `f` for all numbers below `n`, in order, computed by the caller's thread alone.
 fn plain_map<T: Drop, E: From<Memory> + Drop, G: Gate, F: Fn(usize) -> Result<T, E>>(
     alloc: Global,
     n: usize,
@@ -141,7 +145,7 @@ fn plain_map<T: Drop, E: From<Memory> + Drop, G: Gate, F: Fn(usize) -> Result<T,
     Ok(values)
 }
 
-// Appends a value.
+/// Appends a value, which is dropped if memory runs out.
 fn push_value<T: Drop>(values: &mut Vec<T>, value: T) -> Result<(), Memory>
     ensures { IfOk result (λ _. values.new.items ≡ values.old.items ++ value ∷ []) }
 {

@@ -28,7 +28,7 @@ pub(crate) struct WorkResult<T> {
     pub(crate) answers: Vec<PieceValue<T>>,
 }
 
-// One worker: draws until no piece is left, or until an error.
+/// One worker: draws until no piece is left, or until an error.
 fn draw_all<T: Drop, E: From<Memory> + Drop, G: Gate, F: Fn(usize) -> Result<T, E>>(
     alloc: Global,
     claims: &Claims,
@@ -56,7 +56,7 @@ fn draw_all<T: Drop, E: From<Memory> + Drop, G: Gate, F: Fn(usize) -> Result<T, 
     Ok(WorkResult { seat, answers })
 }
 
-// Appends an answer.
+/// Appends an answer, which is dropped if memory runs out.
 fn push_answer<T: Drop>(
     answers: &mut Vec<PieceValue<T>>,
     answer: PieceValue<T>,
@@ -67,7 +67,7 @@ fn push_answer<T: Drop>(
     Ok(())
 }
 
-// Joins the seats and the answers of two parts.
+/// Joins the seats and the answers of two parts of the work.
 fn join_results<T: Drop>(
     claims: &Claims,
     left: WorkResult<T>,

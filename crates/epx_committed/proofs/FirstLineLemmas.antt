@@ -27,7 +27,7 @@ module _ (lists : Lists) (old : FirstLines) (h : AreFirstLines lists old) where
   abbrev rows : List Row
   rows = old.rows.items
 
-  -- the same rows and marks
+  -- first lines stay right where the rows are those of before and each Id keeps its mark
   pub AreFirstLines-same : (new : FirstLines) → new.rows.items ≡ rows
       → ((x : Id) → mark_of new.index x ≡ mark_of old.index x) → AreFirstLines lists new
   AreFirstLines-same new same marks = record {

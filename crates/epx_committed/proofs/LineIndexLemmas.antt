@@ -20,7 +20,7 @@ pub there : (ids : List Id) (index : LineIndex) (x : Id) (k : ℕ) → IsIndexOf
     → mark_of index x ≡ k + 1 → slice_get ids k ≡ Some x
 there ids index x k h is = subst (IsMarkIn ids x) (is ∙ add-one k) (h x)
 
--- the same marks
+-- an index in which each Id keeps its mark still has the positions of the list
 pub IsIndexOf-same : (ids : List Id) (old new : LineIndex) → IsIndexOf ids old
     → ((x : Id) → mark_of new x ≡ mark_of old x) → IsIndexOf ids new
 IsIndexOf-same ids old new h same x = subst (IsMarkIn ids x) (sym (same x)) (h x)

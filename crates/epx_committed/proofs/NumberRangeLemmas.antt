@@ -70,7 +70,7 @@ module _ (ids : List Id) (ranges : List NumberRange) (id : Id) (position : ℕ) 
 pub AreRangesIn-nil : (ids : List Id) → AreRangesIn ids []
 AreRangesIn-nil ids x h = absurd (omega (arith, h.0, h.1))
 
--- the same ranges
+-- ranges stay right where each Id keeps the range of its replica
 pub AreRangesIn-same : (ids : List Id) (old new : List NumberRange)
     → ((x : Id) → range_of new x ≡ range_of old x) → AreRangesIn ids old → AreRangesIn ids new
 AreRangesIn-same ids old new same are x h =

@@ -9,6 +9,6 @@ entry_lines_from n [] = []
 entry_lines_from n (e ∷ es) = record { place = record { log = 0; line = n }; instance = e }
     ∷ entry_lines_from (suc n) es
 
--- lines are numbered from 1
+-- entries as the lines of log 0, in their order, from line 1 on
 abbrev pub entry_lines : List Instance → List Placed
 entry_lines es = entry_lines_from 1 es

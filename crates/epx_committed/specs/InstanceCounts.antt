@@ -11,8 +11,10 @@ pub record AreNamedBy (lines : List Placed) (ids : List Id) : Type 0 where
   pub whole : (p : Placed) → Contains lines p → Contains ids p.instance.id
   pub named : (x : Id) → Contains ids x → (p : Placed) × Contains lines p × (p.instance.id ≡ x)
 
+-- the lines have at most `max_instances` distinct Ids
 abbrev pub FewInstances : List Placed → Type 0
 FewInstances lines = (ids : List Id) × AreNamedBy lines ids × (length ids ≤ max_instances)
 
+-- the lines have more distinct Ids than `max_instances`
 abbrev pub ManyInstances : List Placed → Type 0
 ManyInstances lines = (ids : List Id) × AreNamedBy lines ids × (max_instances < length ids)

@@ -6,6 +6,7 @@ use Rattle.epx_types.specs.PlacedLines.{Placed}
 use Rattle.epx_types.specs.Agreement.{Differ}
 use Rattle.epx_committed.specs.declared.ledger.Disagreement.{Disagreement}
 
+-- what is seen of a ledger: each instance with its first line, and some with their disagreements
 pub record LedgerView : Type 0 where
   pub firsts : List (Id × Placed)
   pub disagreements : List (Id × Disagreement)
@@ -15,6 +16,7 @@ abbrev pub IsFirstWhere : (Placed → Type 0) → List Placed → Placed → Typ
 IsFirstWhere P [] p = ⊥
 IsFirstWhere P (q ∷ lines) p = ((q ≡ p) × P q) ⊎ ((¬ P q) × IsFirstWhere P lines p)
 
+-- the line commits the instance x
 abbrev pub IsLineOf : Id → Placed → Type 0
 IsLineOf x p = p.instance.id ≡ x
 
@@ -28,6 +30,8 @@ pub record IsDisagreementOf (lines : List Placed) (x : Id) (disagreement : Disag
   pub first_place : first.place ≡ disagreement.first
   pub second_place : second.place ≡ disagreement.second
 
+-- What the ledger has of the lines. Each of their instances is there with its first line. An
+-- instance whose lines differ has its disagreement, and no other has one.
 pub record IsLedgerOf (lines : List Placed) (noted : LedgerView) : Type 0 where
   pub firsts : (x : Id) (p : Placed) → Contains noted.firsts (x, p)
       → IsFirstWhere (IsLineOf x) lines p

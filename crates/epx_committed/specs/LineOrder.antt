@@ -8,5 +8,6 @@ abbrev pub AreSortedBy : {X : Type 0} → (X → Place) → List X → Type 0
 AreSortedBy at [] = Unit {0}
 AreSortedBy {X} at (x ∷ xs) = ((y : X) → Contains xs y → Earlier (at x) (at y)) × AreSortedBy at xs
 
+-- the lines come by rising place, each place once
 abbrev pub IsSortedByPlace : List Placed → Type 0
 IsSortedByPlace lines = AreSortedBy (λ p. p.place) lines

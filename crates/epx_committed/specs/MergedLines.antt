@@ -12,6 +12,7 @@ use Rattle.epx_types.specs.Agreement.{Agree, IsFirstDisagreement}
 use Rattle.epx_types.specs.CommittedMap.{IsCommittedBy}
 use Rattle.epx_committed.specs.InstanceCounts.{FewInstances, ManyInstances}
 
+-- the lines name few enough instances and agree, and this is the map that they commit
 pub record IsMerged (lines : List Placed) (m : List Instance) : Type 0 where
   pub small : FewInstances lines
   pub agree : Agree lines

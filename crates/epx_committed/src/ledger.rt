@@ -112,7 +112,8 @@ impl FirstLines {
 /// How many marks a ledger may have beside five for each Id, if nobody knows how many lines come.
 const SPARE_MARKS: usize = 65_536;
 
-/// The same beside those for each line, if the number of lines is known.
+/// How many marks a ledger may have beside five for each Id and one for each line, if the number
+/// of lines is known.
 const FEW_SPARE_MARKS: usize = 1_024;
 
 /// Records lists of lines. Keeps each list that has the first line of an instance.
@@ -143,13 +144,15 @@ impl Ledger {
         Ledger::with_spare(alloc, seed, SPARE_MARKS)
     }
 
-    /// The same, for about this many lines. A few lines then cost little, whatever their numbers.
+    /// A ledger of no lines, for about this many. Its tables hash with the seed. A few lines cost
+    /// little memory, whatever the numbers of their instances are.
     pub fn for_lines(alloc: Global, seed: Seed, lines: usize) -> Ledger
         ensures { IsLedgerOf [] result }
     {
         Ledger::with_spare(alloc, seed, lines.saturating_add(FEW_SPARE_MARKS))
     }
 
+    /// A ledger of no lines, which may have this many marks beside five for each Id.
     fn with_spare(alloc: Global, seed: Seed, spare: usize) -> Ledger
         ensures { IsLedgerOf [] result }
     {

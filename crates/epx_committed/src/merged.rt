@@ -54,6 +54,7 @@ fn take_entry(alloc: Global, lists: &mut Vec<Vec<PlacedEntry>>, row: Row) -> Ent
 }
 
 impl Merged {
+    /// The map of the instances whose first lines these rows name, by rising Id.
     pub(crate) fn new(
         lists: Vec<Vec<PlacedEntry>>,
         rows: Vec<Row>,

@@ -21,24 +21,28 @@ impl Model for PlacedEntry {
 }
 
 impl PlacedEntry {
+    /// The entry of a line, and the place of that line.
     pub fn new(place: Place, entry: Entry) -> PlacedEntry
         ensures { result ≡ record { place = place; instance = entry } }
     {
         PlacedEntry { place, entry }
     }
 
+    /// The Id of the entry.
     pub(crate) fn id(&self) -> Id
         ensures { result ≡ self.now.instance.id }
     {
         self.entry.id()
     }
 
+    /// The log and the number of the line.
     pub(crate) fn place(&self) -> Place
         ensures { result ≡ self.now.place }
     {
         self.place
     }
 
+    /// The entry of the line.
     pub(crate) fn entry(&self) -> &Entry
         ensures { result.now ≡ self.now.instance }
     {

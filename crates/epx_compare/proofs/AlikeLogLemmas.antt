@@ -2,7 +2,8 @@
 use Rattle.std.proofs.Common.{◌≡◌, ◌<◌, ◌==◌, ◌&&◌, ◌∙◌, ◌+◌, ◌++◌, ℕ, zero, suc, Bool, true, false}
 use Rattle.std.proofs.Common.{get_or, List, [], ◌∷◌, length, Contains, Some, slice_get, flat_map}
 use Rattle.std.proofs.Common.{refl, sym, ap, subst, inl, inr, arith}
-use Rattle.epx_types.proofs.Common.{Decides, cases_Bool, nat_tests, slice_get-get_or}
+use Rattle.std.proofs.lemmas.Bool.Decides.{Decides-eqb}
+use Rattle.epx_types.proofs.Common.{cases_Bool, slice_get-get_or}
 use Rattle.epx_types.proofs.Common.{slice_get_within, Instance, IsCommittedBy, Placed}
 use Rattle.epx_types.proofs.Common.{IsRising-same, slice_get-from_Contains, Contains-slice_get}
 use Rattle.epx_types.proofs.Common.{Contains-nil, Contains-head}
@@ -58,9 +59,6 @@ no_gap log (g ∷ gaps) none = absurd
     (left_nil (line_of (lacks_data log g)) (flat_map (λ gap. line_of (lacks_data log gap)) gaps)
     none))
 
-nat_eq_decides : (m n : ℕ) → Decides (m == n) (m ≡ n)
-nat_eq_decides m n = (λ h. grind (arith, nat_tests), λ h. grind (arith, nat_tests))
-
 both_hold : (a b : Bool) → (a && b) ≡ true → (a ≡ true) × (b ≡ true)
 both_hold true true e = (refl, refl)
 both_hold true false e = absurd (cc e)
@@ -76,14 +74,14 @@ module _ (lines : List Placed) (log : ℕ) where
       let both = both_hold (p.0.place.log == log) (same_id p.0.instance.id x) p.2 in (
         p.0,
         p.1,
-        (nat_eq_decides p.0.place.log log).0 both.0,
+        (Decides-eqb p.0.place.log log).0 both.0,
         (ids_decide p.0.instance.id x).0 both.1,
       )
 
   line_has : (p : Placed) → Contains lines p → p.place.log ≡ log
       → has_line lines log p.instance.id ≡ true
   line_has p among numbered =
-      let first = (nat_eq_decides p.place.log log).1 numbered in
+      let first = (Decides-eqb p.place.log log).1 numbered in
       let second = (ids_decide p.instance.id p.instance.id).1 refl in
       let test : ((p.place.log == log) && same_id p.instance.id p.instance.id) ≡ true =
       λ i. first i && second i in

@@ -1,7 +1,8 @@
 -- The versions of an instance, and the places of the lines of each.
 use Rattle.std.proofs.Common.{◌≡◌, ◌∙◌, ◌==◌, ℕ, Bool, true, false, cond, not, List, [], ◌∷◌, Some}
 use Rattle.std.proofs.Common.{map, filter, slice_get, refl, sym, ap, arith, inl, inr, AllPairs}
-use Rattle.epx_types.proofs.Common.{AllZip, cases_lt, nat_tests, AllPairs-filter}
+use Rattle.std.proofs.lemmas.Bool.{eq-eqb}
+use Rattle.epx_types.proofs.Common.{AllZip, cases_lt, eqb-true, AllPairs-filter}
 use Rattle.epx_types.proofs.Common.{AllPairs-slice_get, AllPairs-from_parts, passes-from_filter}
 use Rattle.epx_types.proofs.Common.{Instance, Placed}
 use Rattle.epx_types.specs.declared.id.Id.{Id}
@@ -140,7 +141,7 @@ places_by_number lines v e at (row ∷ rows) (p ∷ some) rel =
           λ i. rel.place i ∷ rest i
       by lines v e at row rows p some rel rest false false number same = rest
       by lines v e at row rows p some rel rest true false number same =
-          let n : row.version ≡ v = grind (arith, nat_tests) in
+          let n = eqb-true row.version v number in
           let here = ap (slice_get (versions_of lines)) n in
           let found = rel.version in
           let equal : e ≡ p.instance = cc in
@@ -149,7 +150,7 @@ places_by_number lines v e at (row ∷ rows) (p ∷ some) rel =
       by lines v e at row rows p some rel rest false true number same =
           let equal = same_by_test e p.instance same in
           let n = one_number lines row.version v e (rel.version ∙ ap Some (sym equal)) at in
-          let yes : (row.version == v) ≡ true = grind (arith, nat_tests) in
+          let yes = eq-eqb row.version v n in
           absurd (cc)
 
 -- the lines of an instance have all the places of its versions

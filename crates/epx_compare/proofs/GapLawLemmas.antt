@@ -1,7 +1,8 @@
 -- The gaps of rising Ids are the longest runs of those that are lacked.
 use Rattle.std.proofs.Common.{◌≡◌, ◌⊎◌, ◌<◌, ◌≤◌, ◌==◌, ◌&&◌, ◌∙◌, ℕ, Bool, true, false, not, List}
 use Rattle.std.proofs.Common.{[], ◌∷◌, Contains, AllPairs, refl, sym, ap, subst, inl, inr, arith}
-use Rattle.epx_types.proofs.Common.{Decides, cases_Bool, nat_tests, Below, IsRising}
+use Rattle.std.proofs.lemmas.Bool.Decides.{Decides-eqb}
+use Rattle.epx_types.proofs.Common.{cases_Bool, Below, IsRising}
 use Rattle.epx_types.proofs.Common.{AllPairs-from_parts, AllPairs-head, AllPairs-tail}
 use Rattle.epx_types.proofs.Common.{AllPairs-slice_get, AllPairs-from_slice_get, Contains-nil}
 use Rattle.epx_types.proofs.Common.{Contains-head, Contains-cons, Contains-cons_cases}
@@ -17,9 +18,6 @@ Below-number x y l same = elim (Below-parts x y l) [
   | inl less ↦ absurd (omega (arith, less, same))
   | inr both ↦ both.1
 ]
-
-nat_eq_decides : (m n : ℕ) → Decides (m == n) (m ≡ n)
-nat_eq_decides m n = (λ h. grind (arith, nat_tests), λ h. grind (arith, nat_tests))
 
 module _ (has : Id → Bool) where
   abbrev AreApart : List Id → Gap → Gap → Type 0
@@ -229,7 +227,7 @@ module _ (has : Id → Bool) where
     by : (a b : Bool) → (y.replica == replica) ≡ a → has y ≡ b → (a && not b) ≡ true
         → (y.replica ≡ replica) × (has y ≡ false)
     by true true p q e = absurd (cc e)
-    by true false p q e = ((nat_eq_decides y.replica replica).0 p, q)
+    by true false p q e = ((Decides-eqb y.replica replica).0 p, q)
     by false b p q e = absurd (cc e)
 
   begins : (y : Id) (ids : List Id) → has y ≡ false → BeginsAt y (gaps_of has (y ∷ ids))
@@ -278,7 +276,7 @@ module _ (has : Id → Bool) where
         | inl here ↦
             let lacks : has y ≡ false = ap has here ∙ first.lacks in
             let one : y.replica ≡ x.replica = ap (λ (z : Id). z.replica) here ∙ sym same in
-            let test = (nat_eq_decides y.replica x.replica).1 one in
+            let test = (Decides-eqb y.replica x.replica).1 one in
             let on : goes_on has x.replica (y ∷ ids) ≡ true = rw test (rw lacks refl) in
             absurd (cc (on, ends))
         | inr later ↦
@@ -302,7 +300,7 @@ module _ (has : Id → Bool) where
                 },
               )
               | inr lacks ↦
-                  let test = (nat_eq_decides y.replica x.replica).1 one in
+                  let test = (Decides-eqb y.replica x.replica).1 one in
                   let on : goes_on has x.replica (y ∷ ids) ≡ true = rw test (rw lacks refl) in
                   absurd (cc (on, ends))
             ]

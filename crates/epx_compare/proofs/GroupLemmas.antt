@@ -2,7 +2,8 @@
 use Rattle.std.proofs.Common.{◌≡◌, ◌∙◌, ◌+◌, ◌<◌, ◌==◌, ◌∷◌, ℕ, true, List, [], Option, Some, map}
 use Rattle.std.proofs.Common.{filter, length, slice_get, slice_index_or, All, Contains, refl, sym}
 use Rattle.std.proofs.Common.{ap, subst, arith}
-use Rattle.epx_types.proofs.Common.{nat_tests, length-map, get_or_default, Contains-get_or, map-map}
+use Rattle.std.proofs.lemmas.Bool.{eq-eqb}
+use Rattle.epx_types.proofs.Common.{eqb-true, length-map, get_or_default, Contains-get_or, map-map}
 use Rattle.epx_types.proofs.Common.{slice_get_within, get_or_from_slice_get, slice_get-from_map}
 use Rattle.epx_types.proofs.Common.{map-agree, passes-from_filter, rising_position_is_unique}
 use Rattle.epx_types.proofs.Common.{IsRising, Instance, Placed}
@@ -72,10 +73,9 @@ rows_of_version rows groups are v =
       only = λ p among.
           let found = slice_get-from_map (λ r. r.version) rows p v ((are.exact v p).0 among) in
           let n = found.2 in
-          let same : (found.0.version == v) ≡ true = grind (arith, nat_tests) in
-          ((omega arith), (found.0, found.1, same));
+          ((omega arith), (found.0, found.1, eq-eqb found.0.version v n));
       whole = λ p r from at_p same.
-          let n : r.version ≡ v = grind (arith, nat_tests) in
+          let n = eqb-true r.version v same in
           (are.exact v p).1 (slice_get-map (λ r. r.version) rows p r at_p ∙ ap Some n);
     })
 

@@ -1,5 +1,6 @@
 mod GapLemmas
 mod CatalogLemmas
+mod CommittedIdLemmas
 mod LogTextLemmas
 mod LogCountLemmas
 mod MarkLemmas

@@ -2,14 +2,9 @@
 use Rattle.std.proofs.Common.{◌≡◌, ◌∙◌, ◌+◌, ◌<◌, ◌≤◌, ◌≢◌, ◌==◌, ℕ, true, false, List, length}
 use Rattle.std.proofs.Common.{take, get_or, count_by, set, inl, inr, sym, ap, subst, arith}
 use Rattle.std.proofs.Common.{get_or-set_same, get_or-set_other}
-use Rattle.epx_types.proofs.Common.{cases_Bool, nat_tests, length-take-le, count_by-le-length}
+use Rattle.epx_types.proofs.Common.{cases_Bool, eqb-true, length-take-le, count_by-le-length}
 use Rattle.epx_types.proofs.Common.{count_by_more_no, count_by_more_yes}
-
-same_log : (m n : ℕ) → (m == n) ≡ true → m ≡ n
-same_log m n e = grind (arith, nat_tests)
-
-other_log : (m n : ℕ) → m ≢ n → (m == n) ≡ false
-other_log m n e = grind (arith, nat_tests)
+use Rattle.std.proofs.lemmas.Bool.{eqb-false, ne_eqb}
 
 module _ {X : Type 0} (log_of : X → ℕ) (xs : List X) (i : ℕ) (d : X) (within : i < length xs)
     (counts : List ℕ) (logs : ℕ)
@@ -28,7 +23,7 @@ module _ {X : Type 0} (log_of : X → ℕ) (xs : List X) (i : ℕ) (d : X) (with
   count_more log own room l inside =
       elim (cases_Bool (log == l)) [
         | inl same ↦
-            let is : log ≡ l = same_log log l same in
+            let is : log ≡ l = eqb-true log l same in
             let passes = ap (λ n. n == l) own ∙ same in
             subst (λ k. get_or (set counts log (get_or counts log 0 + 1)) k 0
             ≡ count_by (λ x. log_of x == l) (take (i + 1) xs)) is
@@ -36,7 +31,7 @@ module _ {X : Type 0} (log_of : X → ℕ) (xs : List X) (i : ℕ) (d : X) (with
             ∙ (ap (λ k. get_or counts k 0 + 1) is ∙ (ap (λ n. n + 1) (counted l inside)
             ∙ sym (count_by_more_yes (λ x. log_of x == l) xs i d within passes))))
         | inr other ↦
-            let apart : l ≢ log = grind (arith, nat_tests) in
+            let apart : l ≢ log = λ e. eqb-false log l other (sym e) in
             get_or-set_other counts log l (get_or counts log 0 + 1) 0 apart
             ∙ (counted l inside ∙ sym (count_by_more_no (λ x. log_of x == l) xs i d within
             (ap (λ n. n == l) own ∙ other)))
@@ -47,4 +42,4 @@ module _ {X : Type 0} (log_of : X → ℕ) (xs : List X) (i : ℕ) (d : X) (with
       → get_or counts l 0 ≡ count_by (λ x. log_of x == l) (take (i + 1) xs)
   count_same past l inside = counted l inside
       ∙ sym (count_by_more_no (λ x. log_of x == l) xs i d within
-      (other_log (log_of (get_or xs i d)) l (omega arith)))
+      (ne_eqb (log_of (get_or xs i d)) l (λ e. omega arith)))

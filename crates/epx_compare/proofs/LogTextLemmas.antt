@@ -34,25 +34,25 @@ same_length true false x y xs ys e rest = absurd (cc e)
 same_length false true x y xs ys e rest = absurd (cc e)
 same_length false false x y xs ys e rest = rest
 
--- as many rows of a log as lines of it
-rows_filtered : (versions : List Instance) (log : ℕ) (rows : List NotedLine) (lines : List Placed)
-    → AllZip (IsRowOf versions) rows lines
+-- of the noted rows, so many are of a log as `lines_in` says
+length-rows_of_log : (versions : List Instance) (log : ℕ) (rows : List NotedLine)
+    (lines : List Placed) → AllZip (IsRowOf versions) rows lines
     → length (filter (λ r. r.place.log == log) rows) ≡ lines_in lines log
-rows_filtered versions log [] [] rel = refl
-rows_filtered versions log [] (p ∷ lines) rel = absurd rel
-rows_filtered versions log (row ∷ rows) [] rel = absurd rel
-rows_filtered versions log (row ∷ rows) (p ∷ lines) rel =
+length-rows_of_log versions log [] [] rel = refl
+length-rows_of_log versions log [] (p ∷ lines) rel = absurd rel
+length-rows_of_log versions log (row ∷ rows) [] rel = absurd rel
+length-rows_of_log versions log (row ∷ rows) (p ∷ lines) rel =
     same_length (row.place.log == log) (p.place.log == log) row p _ _
     (ap (λ (at : Place). at.log == log) rel.0.place)
-    (rows_filtered versions log rows lines rel.1)
+    (length-rows_of_log versions log rows lines rel.1)
 
 pub rows_count : (versions : List Instance) (log : ℕ) (rows : List NotedLine) (lines : List Placed)
     → AllZip (IsRowOf versions) rows lines
     → count_by (λ r. r.place.log == log) rows ≡ lines_in lines log
 rows_count versions log rows lines rel = sym (length-filter (λ r. r.place.log == log) rows)
-    ∙ rows_filtered versions log rows lines rel
+    ∙ length-rows_of_log versions log rows lines rel
 
--- as many bad lines of a log
+-- of the noted bad lines, so many are of a log as `bad_lines_in` says
 bad_filtered : (log : ℕ) (noted : List NotedBadLine)
     → length (filter (λ b. b.place.log == log) noted) ≡ bad_lines_in (map bad_line_at noted) log
 bad_filtered log [] = refl

@@ -1,7 +1,8 @@
 -- The marks of a log say which instances it has lines of.
 use Rattle.std.proofs.Common.{◌≡◌, ◌∙◌, ◌==◌, ◌&&◌, ◌||◌, ℕ, List, [], ◌∷◌, zero, suc, map, Some}
 use Rattle.std.proofs.Common.{slice_get, slice_index, refl, sym, ap, arith}
-use Rattle.epx_types.proofs.Common.{list_any, AllZip, Decides, nat_tests, IsRising, Instance}
+use Rattle.std.proofs.lemmas.Bool.Decides.{Decides-eqb}
+use Rattle.epx_types.proofs.Common.{list_any, AllZip, Decides, IsRising, Instance}
 use Rattle.epx_types.proofs.Common.{Placed, rising_position_is_unique}
 use Rattle.epx_types.specs.declared.id.Id.{Id}
 use Rattle.epx_types.specs.declared.place.Place.{Place}
@@ -12,9 +13,6 @@ use Rattle.epx_versions.specs.SameInstances.{same_id}
 use Rattle.epx_versions.specs.inner.EqualVersions.{ids_decide}
 use Rattle.epx_compare.specs.inner.LogMarks.{is_line_in}
 use Rattle.epx_versions.specs.NotedRows.{IsRowOf}
-
-nat_eq_decides : (m n : ℕ) → Decides (m == n) (m ≡ n)
-nat_eq_decides m n = (λ h. grind (arith, nat_tests), λ h. grind (arith, nat_tests))
 
 -- the position of a version, and the Id there
 pub position_at : (ids : List Id) (versions : List Instance) (positions : List ℕ)
@@ -40,10 +38,10 @@ module _ (ids : List Id) (rising : IsRising ids) where
         → Decides (slice_index positions v == k) (e.id ≡ x)
     position_decides v e found =
         let own = position_at ids versions positions same v e found in (
-          λ h. let there : slice_index positions v ≡ k = (nat_eq_decides _ _).0 h in
+          λ h. let there : slice_index positions v ≡ k = (Decides-eqb _ _).0 h in
               let both : Some e.id ≡ Some x =
               sym own ∙ (ap (slice_get ids) there ∙ at) in cc both,
-          λ e_is. (nat_eq_decides _ _).1
+          λ e_is. (Decides-eqb _ _).1
               (rising_position_is_unique ids rising (slice_index positions v) k x
               (own ∙ ap Some e_is)
               at),

@@ -19,7 +19,7 @@ use Rattle.epx_compare.proofs.DependencyLemmas.{from_listed, listed}
 pub eq_laws : IsEquivalence id_eq.eq-value.it
 eq_laws = decided id_eq.eq-value.it eq_decides
 
--- the same counts
+-- entries with the counts of f are those of g too, if f and g count each Id alike
 pub AreCounts-agree : (f g : Id → ℕ) (es : List (Id × ℕ)) → ((x : Id) → f x ≡ g x) → AreCounts f es
     → AreCounts g es
 AreCounts-agree f g es same counts x = counts x ∙ ap stored (same x)

@@ -18,11 +18,14 @@ IsComparisonRefusal logs (LogTooLong log) = (length logs ≤ max_logs) × IsFirs
 IsComparisonRefusal logs TooManyInstances = FitLimits logs × ManyInstances (placed_of logs)
 IsComparisonRefusal logs _ = ⊥
 
+-- the text compares the logs, which are neither too many nor too long, and name few enough
+-- instances
 pub record IsComparisonOf (logs : List (List ℕ)) (text : List ℕ) : Type 0 where
   pub fit : FitLimits logs
   pub few : FewInstances (placed_of logs)
   pub compared : IsComparison logs text
 
+-- what logs say against each other, or the first refusal
 abbrev pub Compares : List (List ℕ) → Result (List ℕ) Fault → Type 0
 Compares logs (Ok text) = IsComparisonOf logs text
 Compares logs (Err fault) = IsComparisonRefusal logs fault

@@ -13,7 +13,7 @@ use Rattle.epx_compare.specs.Comparisons.{IsComparison, HasFindings, bad_text, d
 abbrev pub ComparisonExists : Type 0
 ComparisonExists = (logs : List (List ℕ)) → (text : List ℕ) × IsComparison logs text
 
--- and one thing alone
+-- logs say one thing alone against each other
 abbrev pub ComparisonIsUnique : Type 0
 ComparisonIsUnique = (logs : List (List ℕ)) (a b : List ℕ) → IsComparison logs a
     → IsComparison logs b → a ≡ b

@@ -18,9 +18,11 @@ abbrev pub bad_data : BadLineAt → List Data
 bad_data b = string (codes "bad") ∷ data_of_number b.place.log ∷ data_of_number b.place.line
     ∷ string (why_text b.why) ∷ []
 
+-- a place, as `[L,N]`: log L and line N
 abbrev pub place_data : Place → Data
 place_data p = array_of (data_of_number p.log ∷ data_of_number p.line ∷ [])
 
+-- the places of lines that commit the same
 abbrev pub group_data : List Place → Data
 group_data places = array_of (map place_data places)
 

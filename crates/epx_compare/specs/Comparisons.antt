@@ -32,6 +32,7 @@ difference_in [] x own = []
 difference_in (member ∷ members) x own =
     line_of (differs_data x (member ∷ members) (groups_of own))
 
+-- a line if lines commit the instance differently, and no text otherwise
 abbrev pub difference_text : List Placed → Id → List ℕ
 difference_text lines x = let own = lines_of_id lines x in
     difference_in (differing_members own) x own

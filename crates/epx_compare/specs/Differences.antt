@@ -17,6 +17,7 @@ abbrev pub some_differ : (Instance → Instance → Bool) → List Placed → Bo
 some_differ same lines =
     list_any (λ p. list_any (λ q. not (same p.instance q.instance)) lines) lines
 
+-- the name of a member if it differs, and none otherwise
 abbrev pub named_if : Bool → List ℕ → List (List ℕ)
 named_if differs name = if differs then name ∷ [] else []
 

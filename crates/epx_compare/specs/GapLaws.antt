@@ -4,13 +4,15 @@ use Rattle.epx_types.specs.declared.id.Id.{Id}
 use Rattle.epx_types.specs.Ids.{IsRising}
 use Rattle.epx_compare.specs.Gaps.{Gap, gaps_of}
 
--- the first and the last instance of a gap, and all between
+-- the first instance of a gap
 abbrev pub first_lacked : Gap → Id
 first_lacked gap = record { replica = gap.replica; number = gap.from }
 
+-- the last instance of a gap
 abbrev pub last_of : Gap → Id
 last_of gap = record { replica = gap.replica; number = gap.to }
 
+-- x is an instance of the gap's replica, from its first number to its last, both included
 abbrev pub IsInGap : Gap → Id → Type 0
 IsInGap gap x = (x.replica ≡ gap.replica) × (gap.from ≤ x.number) × (x.number ≤ gap.to)
 
@@ -41,6 +43,7 @@ pub record AreGaps (has : Id → Bool) (ids : List Id) (gaps : List Gap) : Type 
   pub ends : (gap : Gap) → Contains gaps gap → HasLackedEnds has ids gap
   pub apart : AllPairs (λ g h. g.replica ≡ h.replica → (x : Id) × IsBetween has ids g h x) gaps
 
+-- `gaps_of` returns the gaps among rising Ids
 abbrev pub GapsAreOfTheLacked : Type 0
 GapsAreOfTheLacked = (has : Id → Bool) (ids : List Id) → IsRising ids
     → AreGaps has ids (gaps_of has ids)

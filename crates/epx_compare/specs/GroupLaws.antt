@@ -22,6 +22,7 @@ pub record AreGroups (lines : List Placed) (groups : List (List Place)) : Type 0
       → Contains lines q → Contains group p.place
       → Contains group q.place ↔ (p.instance ≡ q.instance)
 
+-- `groups_of` groups the places of lines that commit the same, if no two lines have one place
 abbrev pub GroupsAreOfTheSame : Type 0
 GroupsAreOfTheSame = (lines : List Placed) → HaveDistinctPlaces lines
     → AreGroups lines (groups_of lines)

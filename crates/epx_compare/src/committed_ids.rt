@@ -50,6 +50,7 @@ impl CommittedIds {
         Ok(CommittedIds { ids, hints })
     }
 
+    /// The Ids, in rising order.
     pub(crate) fn ids(&self) -> &[Id]
         ensures ids { result.now ≡ self.now }
         ensures rising { IsRising self.now }

@@ -124,7 +124,8 @@ pub fn compare<R: Threads + RandomSource + Sync>(
     compare_sources(rt, alloc, &mut sources, plan)
 }
 
-/// As `compare`, for the logs of sources, which are read in order. `Fault::Read` can come too.
+/// What the logs of sources say against each other, in the lines that `compare` describes. The
+/// sources are read in order. The faults are those of `compare`, and `Fault::Read`.
 pub fn compare_sources<R: Threads + RandomSource + Sync, S: Source>(
     rt: &R,
     alloc: Global,

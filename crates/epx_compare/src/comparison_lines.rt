@@ -1,8 +1,9 @@
 //! Writes the lines of a comparison: JSON (RFC 8259) in compact form, each ended by a line feed.
-ghost use Rattle.std.specs.Prelude.{◌≡◌, ◌++◌, ◌∷◌, [], false, IfOk, OnOk};
+ghost use Rattle.std.specs.Prelude.{◌≡◌, ◌++◌, ◌∷◌, [], false, map, IfOk, OnOk};
+ghost use Rattle.serde_json.specs.Data.{string};
 ghost use Rattle.serde_json.specs.View.{view};
 ghost use Rattle.serde_json.specs.Written.{has_float, compact_text};
-ghost use Rattle.epx_report.specs.ReportLines.{array_of, line_feed, line_of};
+ghost use Rattle.epx_report.specs.ReportLines.{array_of, data_of_number, line_feed, line_of};
 ghost use Rattle.epx_compare.specs.ComparisonLines.{log_data, bad_data, lacks_data};
 ghost use Rattle.epx_compare.specs.ComparisonLines.{missing_count_data};
 ghost use Rattle.epx_versions.specs.NotedRows.{bad_line_at};
@@ -26,29 +27,33 @@ pub(crate) fn append_line(alloc: Global, text: &mut Vec<u8>, value: &Value) -> R
     Ok(())
 }
 
-fn log_value(alloc: Global, log: u64, lines: u64, bad: u64) -> Result<Value, AllocError>
-    ensures data { IfOk result (λ v. view v ≡ array_of (log_data log lines bad)) }
-    ensures whole { IfOk result (λ v. has_float (view v) ≡ false) }
+/// The array of a name and numbers.
+fn numbers_value(alloc: Global, name: &str, numbers: &[u64]) -> Result<Value, AllocError>
+    ensures { IfOk result (λ v. view v
+        ≡ array_of (string name.now ∷ map data_of_number numbers.now)) }
 {
-    json!(in alloc; ["log", log, lines, bad])
+    let mut parts = Vec::new(alloc);
+    parts.push(json!(in alloc; name)?)?;
+    for number in numbers {
+        parts.push(json!(in alloc; *number)?)?;
+    }
+    Ok(Value::Array(parts))
 }
 
-fn lacks_value(alloc: Global, log: u64, gap: Gap) -> Result<Value, AllocError>
-    ensures data { IfOk result (λ v. view v ≡ array_of (lacks_data log gap)) }
-    ensures whole { IfOk result (λ v. has_float (view v) ≡ false) }
+/// Appends the line of a name and numbers.
+fn append_numbers(
+    alloc: Global,
+    text: &mut Vec<u8>,
+    name: &str,
+    numbers: &[u64],
+) -> Result<(), Memory>
+    ensures { OnOk result (text.new.items
+        ≡ text.old.items ++ line_of (string name.now ∷ map data_of_number numbers.now)) }
 {
-    let Gap { replica, from, to } = gap;
-    json!(in alloc; ["lacks", log, replica, from, to])
+    append_line(alloc, text, &numbers_value(alloc, name, numbers)?)
 }
 
-fn missing_value(alloc: Global, id: Id, count: u64) -> Result<Value, AllocError>
-    ensures data { IfOk result (λ v. view v ≡ array_of (missing_count_data id count)) }
-    ensures whole { IfOk result (λ v. has_float (view v) ≡ false) }
-{
-    let Id { replica, number } = id;
-    json!(in alloc; ["missing", replica, number, count])
-}
-
+/// `["bad",L,N,"WHY"]`: a bad line, and why it is bad.
 fn bad_value(alloc: Global, bad: NotedBadLine) -> Result<Value, Memory>
     ensures data { IfOk result (λ v. view v ≡ array_of (bad_data (bad_line_at bad))) }
     ensures whole { IfOk result (λ v. has_float (view v) ≡ false) }
@@ -68,11 +73,7 @@ pub(crate) fn append_log(
 ) -> Result<(), Memory>
     ensures { OnOk result (text.new.items ≡ text.old.items ++ line_of (log_data log lines bad)) }
 {
-    append_line(
-        alloc,
-        text,
-        &log_value(alloc, log as u64, lines as u64, bad as u64)?,
-    )
+    append_numbers(alloc, text, "log", &[log as u64, lines as u64, bad as u64])
 }
 
 /// Appends the line of a bad line.
@@ -93,7 +94,13 @@ pub(crate) fn append_lacks(
     ensures { OnOk result (text.new.items
         ≡ text.old.items ++ line_of (lacks_data log gap)) }
 {
-    append_line(alloc, text, &lacks_value(alloc, log as u64, gap)?)
+    let Gap { replica, from, to } = gap;
+    append_numbers(
+        alloc,
+        text,
+        "lacks",
+        &[log as u64, replica as u64, from, to],
+    )
 }
 
 /// Appends the line of a dependency that no log commits.
@@ -106,5 +113,11 @@ pub(crate) fn append_missing(
     ensures { OnOk result
         (text.new.items ≡ text.old.items ++ line_of (missing_count_data id count)) }
 {
-    append_line(alloc, text, &missing_value(alloc, id, count as u64)?)
+    let Id { replica, number } = id;
+    append_numbers(
+        alloc,
+        text,
+        "missing",
+        &[replica as u64, number, count as u64],
+    )
 }

@@ -23,6 +23,7 @@ use epx_versions::NotedLine;
 use serde_json::{Value, json};
 use std::alloc::{AllocError, Global};
 
+/// A place, as `[L,N]`: log L and line N.
 fn place_value(alloc: Global, place: Place) -> Result<Value, AllocError>
     ensures { IfOk result (λ v. view v ≡ place_data place) }
 {
@@ -61,6 +62,7 @@ fn group_values(
     Ok(groups)
 }
 
+/// Appends the name of a member if it differs.
 fn push_name(
     alloc: Global,
     names: &mut Vec<Value>,
@@ -76,6 +78,7 @@ fn push_name(
     Ok(())
 }
 
+/// The names of the members that differ, in the order in which an answer has them.
 fn member_names(alloc: Global, members: Members) -> Result<Vec<Value>, AllocError>
     ensures { IfOk result (λ names. map view names.items ≡ map string (names_of members)) }
 {
@@ -86,6 +89,8 @@ fn member_names(alloc: Global, members: Members) -> Result<Vec<Value>, AllocErro
     Ok(names)
 }
 
+/// `["differs",r,i,[MEMBER,..],[GROUP,..]]`: the members in which lines of an instance differ, and
+/// the groups of their places.
 fn differs_value(
     alloc: Global,
     id: Id,

@@ -10,12 +10,14 @@ pub(crate) struct LogSet {
 }
 
 impl LogSet {
+    /// The set of no logs.
     pub(crate) fn empty() -> LogSet
         ensures { (log : ℕ) → has_log log result ≡ false }
     {
         LogSet { bits: 0 }
     }
 
+    /// Adds a log.
     pub(crate) fn insert(&mut self, log: usize)
         requires { log < max_logs }
         ensures { (l : ℕ) → has_log l self.new ≡ (has_log l self.old || (log == l)) }
@@ -23,6 +25,7 @@ impl LogSet {
         self.bits |= 1 << log;
     }
 
+    /// Whether the log is in the set.
     pub(crate) fn contains(self, log: usize) -> bool
         requires { log < max_logs }
         ensures { result ≡ has_log log self }

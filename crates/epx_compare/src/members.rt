@@ -14,6 +14,7 @@ pub(crate) struct Members {
     pub(crate) ops: bool,
 }
 
+/// What the version with this number commits.
 fn entry_at(versions: &Versions, number: usize) -> &Entry
     requires { number < length versions.now.keys }
     ensures { result.now ≡ version_at versions.now.keys number }

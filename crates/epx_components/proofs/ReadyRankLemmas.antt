@@ -46,7 +46,8 @@ module _ (m : List Instance) (g : DependencyGraph) (is : IsGraphOf m g) where
         depth = depth_from_node m g is k e.id s.depth node node_rank.depth;
       }
 
--- the same for what is left of a map, with the entry of the whole map
+-- the rank of a node of what is left of a map: its sequence number is that of its entry in the
+-- whole map
 pub rank_left : (done : List Id) (m : List Instance) (g : DependencyGraph)
     → IsGraphOf (remaining done m) g → (k : ℕ) (x : Id) (e : Instance) (s : NodeRank) (leader : Id)
     → slice_get g.ids k ≡ Some x → Contains m e → e.id ≡ x → k < g.committed → IsNodeRank g k s

@@ -8,7 +8,8 @@ NodeDescends edges k [] = Unit {0}
 NodeDescends edges k (c ∷ cs) = NodeReaches edges k c × ¬ NodeReaches edges c k
     × NodeDescends edges c cs
 
--- the greatest number of steps of such a chain
+-- the depth of node k: the greatest number of steps of a chain from it in which each reaches the
+-- next and is not reached by it
 pub record IsNodeDepth (edges : ℕ → List ℕ) (k depth : ℕ) : Type 0 where
   pub descent : (cs : List ℕ) × NodeDescends edges k cs × (length cs ≡ depth)
   pub longest : (cs : List ℕ) → NodeDescends edges k cs → length cs ≤ depth

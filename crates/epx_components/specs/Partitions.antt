@@ -26,6 +26,8 @@ abbrev pub MembersReach : (ℕ → List ℕ) → List ℕ → Type 0
 MembersReach edges component = (k j : ℕ) → k < length component → j < length component
     → slice_index component k ≡ slice_index component j → NodeReaches edges k j
 
+-- components with numbers, such that no edge leads to a greater number and two nodes of one number
+-- reach each other; and a list of the nodes, each once, by rising component
 pub record IsPartition (edges : ℕ → List ℕ) (p : ComponentParts) : Type 0 where
   pub within : (k j : ℕ) → Contains (edges k) j → j < length p.component
   pub falls : EdgesFall edges p.component

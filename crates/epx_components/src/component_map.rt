@@ -17,7 +17,9 @@ use std::marker::Model;
 /// The component of each node. Contracts see each node's leader.
 #[derive(Debug, Drop)]
 pub struct ComponentMap {
+    /// The number of the component of each node.
     component: Vec<usize>,
+    /// For each component, the node that leads it.
     leaders: Vec<usize>,
 }
 

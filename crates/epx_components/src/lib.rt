@@ -7,6 +7,7 @@ mod collector;
 mod component_map;
 mod depths;
 mod leaders;
+mod merge_groups;
 mod missing;
 mod node_ranks;
 mod order_list;
@@ -14,7 +15,6 @@ mod partition;
 mod rank;
 mod ready;
 mod search;
-mod starts;
 mod visit;
 
 pub use bottom_up::collect_bottom_up;

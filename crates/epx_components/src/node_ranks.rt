@@ -22,9 +22,12 @@ pub struct NodeRank {
 /// The rank of each node. The nodes of a component share their rank.
 #[derive(Debug, Drop)]
 pub struct NodeRanks {
+    /// The component of each node.
     component: Vec<usize>,
+    /// For each component, the node that leads it.
     leaders: Vec<usize>,
     depths: Vec<usize>,
+    /// For each component, whether it reaches a missing node.
     missing: Vec<bool>,
 }
 

@@ -31,6 +31,8 @@ impl Model for OrderList {
 }
 
 impl OrderList {
+    /// The list of the instances that have these ranks. It keeps the order of the ranks, so
+    /// callers sort them before.
     pub fn new(alloc: Global, ranks: Vec<Rank>) -> Result<OrderList, Memory>
         ensures { IfOk result (λ order. order ≡ ranked_all ranks.items) }
     {
@@ -45,6 +47,7 @@ impl OrderList {
         self.ranks.len()
     }
 
+    /// Whether no instance is ready.
     pub fn is_empty(&self) -> bool
         ensures { result ≡ (length self.now == 0) }
     {

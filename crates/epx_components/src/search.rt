@@ -12,8 +12,8 @@ ghost use Rattle.epx_components.specs.inner.SearchSteps.{IsInTopGroup};
 ghost use Rattle.epx_components.specs.declared.visit.Visit.TheVariants.{Unseen};
 ghost use Rattle.epx_components.specs.inner.SearchWork.{work_left};
 
+use crate::merge_groups::merge_groups;
 use crate::partition::Partition;
-use crate::starts::merge_groups;
 use crate::visit::{Visit, close_nodes, component_numbers};
 use epx_graph::Graph;
 use epx_types::Memory;

@@ -5,6 +5,7 @@ use Rattle.std.specs.Io.KnownBytes.{Keeps}
 use Rattle.epx_devices.specs.Models.{OpenerModel, SaverModel, SinkModel, SourceModel}
 use Rattle.epx_devices.specs.Reads.{IsOneRead}
 
+-- a reader, what it has returned, and whether a call has failed
 pub record ReaderState (R : Type 0) : Type 0 where
   pub reader : R
   -- all bytes that it has returned
@@ -27,6 +28,7 @@ reader_source remaining = record {
   has_failed = λ s. s.failed;
 }
 
+-- a writer, what it has accepted, and whether a call has failed
 pub record WriterState (W : Type 0) : Type 0 where
   pub writer : W
   -- all bytes that it has accepted
@@ -71,6 +73,7 @@ abbrev pub IsNextFile : {O F : Type 0} → OpenerModel O F → PathState O F →
 IsNextFile opening s file =
     MatchOption s.file (opening.opens s.opener s.path file) (λ first. first ≡ file)
 
+-- the opener and the path did not change
 abbrev pub IsSamePath : {O F : Type 0} → PathState O F → PathState O F → Type 0
 IsSamePath s t = (t.opener ≡ s.opener) × (t.path ≡ s.path)
 
@@ -88,7 +91,8 @@ FailsPathYet {O} {F} opening D s t = IsSamePath s t
     ⊎ ((before : F) × (after : F)
     × IsNextFile opening s before × (t.file ≡ Some after) × D.fails before after))
 
--- the same, and the source knows that it has failed
+-- no file was open and none could be opened, or one read of the next file failed; and the source
+-- records that a call has failed
 abbrev pub FailsPath : {O F : Type 0} → OpenerModel O F → SourceModel F
     → PathState O F → PathState O F → Type 0
 FailsPath opening D s t = (t.failed ≡ true) × FailsPathYet opening D s t

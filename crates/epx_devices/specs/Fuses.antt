@@ -4,6 +4,7 @@ use Rattle.std.specs.Prelude.{option_map}
 use Rattle.epx_devices.specs.Models.{SinkModel, SourceModel}
 use Rattle.epx_devices.specs.Reads.{IsOneRead}
 
+-- a source or a sink in memory, and how many bytes it may still transfer before it fails
 pub record FuseState : Type 0 where
   -- the remaining bytes of a source, or the bytes that a sink has accepted
   pub bytes : List ℕ
@@ -17,9 +18,11 @@ pub record FuseState : Type 0 where
 abbrev pub allowed_of : ℕ → ℕ → Option ℕ → ℕ
 allowed_of n at_once fuse = min (min n at_once) (unwrap_or fuse n)
 
+-- how many of n bytes the next call of the device transfers
 abbrev pub allowed : FuseState → ℕ → ℕ
 allowed d n = allowed_of n d.at_once d.fuse
 
+-- the device may transfer no more bytes
 abbrev pub IsSpent : FuseState → Type 0
 IsSpent d = d.fuse ≡ Some 0
 

@@ -23,6 +23,7 @@ pub struct FileSaver<'a, R> {
 }
 
 impl<'a, R> FileSaver<'a, R> {
+    /// A saver of files of this system.
     pub fn new(system: &'a R) -> FileSaver<'a, R> {
         FileSaver { system }
     }

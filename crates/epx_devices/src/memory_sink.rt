@@ -25,6 +25,7 @@ impl Model for MemorySink {
 }
 
 impl MemorySink {
+    /// A sink that has accepted nothing.
     pub fn new(alloc: Global) -> MemorySink
         ensures { result ≡ record { bytes = []; failed = false } }
     {

@@ -23,6 +23,7 @@ impl<'a> Model for MemorySource<'a> {
 }
 
 impl<'a> MemorySource<'a> {
+    /// A source of these bytes.
     pub fn new(bytes: &'a [u8]) -> MemorySource<'a>
         ensures { result ≡ bytes.now }
     {

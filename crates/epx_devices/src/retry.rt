@@ -7,6 +7,7 @@ use std::io::{self, Error, ErrorKind, Read, Write};
 /// A call that is interrupted more often than this in a row fails. So each call returns.
 const MAX_RETRIES: usize = 1_000;
 
+/// Whether a signal interrupted the call, which may be repeated then.
 fn is_interrupted(error: &Error) -> bool {
     error.kind() == ErrorKind::Interrupted
 }

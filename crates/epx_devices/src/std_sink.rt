@@ -35,6 +35,7 @@ impl<W> Model for StdSink<W> {
 }
 
 impl<W: Write> StdSink<W> {
+    /// A sink over the writer. Its contents are what it accepts from now on.
     pub fn new(writer: W) -> StdSink<W>
         ensures { result
             ≡ record { writer = writer; taken = []; flushed = false; failed = false } }

@@ -29,6 +29,7 @@ impl<R> Model for StdSource<R> {
 }
 
 impl<R: Read> StdSource<R> {
+    /// A source over the reader, from where the reader is now.
     pub fn new(reader: R) -> StdSource<R>
         ensures { result ≡ record { reader = reader; returned = []; failed = false } }
     {

@@ -16,6 +16,7 @@ impl Model for Transferred {
 }
 
 impl Transferred {
+    /// No bytes are transferred yet.
     pub(crate) fn new() -> Transferred
         ensures { result.bytes ≡ [] }
     {

@@ -4,6 +4,7 @@ ghost use Rattle.epx_types.specs.Keys.{FitsKey};
 use epx_types::{Entry, Id, Key, Memory, Op};
 use std::alloc::Global;
 
+/// The key of an account.
 fn key(alloc: Global, text: &str) -> Result<Key, Memory>
     requires { FitsKey text.now }
 {

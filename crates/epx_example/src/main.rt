@@ -91,6 +91,7 @@ fn two_runs<R: Threads + RandomSource + Sync>(rt: &R, alloc: Global) -> Result<S
     Ok(text)
 }
 
+/// Prints the text of both runs, or a fault to standard error with its status.
 fn main(rt: HostRuntime) -> io::Result<ExitCode> {
     match two_runs(&rt, rt.alloc()) {
         Ok(text) => print!(rt; "{text}")?,

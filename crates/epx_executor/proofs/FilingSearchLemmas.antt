@@ -65,7 +65,7 @@ length-le_from_found filings seen found are filed =
 
 -- ---- lists to which Ids are appended
 
--- nothing new
+-- if all with P are in the list, nothing is appended
 pub AreAppended-none : (P : Id → Type 0) (old : List Id) → ((x : Id) → P x → Contains old x)
     → AreAppended P old old
 AreAppended-none P old there = record {
@@ -75,7 +75,7 @@ AreAppended-none P old there = record {
   whole = there;
 }
 
--- more of the same
+-- Ids with P are appended, then those with Q: so those with R, which are the Ids with P or Q
 pub AreAppended-both : (P Q R : Id → Type 0) (old middle new : List Id) → AreAppended P old middle
     → AreAppended Q middle new → ((x : Id) → P x → R x) → ((x : Id) → Q x → R x)
     → ((x : Id) → R x → P x ⊎ Q x) → AreAppended R old new

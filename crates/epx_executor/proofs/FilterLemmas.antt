@@ -15,7 +15,7 @@ module _ {X : Type 0} (p : X → Bool) (xs : List X) (k : ℕ) (d : X) (l : k < 
       → filter p (take (k + 1) xs) ≡ filter p (take k xs) ++ get_or xs k d ∷ []
   filter-kept e = next ∙ ap (λ ys. filter p (take k xs) ++ ys) (rw e)
 
-  -- it does not
+  -- the next element does not pass
   pub filter-skipped : p (get_or xs k d) ≡ false
       → filter p (take (k + 1) xs) ≡ filter p (take k xs)
   filter-skipped e = next ∙ ap (λ ys. filter p (take k xs) ++ ys) (rw e)

@@ -14,7 +14,7 @@ use Rattle.epx_executor.specs.Commits.{not_done}
 
 -- ---- paths of a part
 
--- more instances, the same paths
+-- what an instance reaches in a part of a map it reaches in the map
 pub Reaches-more : (part m : List Instance) → ((e : Instance) → Contains part e → Contains m e)
     → (x y : Id) → Reaches part x y → Reaches m x y
 Reaches-more part m within x y there =

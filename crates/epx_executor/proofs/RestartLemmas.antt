@@ -36,7 +36,7 @@ module _ (a b : List Id) (same : (x : Id) → Contains a x ↔ Contains b x) whe
       (λ (p : Placed). not (is_among b p.instance.id)) lines
       (λ p h. ap not (among p.instance.id))
 
--- ---- they commit alike
+-- ---- executors that hold the same commit alike
 
 module _ (map_is_unique : CommittedMapIsUnique) (order_is_unique : ExecutionOrderIsUnique)
     (v w : ExecutorView) (same : HoldTheSame v w) (came : List Instance)

@@ -5,6 +5,7 @@ use Rattle.epx_types.specs.declared.id.Id.{Id}
 use Rattle.epx_types.specs.Ids.{Below, UpTo}
 use Rattle.epx_executor.specs.declared.done_runs.Run.{Run}
 
+-- the Id is of the replica of the run, and its number is one of the run
 abbrev pub IsInRun : Run → Id → Type 0
 IsInRun r x = (x.replica ≡ r.replica) × (r.first ≤ x.number) × (x.number ≤ r.last)
 
@@ -12,9 +13,11 @@ IsInRun r x = (x.replica ≡ r.replica) × (r.first ≤ x.number) × (x.number �
 abbrev pub IsInRuns : List Run → Id → Type 0
 IsInRuns runs x = (r : Run) × Contains runs r × IsInRun r x
 
+-- the Id with the first number of a run
 abbrev pub start_of : Run → Id
 start_of r = record { replica = r.replica; number = r.first }
 
+-- the Id with the last number of a run
 abbrev pub end_of : Run → Id
 end_of r = record { replica = r.replica; number = r.last }
 
@@ -22,6 +25,7 @@ end_of r = record { replica = r.replica; number = r.last }
 abbrev pub IsFilledRun : Run → Type 0
 IsFilledRun r = r.first ≤ r.last
 
+-- each run has a number
 abbrev pub AreFilled : List Run → Type 0
 AreFilled runs = All IsFilledRun runs
 
@@ -34,6 +38,7 @@ pub record AreRuns (runs : List Run) : Type 0 where
   pub filled : AreFilled runs
   pub apart : AllPairs (λ a b. Below (end_of a) (start_of b)) runs
 
+-- the Ids in a run, by rising number
 unfoldable pub ids_of_run : Run → List Id
 ids_of_run r = map (λ n. record { replica = r.replica; number = n })
     (range_with_len r.first (r.last + 1 - r.first))

@@ -106,6 +106,7 @@ impl Blockers {
         self.children.contains_key(&id)
     }
 
+    /// Whether an instance is filed under some Id. Takes logarithmic time.
     pub(crate) fn is_filed(&self, id: Id) -> bool
         ensures { IsTrue result ↔ IsFiled self.now id }
     {

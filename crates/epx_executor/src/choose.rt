@@ -112,6 +112,7 @@ pub(crate) struct Choice {
 }
 
 impl Choice {
+    /// The choice of nothing.
     fn new(alloc: Global) -> Choice
         ensures { (result.ids.items ≡ []) × (result.roots.items ≡ [])
             × (result.blocked.items ≡ []) }

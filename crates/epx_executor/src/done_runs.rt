@@ -32,6 +32,7 @@ impl Run {
         }
     }
 
+    /// The Id with the first number.
     fn first_id(self) -> Id
         ensures { result ≡ start_of self }
     {
@@ -41,6 +42,7 @@ impl Run {
         }
     }
 
+    /// The Id with the last number.
     fn last_id(self) -> Id
         ensures { result ≡ end_of self }
     {
@@ -167,6 +169,7 @@ impl Model for DoneRuns {
 }
 
 impl DoneRuns {
+    /// The empty set.
     pub fn new(alloc: Global) -> DoneRuns
         ensures { result ≡ [] }
     {

@@ -92,6 +92,8 @@ impl Executor {
         Executor::with_none_pending(alloc, DoneRuns::new(alloc), Store::new(alloc))
     }
 
+    /// An executor of these done instances and this store, in which none waits. It has no second
+    /// store yet.
     fn with_none_pending(alloc: Global, done: DoneRuns, store: Store) -> Executor
         ensures { result ≡ record { done = done; store = store; pending = [] } }
     {
@@ -203,6 +205,7 @@ impl Executor {
         self.pending.len()
     }
 
+    /// The store after all commands that are executed.
     pub fn store(&self) -> &Store
         ensures { result.now ≡ self.now.store }
     {

@@ -34,6 +34,7 @@ impl Model for Pending {
 }
 
 impl Pending {
+    /// No instance waits.
     pub(crate) fn new(alloc: Global) -> Pending
         ensures { result ≡ [] }
     {
@@ -42,6 +43,7 @@ impl Pending {
         }
     }
 
+    /// How many wait.
     pub(crate) fn len(&self) -> usize
         ensures len { result ≡ length self.now }
         ensures rising { IsRising (ids_of self.now) }
@@ -49,6 +51,7 @@ impl Pending {
         self.entries.len()
     }
 
+    /// The instance with this Id. None if it does not wait. Takes logarithmic time.
     pub(crate) fn get(&self, id: Id) -> Option<&Entry>
         ensures found { MatchOption result (¬ Contains (ids_of self.now) id)
             (λ e. Contains self.now e.now × (e.now.id ≡ id)) }
@@ -69,6 +72,7 @@ impl Pending {
         Ok(entries)
     }
 
+    /// Adds one that does not wait yet. Takes logarithmic time.
     pub(crate) fn insert(&mut self, entry: Entry) -> Result<(), Memory>
         requires { ¬ Contains (ids_of self.old) entry.id }
         ensures inserted { OnOk result ((e : Instance) → Contains self.new e
@@ -79,6 +83,7 @@ impl Pending {
         Ok(())
     }
 
+    /// Takes one out, if it waits. Takes logarithmic time.
     pub(crate) fn remove(&mut self, id: Id)
         ensures left { (e : Instance) → Contains self.new e ↔ (Contains self.old e × (e.id ≢ id)) }
         ensures rising { IsRising (ids_of self.new) }
@@ -103,6 +108,7 @@ impl Pending {
         Ok(found)
     }
 
+    /// Takes out those of these Ids that wait.
     fn remove_all(&mut self, ids: &[Id])
         ensures left { (e : Instance) → Contains self.new e
             ↔ (Contains self.old e × (¬ Contains ids.now e.id)) }

@@ -81,7 +81,8 @@ fn file_waiters(alloc: Global, before: Blockers, waiters: &[Waiter]) -> Option<B
     Some(blockers)
 }
 
-/// As `refile`, after a call that looked at a choice.
+/// The blockers after a call that looked at a choice and left these instances waiting. What the
+/// call passed over stays filed where it is. None if memory runs out.
 fn refile_some(
     alloc: Global,
     before: Blockers,

@@ -40,6 +40,7 @@ pub(crate) struct ComparisonFindings {
     pub difference: Option<Difference>,
 }
 
+/// A whole number that fits into a `usize`. None for any other value.
 fn count_of(value: &Value) -> Option<usize> {
     usize::try_from(value.as_u64()?).ok()
 }

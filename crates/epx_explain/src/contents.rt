@@ -38,6 +38,7 @@ fn reason_against<R: Files>(rt: &R, path: &str) -> Option<&'static str> {
     }
 }
 
+/// What the file at a path holds now, or why it is not read.
 fn read_file<'a, R: Files>(rt: &R, alloc: Global, path: &str) -> Result<Contents<'a>, Memory> {
     if let Some(reason) = reason_against(rt, path) {
         return Ok(Contents::Unread(reason));

@@ -30,6 +30,8 @@ and up to 18446744073709551615"
     Ok(None)
 }
 
+/// Explains a list that has no pairs, too many elements, or an element that is no Id. None if it
+/// is good.
 fn explain_list(alloc: Global, deps: &[Value]) -> Result<Option<String>, Memory> {
     if has_number_a_replica(deps) {
         return Ok(Some(String::from_str(

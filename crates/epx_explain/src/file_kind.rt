@@ -9,6 +9,7 @@ const SAMPLE_BYTES: usize = 64;
 /// Fewer bytes do not show it.
 const LEAST_SAMPLE: usize = 4;
 
+/// The first bytes, at most `SAMPLE_BYTES`.
 fn sample_of(bytes: &[u8]) -> &[u8] {
     &bytes[..bytes.len().min(SAMPLE_BYTES)]
 }
@@ -23,6 +24,7 @@ fn alternates(sample: &[u8], first: usize) -> bool {
     sample.len() >= LEAST_SAMPLE
 }
 
+/// The index of the first zero byte.
 fn index_of_zero(bytes: &[u8]) -> Option<usize> {
     for (index, byte) in bytes.iter().enumerate() {
         if *byte == 0 {

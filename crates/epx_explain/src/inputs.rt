@@ -91,6 +91,7 @@ pub struct Inputs<'a> {
     unsaved: Option<&'a str>,
 }
 
+/// Where the bytes at an index of the paths come from. Without paths, from standard input.
 fn origin_at<'a>(paths: Option<&'a [String]>, index: usize) -> Origin<'a> {
     let Some(paths) = paths else {
         return Origin::StandardInput;
@@ -102,6 +103,7 @@ fn origin_at<'a>(paths: Option<&'a [String]>, index: usize) -> Origin<'a> {
     }
 }
 
+/// The paths as a slice. None if the command line has none.
 fn paths_of(paths: &Option<Vec<String>>) -> Option<&[String]> {
     match paths {
         Some(paths) => Some(paths.as_slice()),
@@ -164,6 +166,7 @@ impl<'a> Inputs<'a> {
         self.unsaved
     }
 
+    /// The input at an index of the paths, with the bytes that were kept of it.
     fn at(&self, role: Role, index: usize) -> Input<'a> {
         let kept = match self.kept.get(index) {
             Some(Some(bytes)) => Some(bytes.as_slice()),

@@ -33,6 +33,7 @@ several lines?"
     }
 }
 
+/// Explains a line that has more than `MAX_LINE_BYTES`. None if it has no more.
 fn explain_too_long(alloc: Global, line: LogLine<'_>) -> Result<Option<String>, Memory> {
     let length = line.bytes.len();
     if length <= MAX_LINE_BYTES {
@@ -65,6 +66,7 @@ epx resume BASE LOG.."
     Ok(Some(format!(in alloc; "the line is {shown}, {advice}")?))
 }
 
+/// Explains what is wrong with the value of a line. None if the value is not bad in this way.
 fn explain_value(alloc: Global, value: &Value, why: Why) -> Result<Option<String>, Memory> {
     match why {
         Why::NotObject => explain_not_object(alloc, value),

@@ -114,6 +114,7 @@ fn explain_syntax(alloc: Global, line: LogLine<'_>, error: &Error) -> Result<Str
     explain_place(alloc, before, after)
 }
 
+/// Explains an error of reading JSON, with the byte where it is, counted from 1.
 fn explain_error(alloc: Global, line: LogLine<'_>, error: &Error) -> Result<String, Memory> {
     let end = explain_end(line);
     if error.is_eof() {

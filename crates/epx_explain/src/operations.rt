@@ -27,6 +27,7 @@ impl Argument {
     }
 }
 
+/// What follows the key of an operation of this name. None if there is no such operation.
 fn argument_of(name: &str) -> Option<Argument> {
     match name {
         "get" | "del" => Some(Argument::Nothing),

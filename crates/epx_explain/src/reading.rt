@@ -15,6 +15,7 @@ fn try_to_read<R: Files>(rt: &R, path: &str) -> io::Result<usize> {
     file.read(&mut part)
 }
 
+/// Why a file cannot be opened or read, in words of this program for the usual errors.
 fn reason_of(alloc: Global, error: &Error) -> Result<String, Memory> {
     let reason = match error.kind() {
         ErrorKind::NotFound => "there is no such file",

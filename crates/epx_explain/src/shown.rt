@@ -22,6 +22,7 @@ fn is_hidden(c: char) -> bool {
         )
 }
 
+/// Appends a character, or its escape if it is hidden.
 fn push_visible(text: &mut String, c: char) -> Result<(), AllocError> {
     if !is_hidden(c) {
         return text.push(c);

@@ -110,7 +110,7 @@ module _ (noted : Id → Option Place) (before : FollowerView) (held : AreHeld n
         is_in waited e.0.id (subst (Contains waited) (sym e.2) h),
       )
 
-  -- so is what is executed
+  -- what is executed is of the map
   executed_of_map : (x : Id) → Contains executed x → (e : Instance) × Contains commit.other e
       × (e.id ≡ x) × (is_among after.done e.id ≡ true)
   executed_of_map x h =

@@ -68,7 +68,7 @@ nothing_followed D each first v begun was none = (
   ap length none,
 )
 
--- those of a part are read after the others
+-- how many bytes are read where those of one more part come after the others
 pub length_read : (lines begun part : List ℕ)
     → length (lines ++ (begun ++ part)) ≡ length (lines ++ begun) + length part
 length_read lines begun part =

@@ -56,7 +56,7 @@ takes_then each v w bytes begun rest was now h = (
   h.3,
 )
 
--- it is out of memory once the whole lines are taken
+-- memory runs out once the whole lines of a part are taken
 pub stops_once_taken : (each : Bool) (v w : FollowerView) (bytes begun : List ℕ)
     (was now : Option (List ℕ)) → TakesPart each v bytes w begun was now
     → StopsInPart each v bytes Memory was now

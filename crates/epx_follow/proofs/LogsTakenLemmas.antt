@@ -140,7 +140,7 @@ stops_among_later each v w xs ys fault was mid now first taken before h = record
   stopped = stops_at_later each h.then h.line fault was mid now first h.batches before h.stopped;
 }
 
--- and after a text of other logs
+-- one of some lines stops it once the text of other logs is written
 pub stops_among_after : (each : Bool) (v : FollowerView) (lines : List (List ℕ)) (fault : Fault)
     (was mid now : Option (List ℕ)) (text : List ℕ) → Appends was mid text
     → StopsAmong each v lines fault [] mid now → StopsAmong each v lines fault text was now

@@ -27,6 +27,7 @@ came_data came executed waiting = string (codes "came") ∷ data_of_number came
     ∷ string (codes "executed") ∷ data_of_number executed
     ∷ string (codes "waiting") ∷ data_of_number waiting ∷ []
 
+-- the first line of the text of a batch: its counts
 abbrev pub came_line : ℕ → ℕ → ℕ → List ℕ
 came_line came executed waiting = line_of (came_data came executed waiting)
 

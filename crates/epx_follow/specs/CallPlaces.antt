@@ -6,6 +6,7 @@ use Rattle.epx_types.specs.declared.fault.Fault.TheVariants.{Disagree}
 use Rattle.epx_types.specs.declared.place.Place.{Place}
 use Rattle.epx_types.specs.PlacedLines.{Placed}
 
+-- the places of lines, in the order of the lines
 abbrev pub held_places : List Placed → List Place
 held_places lines = map (λ p. p.place) lines
 

@@ -11,6 +11,7 @@ use Rattle.epx_types.specs.PlacedLines.{Placed}
 use Rattle.epx_executor.specs.CallLines.{lines_from}
 use Rattle.epx_executor.specs.Commits.{ExecutorView}
 
+-- what a follower holds between two lines
 pub record FollowerView : Type 0 where
   -- the executed instances
   pub done : List Id
@@ -52,6 +53,7 @@ follower_after v log line = record {
 abbrev pub IsClosed : FollowerView → Type 0
 IsClosed v = (v.batch ≡ []) × (v.is_open ≡ false)
 
+-- the instances of lines, in the order of the lines
 abbrev pub instances_of : List Placed → List Instance
 instances_of lines = map (λ p. p.instance) lines
 

@@ -39,6 +39,7 @@ pub record StopsAmong (each : Bool) (v : FollowerView) (lines : List (List ℕ))
   pub line : List ℕ
   pub after : List (List ℕ)
   pub cut : lines ≡ before ++ line ∷ after
+  -- the follower before that line, and the text of the batches that end before it
   pub then : FollowerView
   pub batches : List ℕ
   pub taken : TakesLines each v before then batches

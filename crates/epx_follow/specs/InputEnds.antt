@@ -27,6 +27,7 @@ pub record EndsInput (v last : FollowerView) (text : List ℕ) : Type 0 where
 -- the text of following these logs to their ends from `start`, after which the follower is `last`
 pub record IsFollowed (start : FollowerView) (each : Bool) (logs : List (List ℕ))
     (last : FollowerView) (text : List ℕ) : Type 0 where
+  -- the follower once all lines are taken, the text of their batches, and that of the end
   pub taken : FollowerView
   pub batches : List ℕ
   pub rest : List ℕ

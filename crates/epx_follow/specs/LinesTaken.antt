@@ -21,15 +21,19 @@ TakesAs each false (Ok Blank) before after text = EndsIf each (passed before) af
 TakesAs each false (Ok (Entry e)) before after text = EndsIf each (joined before e) after text
 TakesAs each false (Err why) before after text = ⊥
 
+-- What taking a line leaves and writes. A line that ends a batch writes the text of the batch, and
+-- any other writes nothing. No bad line is taken
 abbrev pub TakesLine : Bool → List ℕ → FollowerView → FollowerView → List ℕ → Type 0
 TakesLine each line before after text =
     TakesAs each (is_blank line) (meaning_of line) before after text
 
--- why the batch does not end
+-- why the batch does not end here, or else why it cannot stay open: memory runs out
 abbrev pub RefusesIf : Bool → FollowerView → Fault → Type 0
 RefusesIf true v fault = RefusesBatch v fault
 RefusesIf false v fault = fault ≡ Memory
 
+-- why a line with this meaning is refused: it is bad, or the batch that it ends is refused, or
+-- memory runs out
 abbrev pub RefusesAs : Bool → Bool → Result Line Why → FollowerView → Fault → Type 0
 RefusesAs each true m v fault = RefusesBatch (passed v) fault
 RefusesAs each false (Ok Blank) v fault = RefusesIf each (passed v) fault

@@ -31,14 +31,15 @@ LinesStayInOrder = AreInPlaceOrder new_follower
     → AreInPlaceOrder v → TakesLine each line v w text → AreInPlaceOrder w)
     × ((v : FollowerView) → AreInPlaceOrder v → AreInPlaceOrder (at_next_log v))
 
--- then the first line of an instance that came is the earliest one
+-- where lines are held in the order of their places, the first line of an instance that came is
+-- the earliest one
 abbrev pub FirstLinesAreEarliest : Type 0
 FirstLinesAreEarliest = (v : FollowerView) → AreInPlaceOrder v → (p q : Placed)
     → first_line (held_lines v) p.instance.id ≡ Some p → Contains (held_lines v) q
     → q.instance.id ≡ p.instance.id → ¬ Earlier q.place p.place
 
--- and a batch is refused as the merge of its lines is: the first place that a fault names is the
--- earlier one
+-- where lines are held in the order of their places, a batch is refused as the merge of its lines
+-- is: the first place that a fault names is the earlier one
 abbrev pub RefusedBatchIsARefusedMerge : Type 0
 RefusedBatchIsARefusedMerge = (v : FollowerView) → AreInPlaceOrder v → (fault : Fault)
     → RefusesBatch v fault → IsMergeFault (held_lines v) fault

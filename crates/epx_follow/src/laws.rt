@@ -48,12 +48,14 @@ pub fn lines_stay_in_order()
     ensures { LinesStayInOrder }
 {}
 
-/// Then the first line of an instance is the earliest one.
+/// Where lines are held in the order of their places, the first line of an instance is the
+/// earliest one.
 pub fn first_lines_are_earliest()
     ensures { FirstLinesAreEarliest }
 {}
 
-/// And a batch is refused as the merge of its lines is.
+/// Where lines are held in the order of their places, a batch is refused as the merge of its lines
+/// is.
 pub fn refused_batch_is_a_refused_merge()
     ensures { RefusedBatchIsARefusedMerge }
 {}

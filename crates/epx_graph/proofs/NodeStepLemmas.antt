@@ -65,7 +65,7 @@ module _ (edges sources : ℕ → List ℕ) where
   LeadsIn-turned turn (suc n) k j there =
       (there.0, LeadsIn-turned turn n k there.0 there.2, turn j there.0 there.1)
 
--- the same distances, where the paths are the same
+-- where P and Q hold of the same numbers and nodes, the numbers that are least for P are so for Q
 pub AreLeast-same : (P Q : ℕ → ℕ → Type 0) (nodes : ℕ) (distances : List (Option ℕ))
     → ((n j : ℕ) → P n j → Q n j) → ((n j : ℕ) → Q n j → P n j) → AreLeast P nodes distances
     → AreLeast Q nodes distances

@@ -17,8 +17,8 @@ use Rattle.epx_types.proofs.lists.ListPositionLemmas.{slice_get-map}
 use Rattle.epx_graph.specs.inner.Remainder.{RemainderView, rest_of, IsIdStateOf, IsAtPosition}
 use Rattle.epx_graph.specs.inner.Remainder.{IsPositionLeft, ArePositionTables}
 use Rattle.epx_graph.specs.inner.Nodes.{missing_of, positions_of}
-use Rattle.epx_graph.specs.declared.left.IdState.{IdState}
-use Rattle.epx_graph.specs.declared.left.IdState.TheVariants as found
+use Rattle.epx_graph.specs.declared.remainder.IdState.{IdState}
+use Rattle.epx_graph.specs.declared.remainder.IdState.TheVariants as found
 use Rattle.epx_graph.proofs.GatherRowLemmas.{positions_skip, positions_take}
 use Rattle.epx_graph.proofs.MissingIdLemmas.{no_position, none_position, lacking_skip, lacking_take}
 

@@ -15,10 +15,11 @@ pub record DependencyGraph : Type 0 where
 abbrev pub edges_of : DependencyGraph → ℕ → List ℕ
 edges_of g k = slice_index_or g.edges k []
 
--- the committed nodes come first, and then the missing ones
+-- the Ids of the committed nodes, which come before the missing ones
 abbrev pub committed_ids : DependencyGraph → List Id
 committed_ids g = take g.committed g.ids
 
+-- the Ids of the missing nodes, which come after the committed ones
 abbrev pub missing_ids : DependencyGraph → List Id
 missing_ids g = drop g.committed g.ids
 

@@ -8,6 +8,8 @@ abbrev pub LeadsTo : (ℕ → List ℕ) → ℕ → ℕ → ℕ → Type 0
 LeadsTo edges k zero j = k ≡ j
 LeadsTo edges k (suc n) j = (c : ℕ) × Contains (edges k) c × LeadsTo edges c n j
 
+-- the distance of node j, from a list with one for each node; None if no path leads to the node,
+-- and past the end of the list
 abbrev pub distance_at : List (Option ℕ) → ℕ → Option ℕ
 distance_at distances j = slice_index_or distances j None
 

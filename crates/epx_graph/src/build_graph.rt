@@ -8,9 +8,9 @@ ghost use Rattle.epx_graph.specs.GraphOf.{IsGraphOfRest, IsGraphOf};
 ghost use Rattle.epx_graph.specs.inner.Remainder.{rest_of};
 ghost use Rattle.epx_graph.specs.inner.Nodes.{AreNodesOf, ArePositionsOf, AreRowsOf, IsGathered};
 
-use crate::committed::{Gathered, committed_rows};
+use crate::dependency_rows::{Gathered, committed_rows};
 use crate::graph::Graph;
-use crate::left::Remainder;
+use crate::remainder::Remainder;
 use epx_committed::Merged;
 use epx_rows::Rows;
 use epx_types::id_list::{find_id, sort_unique};

@@ -32,6 +32,7 @@ impl Model for Graph {
 }
 
 impl Graph {
+    /// The graph of nodes with these Ids, and with a row of edges for each committed node.
     pub(crate) fn new(ids: Vec<Id>, rows: Rows) -> Graph
         requires { IsGraph (graph_over ids.items rows) }
         ensures { result ≡ graph_over ids.items rows }

@@ -16,6 +16,7 @@ const PIECES_PER_WORKER: usize = 4;
 /// ones may be shorter or empty.
 #[derive(Clone, Copy, Debug)]
 pub(crate) struct InstancePieces {
+    /// The number of remaining instances.
     pub(crate) instances: usize,
     /// The number of pieces.
     pub(crate) count: usize,

@@ -3,13 +3,13 @@
 #![tactic(auto)]
 
 mod build_graph;
-mod committed;
+mod dependency_rows;
 mod distances;
 mod graph;
 mod instance_pieces;
 pub mod laws;
-mod left;
 mod neighbours;
+mod remainder;
 mod search;
 mod waiters;
 

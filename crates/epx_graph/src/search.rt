@@ -19,6 +19,7 @@ pub(crate) enum MarkKind {
     Steps,
 }
 
+/// The mark of a node that is this number of edges away from a start.
 fn mark_after(kind: MarkKind, start: usize, steps: usize) -> usize
     ensures { result ≡ mark_by kind start steps }
 {

@@ -25,6 +25,7 @@ AbortNamesIndex = (ops : List Op) (c : Contents) (j : ℕ) → (command_on ops c
     (j < length ops)
     × ((reads : List (Option ℤ)) × ((command_on (take j ops) c).reply ≡ Values reads))
 
+-- each write of a command is to one of its written keys
 abbrev pub WritesNameWrittenKeys : Type 0
 WritesNameWrittenKeys = (ops : List Op) (c : Contents) (w : Write) → Contains (writes_of ops c) w
     → Contains (written_keys ops) w.0

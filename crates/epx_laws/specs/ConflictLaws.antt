@@ -5,6 +5,7 @@ use Rattle.epx_types.specs.Conflicts.{Conflict}
 use Rattle.epx_types.specs.Contents.{Contents}
 use Rattle.epx_types.specs.Commands.{command_on}
 
+-- if a command conflicts with another, that one conflicts with it
 abbrev pub ConflictIsSymmetric : Type 0
 ConflictIsSymmetric = (a b : List Op) → Conflict a b → Conflict b a
 

@@ -35,7 +35,8 @@ RemainingIsReadyAlike = (done : List Id) (m : List Instance)
     → ((x : Id) → Contains done x → IsReady m x) → (x : Id) → ¬ Contains done x
     → IsReady (remaining done m) x ↔ IsReady m x
 
--- and if it waits, it waits for the same instance in both
+-- if all done instances are ready, an instance that is not done waits in the remaining map exactly
+-- for what it waits for in the whole map
 abbrev pub RemainingWaitsAlike : Type 0
 RemainingWaitsAlike = (done : List Id) (m : List Instance)
     → ((x : Id) → Contains done x → IsReady m x) → (x y : Id) → ¬ Contains done x

@@ -18,9 +18,11 @@ abbrev pub ExecutionOrderExists : Type 0
 ExecutionOrderExists = (m : List Instance) → IsRising (ids_of m)
     → (order : List Ranked) × IsExecutionOrder m order
 
+-- a map has at most one execution order
 abbrev pub ExecutionOrderIsUnique : Type 0
 ExecutionOrderIsUnique = (m : List Instance) → AtMostOne (IsExecutionOrder m)
 
+-- an execution order is a lawful order, so the protocol allows it
 abbrev pub ExecutionOrderIsLawful : Type 0
 ExecutionOrderIsLawful = (m : List Instance) (order : List Ranked) → IsExecutionOrder m order
     → IsLawful m (map (λ r. r.id) order)
@@ -40,6 +42,7 @@ pub record AreLeaders (order : List Ranked) (leaders : List Id) : Type 0 where
   pub whole : (r : Ranked) → Contains order r → Contains leaders r.leader
   pub counted : length leaders ≡ component_count order
 
+-- `component_count` of an execution order is the number of its distinct leaders
 abbrev pub ComponentsAreCounted : Type 0
 ComponentsAreCounted = (m : List Instance) (order : List Ranked) → IsExecutionOrder m order
     → (leaders : List Id) × AreLeaders order leaders
@@ -73,11 +76,12 @@ abbrev pub ConflictsAreOrdered : List Instance → Type 0
 ConflictsAreOrdered m = (ids other : List Id) → IsLawful m ids → IsLawful m other →
     (d e : Instance) → AreReadyAndConflict m d e → Before ids d.id e.id → Before other d.id e.id
 
--- in a covered map they do
+-- in a covered map, two ready instances that conflict come in the same order in all lawful orders
 abbrev pub ConflictsKeepOrder : Type 0
 ConflictsKeepOrder = (m : List Instance) → IsCovered m → ConflictsAreOrdered m
 
--- and where they do, the map is covered
+-- a committed map is covered if two ready instances that conflict come in the same order in all
+-- lawful orders
 abbrev pub OrderedConflictsAreCovered : Type 0
 OrderedConflictsAreCovered = (m : List Instance) → IsRising (ids_of m) → ConflictsAreOrdered m
     → IsCovered m

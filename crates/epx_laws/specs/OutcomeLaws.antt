@@ -20,6 +20,8 @@ pub record EachHasOneOutcome (m : List Instance) (order : List Ranked) (waiting 
   pub counted : length order + length waiting ≡ length m
   pub components : component_count order ≤ length order
 
+-- each instance of a committed map is once in its execution order or once in its waiting list, and
+-- never in both
 abbrev pub ExecutedOrWaiting : Type 0
 ExecutedOrWaiting = (m : List Instance) → IsRising (ids_of m)
     → (order : List Ranked) (waiting : List Waiting) → IsExecutionOrder m order

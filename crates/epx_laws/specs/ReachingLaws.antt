@@ -17,13 +17,16 @@ pub record DependenciesAreListed : Type 0 where
   pub listed : (m : List Instance) → IsRising (ids_of m) → (e : Instance) → Contains m e → (y : Id)
       → DependsOn m e.id y ↔ Contains e.deps y
 
+-- each instance reaches itself, also one that is not committed
 abbrev pub ReachingIsReflexive : Type 0
 ReachingIsReflexive = (m : List Instance) (x : Id) → Reaches m x x
 
+-- what is reached from an instance that x reaches, x reaches too
 abbrev pub ReachingIsTransitive : Type 0
 ReachingIsTransitive = (m : List Instance) (x y z : Id) → Reaches m x y → Reaches m y z
     → Reaches m x z
 
+-- a committed instance reaches each of its dependencies
 abbrev pub DependenciesAreReached : Type 0
 DependenciesAreReached = (m : List Instance) (x y : Id) → DependsOn m x y → Reaches m x y
 
@@ -55,6 +58,7 @@ pub record MembersAreAlike : Type 0 where
 abbrev pub LeaderExists : Type 0
 LeaderExists = (m : List Instance) (x : Id) → (leader : Id) × IsLeader m x leader
 
+-- an instance has at most one leader
 abbrev pub LeaderIsUnique : Type 0
 LeaderIsUnique = (m : List Instance) (x : Id) → AtMostOne (IsLeader m x)
 
@@ -62,6 +66,7 @@ LeaderIsUnique = (m : List Instance) (x : Id) → AtMostOne (IsLeader m x)
 abbrev pub DepthExists : Type 0
 DepthExists = (m : List Instance) (x : Id) → (depth : ℕ) × IsDepth m x depth
 
+-- an instance has at most one depth
 abbrev pub DepthIsUnique : Type 0
 DepthIsUnique = (m : List Instance) (x : Id) → AtMostOne (IsDepth m x)
 

@@ -36,20 +36,25 @@ renamed_op r (Is k v) = Is (r.key k) (renamed_value r v)
 renamed_op r (Floor k least) = Floor (r.key k) least
 renamed_op r (Copy k j) = Copy (r.key k) (r.key j)
 
+-- a command with the keys and the values of its operations renamed
 abbrev pub renamed_command : Renaming → List Op → List Op
 renamed_command r ops = map (renamed_op r) ops
 
+-- a list of commands, each with its keys and values renamed
 abbrev pub renamed_commands : Renaming → List (List Op) → List (List Op)
 renamed_commands r commands = map (renamed_command r) commands
 
+-- a reply with the values that were read renamed; an abort names the same operation
 abbrev pub renamed_reply : Renaming → Reply → Reply
 renamed_reply r (Values got) = Values (map (renamed_value r) got)
 renamed_reply r (Abort j) = Abort j
 
+-- contents with the renamed value under each renamed key, and no other keys
 abbrev pub renamed_contents : Renaming → Contents → Contents
 renamed_contents r c = contents.from_entries
     (map (λ e. (r.key e.0, r.value e.1)) (contents.entries c))
 
+-- the replies and the final contents of an execution, renamed
 abbrev pub renamed_execution : Renaming → Execution → Execution
 renamed_execution r e =
     record { replies = map (renamed_reply r) e.replies; final = renamed_contents r e.final }
@@ -58,12 +63,15 @@ renamed_execution r e =
 abbrev pub renamed_instance : Renaming → Instance → Instance
 renamed_instance r e = record e { ops = renamed_command r e.ops }
 
+-- a committed map in which the command of each instance is renamed
 abbrev pub renamed_map : Renaming → List Instance → List Instance
 renamed_map r m = map (renamed_instance r) m
 
+-- a line whose instance has a renamed command, at the same place
 abbrev pub renamed_line : Renaming → Placed → Placed
 renamed_line r p = record p { instance = renamed_instance r p.instance }
 
+-- lines whose instances have renamed commands, each at its place
 abbrev pub renamed_lines : Renaming → List Placed → List Placed
 renamed_lines r lines = map (renamed_line r) lines
 
@@ -77,5 +85,6 @@ is_arithmetic (Is k v) = false
 is_arithmetic (Floor k least) = true
 is_arithmetic (Copy k j) = false
 
+-- a command without `add` and `floor`: it only moves and compares values
 abbrev pub HasNoArithmetic : List Op → Type 0
 HasNoArithmetic ops = (op : Op) → Contains ops op → is_arithmetic op ≡ false

@@ -21,7 +21,7 @@ use Rattle.serde_json.specs.Read.{converted}
 use Rattle.epx_lines.specs.Elements.{whole}
 use Rattle.epx_lines.specs.DependencyList.{id_of_pair}
 use Rattle.epx_lines.specs.OperationList.{value_or_null}
-use Rattle.epx_lines.specs.Tokens.{BeginsWith, ParsesTo}
+use Rattle.epx_lines.specs.Tokens.{ReadsValue, ParsesTo}
 use Rattle.epx_lines.proofs.WrittenPartLemmas.{whole-fits}
 use Rattle.epx_report.proofs.JsonStringLemmas.{IfSome-test, IfSome-branch, IfSome-map}
 use Rattle.epx_report.proofs.JsonStringLemmas.{IfSome-trivial}
@@ -66,7 +66,7 @@ unfolding number_of
 number_of_plain s =
     search (rules, IfSome-branch IsPlainNum, number_from_plain)
 
--- the same for a value, if it is a number
+-- if the value is a number that is read as an i64 that is not negative, the number is unsigned
 abbrev IsPlain : Data → Type 0
 IsPlain (number x) = IsPlainNum x
 IsPlain _ = ⊤
@@ -89,9 +89,9 @@ converted_plain (Some p) =
     IfSome-map IsPlain (λ q. IsPlain q.0) (λ d. (d, p.1)) (of_json p.0) (json_plain p.0)
     (λ d h. h)
 
-BeginsWith-plain : (ts : List Token) (d : Data) (rest : List Token) → BeginsWith 0 ts d rest
+ReadsValue-plain : (ts : List Token) (d : Data) (rest : List Token) → ReadsValue 0 ts d rest
     → IsPlain d
-BeginsWith-plain ts d rest h =
+ReadsValue-plain ts d rest h =
     subst (λ o. IfSome o (λ p. IsPlain p.0)) (h 0 (omega arith)) (converted_plain (value 0 ts))
 
 -- ---- times
@@ -150,7 +150,7 @@ pub ParsesTo-time_or_null : (ts rest : List Token) (n : ℕ)
     → ParsesTo 0 value_or_null ts (Some (pos n)) rest
     → ParsesTo 0 time_or_null ts (Some n) rest
 ParsesTo-time_or_null ts rest n g =
-    (g.0, g.1, time_or_null-said g.0 n (BeginsWith-plain ts g.0 rest g.1) g.2)
+    (g.0, g.1, time_or_null-said g.0 n (ReadsValue-plain ts g.0 rest g.1) g.2)
 
 pub ParsesTo-time : (ts rest : List Token) (o : Option ℕ) → ParsesTo 0 time_or_null ts o rest
     → IfSome o (λ n. ParsesTo 0 time_from ts n rest)

@@ -10,6 +10,7 @@ use Rattle.epx_linear.specs.declared.client_call.ClientCall.{ClientCall}
 abbrev pub IsHistory : List ClientCall → Type 0
 IsHistory h = AllPairs (λ a b. a.id ≢ b.id) h
 
+-- the call of an instance in a history, if the history has one
 abbrev pub call_of : List ClientCall → Id → Option ClientCall
 call_of h x = find (λ c. is_eq (id_cmp c.id x)) h
 

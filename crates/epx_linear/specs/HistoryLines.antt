@@ -25,6 +25,7 @@ abbrev pub is_up_to : ℕ → Option ℕ → Bool
 is_up_to invoked None = true
 is_up_to invoked (Some returned) = nat_le invoked returned
 
+-- the call with these parts; None if it returned before it was invoked
 abbrev pub call_at : Id → Option ℕ → Option Reply → ℕ → Option ClientCall
 call_at x returned answer invoked = if is_up_to invoked returned then Some
     (record { id = x; invoked = invoked; returned = returned; answer = answer }) else None
@@ -46,6 +47,7 @@ answered_call n r i t u a b =
     (λ returned. option_and_then (λ reply. call_with n r i t (Some returned) (Some reply))
     (reply_of a b)) (time_from u)
 
+-- the call that the elements of a line say: five of them without an answer, seven with one
 abbrev pub call_from_list : List Data → Option ClientCall
 call_from_list (n ∷ r ∷ i ∷ t ∷ u ∷ []) = call_alone n r i t u
 call_from_list (n ∷ r ∷ i ∷ t ∷ u ∷ a ∷ b ∷ []) = answered_call n r i t u a b

@@ -14,6 +14,7 @@ use Rattle.epx_linear.specs.HistoryLines.{call_line_of}
 abbrev pub AreCalls : List (List ℕ) → List ClientCall → Type 0
 AreCalls lines h = (map call_line_of (filled_lines lines) ≡ map Some h) × IsHistory h
 
+-- the lines of the bytes say these calls, in this order, and nothing else
 abbrev pub IsHistoryText : List ℕ → List ClientCall → Type 0
 IsHistoryText bytes h = AreCalls (lines_of bytes) h
 

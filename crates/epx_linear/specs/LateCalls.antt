@@ -17,6 +17,8 @@ abbrev pub IsLate : List (List Op) → List (Option ClientCall) → ℕ → ℕ 
 IsLate commands calls j i = (a b : ClientCall) × HasCall calls j a × HasCall calls i b
     × ConflictsUpTo commands i j × ReturnsBefore a b
 
+-- no call is late: if a chain of conflicts leads from one call to another, the second had not
+-- returned before the first was invoked
 abbrev pub NoneLate : List (List Op) → List (Option ClientCall) → Type 0
 NoneLate commands calls = (j i : ℕ) → ¬ IsLate commands calls j i
 

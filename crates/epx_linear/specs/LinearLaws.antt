@@ -48,6 +48,8 @@ pub record IsSerialWitness (ids : List Id) (commands : List (List Op)) (c : Cont
       × (slice_get ids i ≡ Some a.id)
       × (slice_get (execute (commands_at commands positions) c).replies k ≡ Some r)
 
+-- what is linear has a serial execution that keeps real time, with the same answers and the same
+-- contents at the end
 abbrev pub LinearHasWitness : Type 0
 LinearHasWitness = (ids : List Id) (commands : List (List Op)) (c : Contents)
     (h : List ClientCall) → length ids ≡ length commands

@@ -9,12 +9,13 @@ use Rattle.epx_linear.specs.ClientCalls.{IsHistory}
 use Rattle.epx_linear.specs.LinearTexts.{linear_line, IsLinearText}
 use Rattle.epx_linear.specs.RealTime.{IsLinear}
 
--- there is at most one answer
+-- a map and a history have at most one answer
 abbrev pub LinearTextIsUnique : Type 0
 LinearTextIsUnique = (m : List Instance) (h : List ClientCall) (text other : List ℕ)
     → IsLinearText m h text → IsLinearText m h other → text ≡ other
 
--- it is one line exactly if the history is linear over the execution order and its replies
+-- the answer is the line `linear` alone exactly if the history is linear over the execution order
+-- and its replies
 abbrev pub LinearLineMeansLinear : Type 0
 LinearLineMeansLinear = (m : List Instance) (h : List ClientCall) (order : List Ranked)
     (text : List ℕ) → IsHistory h → IsExecutionOrder m order → IsLinearText m h text

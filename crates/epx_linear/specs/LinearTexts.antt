@@ -45,6 +45,7 @@ late_line x y = line_of
 
 -- ---- what is found
 
+-- there is an answer, and it is not this reply
 abbrev pub is_other_answer : Option Reply → Reply → Bool
 is_other_answer None reply = false
 is_other_answer (Some answer) reply = not (same_reply answer reply)
@@ -53,6 +54,7 @@ is_other_answer (Some answer) reply = not (same_reply answer reply)
 abbrev pub is_answered_otherwise : Option ClientCall → Reply → Bool
 is_answered_otherwise call reply = is_other_answer (option_and_then (λ c. c.answer) call) reply
 
+-- the line that says what x is late for, nothing if it is not late
 abbrev pub lateness : Id → Option Id → List ℕ
 lateness x None = []
 lateness x (Some y) = late_line x y
@@ -78,6 +80,7 @@ findings ids replies h late =
 
 -- ---- the answer
 
+-- the text, or the line `linear` if the text is empty
 abbrev pub or_linear : List ℕ → List ℕ
 or_linear [] = linear_line
 or_linear (b ∷ bs) = b ∷ bs

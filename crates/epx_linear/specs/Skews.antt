@@ -6,6 +6,7 @@ use Rattle.epx_linear.specs.declared.client_call.ClientCall.{ClientCall}
 abbrev pub latest_time : ℕ
 latest_time = 2 ^ 64 - 1
 
+-- a time that is later by a skew, but not after the latest time
 abbrev pub later_time : ℕ → ℕ → ℕ
 later_time skew t = min (t + skew) latest_time
 

@@ -15,6 +15,7 @@ use std::alloc::Global;
 /// Each time is below this.
 const END_OF_TIME: u64 = 1 << 63;
 
+/// Whether a value is this text.
 fn has_text(value: &Value, text: &str) -> bool
     ensures { result ≡ is_text text.now (view value.now) }
 {
@@ -24,6 +25,7 @@ fn has_text(value: &Value, text: &str) -> bool
     }
 }
 
+/// Reads a time. None if the value is no whole number below `END_OF_TIME`.
 #[tactic(auto, unfolding(epx_lines::specs::Elements::whole))]
 fn read_time(value: &Value) -> Option<u64>
     ensures { result ≡ time_from (view value.now) }

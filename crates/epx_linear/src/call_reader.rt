@@ -28,6 +28,7 @@ pub(crate) struct CallReader {
 }
 
 impl CallReader {
+    /// A reader with empty buffers.
     pub(crate) fn new(alloc: Global) -> CallReader {
         CallReader {
             scratch: Scratch::new(alloc),

@@ -4,7 +4,7 @@
 ghost use Rattle.std.specs.Prelude.{◌≡◌, [], ◌∷◌, Some, IfSome, option_and_then};
 ghost use Rattle.serde_json.specs.Data.{Data};
 ghost use Rattle.epx_lines.specs.Meaning.{json_of};
-ghost use Rattle.epx_lines.specs.Tokens.{BeginsWithAll, ParsesTo};
+ghost use Rattle.epx_lines.specs.Tokens.{ReadsValues, ParsesTo};
 ghost use Rattle.epx_verify.specs.SaidLines.{values_of, op_index_of, reply_of};
 ghost use Rattle.epx_linear.specs.HistoryLines.{time_from, time_or_null, call_from};
 ghost use Rattle.epx_linear.specs.inner.AnswerTokens.{answer_from, ParsesToEnd};
@@ -67,7 +67,7 @@ fn take_op_index(reader: &mut Reader<'_>) -> Option<u64>
 /// `"ok",[v,..]` or `"abort",j`
 fn take_reply(alloc: Global, reader: &mut Reader<'_>) -> Option<Reply>
     ensures { IfSome result
-        (λ y. (a : Data) × (b : Data) × BeginsWithAll 1 reader.old (a ∷ b ∷ []) reader.new
+        (λ y. (a : Data) × (b : Data) × ReadsValues 1 reader.old (a ∷ b ∷ []) reader.new
         × (reply_of a b ≡ Some y)) }
 {
     let kind = take_text(reader)?;

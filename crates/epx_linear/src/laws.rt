@@ -31,7 +31,8 @@ pub fn none_late_keeps_real_time()
     ensures { NoneLateKeepsRealTime }
 {}
 
-/// Nothing is found late exactly if some such order keeps real time.
+/// Nothing is found late exactly if some order that keeps that of commands that conflict keeps
+/// real time.
 pub fn none_found_keeps_real_time()
     ensures { NoneFoundKeepsRealTime }
 {}

@@ -22,6 +22,7 @@ pub(crate) struct Span {
 }
 
 impl Span {
+    /// The instance of the call.
     fn instance(&self) -> Id
         ensures { result ≡ id_of_span self.now }
     {

@@ -66,12 +66,13 @@ no_op [] l = refl
 no_op (a ∷ []) l = refl
 no_op (a ∷ b ∷ vs) l = absurd (omega arith)
 
-no_op_of_more : (vs : List Value) → 4 ≤ length vs → op_of_list (list_of (items_view vs)) ≡ None
-no_op_of_more [] l = absurd (omega arith)
-no_op_of_more (a ∷ []) l = absurd (omega arith)
-no_op_of_more (a ∷ b ∷ []) l = absurd (omega arith)
-no_op_of_more (a ∷ b ∷ c ∷ []) l = absurd (omega arith)
-no_op_of_more (a ∷ b ∷ c ∷ e ∷ vs) l = refl
+op_of_list-too_long : (vs : List Value) → 4 ≤ length vs
+    → op_of_list (list_of (items_view vs)) ≡ None
+op_of_list-too_long [] l = absurd (omega arith)
+op_of_list-too_long (a ∷ []) l = absurd (omega arith)
+op_of_list-too_long (a ∷ b ∷ []) l = absurd (omega arith)
+op_of_list-too_long (a ∷ b ∷ c ∷ []) l = absurd (omega arith)
+op_of_list-too_long (a ∷ b ∷ c ∷ e ∷ vs) l = refl
 
 pub op_of_short : (d : Data) (vs : List Value) → Some (items_view vs) ≡ as_array d → length vs < 2
     → None ≡ op_of d
@@ -81,7 +82,7 @@ op_of_short d vs e l = rw (← e) (sym (no_op vs l))
 pub op_of_long : (d : Data) (vs : List Value) → Some (items_view vs) ≡ as_array d → 4 ≤ length vs
     → None ≡ op_of d
 unfolding op_of
-op_of_long d vs e l = rw (← e) (sym (no_op_of_more vs l))
+op_of_long d vs e l = rw (← e) (sym (op_of_list-too_long vs l))
 
 -- ---- arrays with too many elements, and arrays with few enough
 
@@ -112,10 +113,10 @@ pub deps_of_many : (self : Id) (d : Data) (vs : List Value) → Some (items_view
 unfolding deps_of
 deps_of_many self d vs e l = rw (← e, too_many id_of 256 vs l)
 
-pub ops_of_many : (d : Data) (vs : List Value) → Some (items_view vs) ≡ as_array d → 64 < length vs
-    → None ≡ ops_of d
+pub ops_of-too_many : (d : Data) (vs : List Value) → Some (items_view vs) ≡ as_array d
+    → 64 < length vs → None ≡ ops_of d
 unfolding ops_of
-ops_of_many d vs e l = rw (← e, too_many op_of 64 vs l)
+ops_of-too_many d vs e l = rw (← e, too_many op_of 64 vs l)
 
 pub ops_of_some : (d : Data) (vs : List Value) → Some (items_view vs) ≡ as_array d → length vs ≤ 64
     → ops_of d ≡ every (λ v. op_of (view v)) vs

@@ -19,7 +19,7 @@ use Rattle.serde_json.specs.Find.{as_number, as_u64, of_integer}
 use Rattle.serde_json.specs.Read.{number_of, of_json, of_items, of_members, converted, max_depth}
 use Rattle.serde_json.specs.Read.{read}
 use Rattle.serde_json.specs.View.{items_of}
-use Rattle.epx_lines.specs.Tokens.{BeginsWith, ParsesTo, BeginsWithAll, ParsesAllTo}
+use Rattle.epx_lines.specs.Tokens.{ReadsValue, ParsesTo, ReadsValues, ParsesAllTo}
 use Rattle.epx_lines.specs.DependencyList.{id_of_pair}
 use Rattle.epx_lines.specs.OperationList.{key_of, op_with_key, op_with_value, op_of_list}
 use Rattle.epx_lines.specs.Elements.{below, whole, signed, list_of, elements, at_most, every}
@@ -30,28 +30,28 @@ use Rattle.epx_lines.proofs.WrittenPartLemmas.{whole-fits, IsWritableValue-from_
 
 -- ---- numbers, strings and null
 
-pub BeginsWith-number : (s : List ℕ) (d : Data) (rest : List Token)
-    → option_map number (number_of s) ≡ Some d → BeginsWith 0 (Token.number s ∷ rest) d rest
-BeginsWith-number s d rest e depth h =
+pub ReadsValue-number : (s : List ℕ) (d : Data) (rest : List Token)
+    → option_map number (number_of s) ≡ Some d → ReadsValue 0 (Token.number s ∷ rest) d rest
+ReadsValue-number s d rest e depth h =
     ap (converted of_json) (value_is depth (Token.number s ∷ rest))
     ∙ ap (option_map (λ b. (b, rest))) e
 
-pub BeginsWith-string : (s : List ℕ) (rest : List Token)
-    → BeginsWith 0 (Token.string s ∷ rest) (string s) rest
-BeginsWith-string s rest depth h = ap (converted of_json) (value_is depth (Token.string s ∷ rest))
+pub ReadsValue-string : (s : List ℕ) (rest : List Token)
+    → ReadsValue 0 (Token.string s ∷ rest) (string s) rest
+ReadsValue-string s rest depth h = ap (converted of_json) (value_is depth (Token.string s ∷ rest))
 
-pub BeginsWith-null : (rest : List Token) → BeginsWith 0 (Token.null ∷ rest) null rest
-BeginsWith-null rest depth h = ap (converted of_json) (value_is depth (Token.null ∷ rest))
+pub ReadsValue-null : (rest : List Token) → ReadsValue 0 (Token.null ∷ rest) null rest
+ReadsValue-null rest depth h = ap (converted of_json) (value_is depth (Token.null ∷ rest))
 
-pub BeginsWith-deeper : (n m : ℕ) (ts : List Token) (d : Data) (rest : List Token) → n ≤ m
-    → BeginsWith n ts d rest → BeginsWith m ts d rest
-BeginsWith-deeper n m ts d rest l h depth k = h depth (omega arith)
+pub ReadsValue-deeper : (n m : ℕ) (ts : List Token) (d : Data) (rest : List Token) → n ≤ m
+    → ReadsValue n ts d rest → ReadsValue m ts d rest
+ReadsValue-deeper n m ts d rest l h depth k = h depth (omega arith)
 
 -- ---- f of the value at the front
 
 -- f of the value at the front, if it has one
 pub ParsesTo-found : {A : Type 0} (n : ℕ) (f : Data → Option A) (ts rest : List Token) (d : Data)
-    (o : Option A) → BeginsWith n ts d rest → o ≡ f d → IfSome o (λ x. ParsesTo n f ts x rest)
+    (o : Option A) → ReadsValue n ts d rest → o ≡ f d → IfSome o (λ x. ParsesTo n f ts x rest)
 ParsesTo-found n f ts rest d None h e = tt
 ParsesTo-found n f ts rest d (Some x) h e = (d, h, sym e)
 
@@ -59,7 +59,7 @@ pub ParsesTo-number : (s : List ℕ) (n : ℕ) (rest : List Token) → number_of
     → n < 2 ^ 64 → ParsesTo 0 (whole (2 ^ 64)) (Token.number s ∷ rest) n rest
 ParsesTo-number s n rest is l = (
   number (unsigned n),
-  BeginsWith-number s _ rest (ap (option_map number) is),
+  ReadsValue-number s _ rest (ap (option_map number) is),
   whole-fits (2 ^ 64) n l,
 )
 
@@ -68,7 +68,7 @@ pub ParsesTo-signed : (s : List ℕ) (z y : ℤ) (rest : List Token)
     → ParsesTo 0 signed (Token.number s ∷ rest) y rest
 ParsesTo-signed s z y rest is l same = let fits = IsWritableValue-from_range z l in (
   number (of_integer z),
-  BeginsWith-number s _ rest (ap (option_map number) is),
+  ReadsValue-number s _ rest (ap (option_map number) is),
   fits.reads ∙ ap Some (sym same),
 )
 
@@ -102,15 +102,15 @@ converted_some f None b r e = absurd (cc)
 converted_some f (Some p) b r e = let both = found p.0 p.1 r (f p.0) b e in
     (p.0, ap (λ s. Some (p.0, s)) both.0, both.1)
 
-pub BeginsWith-shorter : (n : ℕ) (ts : List Token) (d : Data) (rest : List Token)
-    → BeginsWith n ts d rest → length rest < length ts
-BeginsWith-shorter n ts d rest h = let j =
+pub ReadsValue-shorter : (n : ℕ) (ts : List Token) (d : Data) (rest : List Token)
+    → ReadsValue n ts d rest → length rest < length ts
+ReadsValue-shorter n ts d rest h = let j =
     converted_some of_json (value n ts) d rest (h n (omega arith)) in
     skip_value-shorter n ts rest (ap left j.1)
 
 pub ParsesTo-shorter : {A : Type 0} (n : ℕ) (f : Data → Option A) (ts : List Token) (x : A)
     (rest : List Token) → ParsesTo n f ts x rest → length rest < length ts
-ParsesTo-shorter n f ts x rest h = BeginsWith-shorter n ts h.0 rest h.1
+ParsesTo-shorter n f ts x rest h = ReadsValue-shorter n ts h.0 rest h.1
 
 -- no value begins with a closing bracket
 not_array_end : (depth : ℕ) (ts : List Token) (p : json.Json × List Token)
@@ -132,31 +132,31 @@ not_array_end depth (Token.bad ∷ ts) p e = refl
 
 abbrev pub AreItems : ℕ → List Token → List Data → List Token → Type 0
 AreItems n ts [] rest = after_end_array ts ≡ Some rest
-AreItems n ts (d ∷ ds) rest = (mid : List Token) × BeginsWith n ts d mid × AreItems n mid ds rest
+AreItems n ts (d ∷ ds) rest = (mid : List Token) × ReadsValue n ts d mid × AreItems n mid ds rest
 
 -- ---- values one after another
 
-pub BeginsWithAll-deeper : (n m : ℕ) (ts : List Token) (ds : List Data) (rest : List Token) → n ≤ m
-    → BeginsWithAll n ts ds rest → BeginsWithAll m ts ds rest
-BeginsWithAll-deeper n m ts [] rest l same = same
-BeginsWithAll-deeper n m ts (d ∷ ds) rest l (mid, first, more) =
-    (mid, BeginsWith-deeper n m ts d mid l first, BeginsWithAll-deeper n m mid ds rest l more)
+pub ReadsValues-deeper : (n m : ℕ) (ts : List Token) (ds : List Data) (rest : List Token) → n ≤ m
+    → ReadsValues n ts ds rest → ReadsValues m ts ds rest
+ReadsValues-deeper n m ts [] rest l same = same
+ReadsValues-deeper n m ts (d ∷ ds) rest l (mid, first, more) =
+    (mid, ReadsValue-deeper n m ts d mid l first, ReadsValues-deeper n m mid ds rest l more)
 
-pub BeginsWithAll-append : (n : ℕ) (ts : List Token) (xs ys : List Data) (mid rest : List Token)
-    → BeginsWithAll n ts xs mid → BeginsWithAll n mid ys rest → BeginsWithAll n ts (xs ++ ys) rest
-BeginsWithAll-append n ts [] ys mid rest same h = rw same h
-BeginsWithAll-append n ts (x ∷ xs) ys mid rest (next, first, more) h =
-    (next, first, BeginsWithAll-append n next xs ys mid rest more h)
+pub ReadsValues-append : (n : ℕ) (ts : List Token) (xs ys : List Data) (mid rest : List Token)
+    → ReadsValues n ts xs mid → ReadsValues n mid ys rest → ReadsValues n ts (xs ++ ys) rest
+ReadsValues-append n ts [] ys mid rest same h = rw same h
+ReadsValues-append n ts (x ∷ xs) ys mid rest (next, first, more) h =
+    (next, first, ReadsValues-append n next xs ys mid rest more h)
 
 -- one value in front of the others
 pub ParsesAllTo-more : {A : Type 0} (n : ℕ) (f : List Data → Option A) (ts : List Token) (d : Data)
     (mid : List Token) (x : A) (rest : List Token)
-    → BeginsWith n ts d mid → ParsesAllTo n (λ ds. f (d ∷ ds)) mid x rest
+    → ReadsValue n ts d mid → ParsesAllTo n (λ ds. f (d ∷ ds)) mid x rest
     → ParsesAllTo n f ts x rest
 ParsesAllTo-more n f ts d mid x rest first g = (d ∷ g.0, (mid, first, g.1), g.2)
 
 AreItems-in_turn : (n : ℕ) (ts : List Token) (ds : List Data) (mid rest : List Token)
-    → BeginsWithAll n ts ds mid → after_end_array mid ≡ Some rest → AreItems n ts ds rest
+    → ReadsValues n ts ds mid → after_end_array mid ≡ Some rest → AreItems n ts ds rest
 AreItems-in_turn n ts [] mid rest same end = rw same end
 AreItems-in_turn n ts (d ∷ ds) mid rest (next, first, more) end =
     (next, first, AreItems-in_turn n next ds mid rest more end)
@@ -184,16 +184,16 @@ items_are n depth k ts [] rest deep enough h =
     ap (converted of_items) (items_end (value depth) k ts rest enough h)
 items_are n depth k ts (d ∷ ds) rest deep enough (mid, first, more) =
     let j = converted_some of_json (value depth ts) d mid (first depth deep) in
-    let shorter = BeginsWith-shorter n ts d mid first in
+    let shorter = ReadsValue-shorter n ts d mid first in
     let turn = items_more (value depth) k ts mid j.0 (omega arith)
     (not_array_end depth ts (j.0, mid) j.1) j.1 in
     ap (converted of_items) turn ∙ with_item j.0 d j.2 _
     ∙ ap (parse_map (item d)) (items_are n depth (k - 1) mid ds rest deep (omega arith) more)
 
-pub BeginsWith-array : (n : ℕ) (ts : List Token) (ds : List Data) (rest : List Token)
-    → AreItems n ts ds rest → BeginsWith (suc n) (Token.begin_array ∷ ts) (array (items_of ds))
+pub ReadsValue-array : (n : ℕ) (ts : List Token) (ds : List Data) (rest : List Token)
+    → AreItems n ts ds rest → ReadsValue (suc n) (Token.begin_array ∷ ts) (array (items_of ds))
     rest
-BeginsWith-array n ts ds rest h depth deep =
+ReadsValue-array n ts ds rest h depth deep =
     ap (converted of_json) (value-begin_array depth ts (omega arith))
     ∙ converted-array (items (value (depth - 1)) (length ts) ts) ∙ ap (parse_map array)
     (items_are n (depth - 1) (length ts) ts ds rest (omega arith) (omega arith) h)
@@ -209,7 +209,7 @@ pub ParsesAllTo-array : {A : Type 0} (n : ℕ) (f : List Data → Option A) (ts 
     → ParsesTo (suc n) (λ d. option_and_then f (elements d)) (Token.begin_array ∷ ts) x rest
 ParsesAllTo-array n f ts x mid rest g end = (
   array (items_of g.0),
-  BeginsWith-array n ts g.0 rest (AreItems-in_turn n ts g.0 mid rest g.1 end),
+  ReadsValue-array n ts g.0 rest (AreItems-in_turn n ts g.0 mid rest g.1 end),
   rw (list_of-items_of g.0) g.2,
 )
 
@@ -267,7 +267,7 @@ module _ {A : Type 0} (n : ℕ) (f : Data → Option A) (start : List Token) whe
       let short : at_most m (list_of (items_of t.0)) ≡ Some t.0 =
       rw (list_of-items_of t.0) (at_most-within m t.0 (omega arith)) in (
         array (items_of t.0),
-        BeginsWith-array n start t.0 rest all,
+        ReadsValue-array n start t.0 rest all,
         ap (option_and_then (every f)) short ∙ t.1,
       )
 
@@ -276,7 +276,7 @@ module _ {A : Type 0} (n : ℕ) (f : Data → Option A) (start : List Token) whe
 abbrev pub AreMembers : ℕ → List Token → List (List ℕ × Data) → List Token → Type 0
 AreMembers n ts [] rest = read_key ts ≡ Some (None, rest)
 AreMembers n ts (m ∷ ms) rest = (mid : List Token) × (next : List Token)
-    × (read_key ts ≡ Some (Some m.0, mid)) × BeginsWith n mid m.1 next × AreMembers n next ms rest
+    × (read_key ts ≡ Some (Some m.0, mid)) × ReadsValue n mid m.1 next × AreMembers n next ms rest
 
 abbrev pub put_members : List (List ℕ × Data) → Members → Members
 put_members [] found = found
@@ -303,16 +303,16 @@ members_are n depth k ts [] old rest deep enough h =
     ap (converted (λ more. of_members more old)) (members_end (value depth) k ts rest enough h)
 members_are n depth k ts (m ∷ ms) old rest deep enough (mid, next, key, first, more) =
     let j = converted_some of_json (value depth mid) m.1 next (first depth deep) in
-    let shorter = BeginsWith-shorter n mid m.1 next first in
+    let shorter = ReadsValue-shorter n mid m.1 next first in
     let less = read_key-shorter ts (Some m.0) mid key in
     let turn = members_more (value depth) k m.0 ts mid next j.0 (omega arith) key j.1 in
     ap (converted (λ more. of_members more old)) turn ∙ with_member m.0 j.0 m.1 old j.2 _
     ∙ members_are n depth (k - 1) next ms (put m.0 m.1 old) rest deep (omega arith) more
 
-pub BeginsWith-object : (n : ℕ) (ts : List Token) (ms : List (List ℕ × Data)) (rest : List Token)
-    → AreMembers n ts ms rest → BeginsWith (suc n) (Token.begin_object ∷ ts)
+pub ReadsValue-object : (n : ℕ) (ts : List Token) (ms : List (List ℕ × Data)) (rest : List Token)
+    → AreMembers n ts ms rest → ReadsValue (suc n) (Token.begin_object ∷ ts)
     (object (put_members ms no_members)) rest
-BeginsWith-object n ts ms rest h depth deep =
+ReadsValue-object n ts ms rest h depth deep =
     ap (converted of_json) (value-begin_object depth ts (omega arith))
     ∙ converted-object (members (value (depth - 1)) (length ts) ts) ∙ ap (parse_map object)
     (members_are n (depth - 1) (length ts) ts ms no_members rest (omega arith)
@@ -340,7 +340,7 @@ HasReadMembers n start P now = (ms : List (List ℕ × Data)) × P ms
 
 pub HasReadMembers-more : (n : ℕ) (start : List Token) (P Q : List (List ℕ × Data) → Type 0)
     (k : List ℕ) (d : Data) (now mid next : List Token) → HasReadMembers n start P now
-    → read_key now ≡ Some (Some k, mid) → BeginsWith n mid d next
+    → read_key now ≡ Some (Some k, mid) → ReadsValue n mid d next
     → ((ms : List (List ℕ × Data)) → P ms → Q (ms ++ (k, d) ∷ [])) → HasReadMembers n start Q next
 HasReadMembers-more n start P Q k d now mid next t key first keeps = (
   t.0 ++ (k, d) ∷ [],
@@ -352,17 +352,17 @@ HasReadMembers-more n start P Q k d now mid next t key first keeps = (
 pub HasReadMembers-all : (n : ℕ) (start : List Token) (P : List (List ℕ × Data) → Type 0)
     (now rest : List Token) → HasReadMembers n start P now → read_key now ≡ Some (None, rest)
     → (ms : List (List ℕ × Data)) × P ms
-    × BeginsWith (suc n) (Token.begin_object ∷ start) (object (put_members ms no_members)) rest
+    × ReadsValue (suc n) (Token.begin_object ∷ start) (object (put_members ms no_members)) rest
 HasReadMembers-all n start P now rest t end = (
   t.0,
   t.1,
-  BeginsWith-object n start t.0 rest
+  ReadsValue-object n start t.0 rest
       (AreMembers-again n start _ _ rest (append-nil t.0) (t.2 [] rest end)),
 )
 
 -- ---- a whole text
 
-pub read-from_tokens : (text : List ℕ) (d : Data) → BeginsWith 3 (tokens text) d []
+pub read-from_tokens : (text : List ℕ) (d : Data) → ReadsValue 3 (tokens text) d []
     → read text ≡ Some d
 read-from_tokens text d h =
     let j = converted_some of_json (value max_depth (tokens text)) d []

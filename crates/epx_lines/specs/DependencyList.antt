@@ -8,6 +8,7 @@ use Rattle.epx_types.specs.declared.id.Id.{Id}
 use Rattle.epx_types.specs.Ids.{id_cmp}
 use Rattle.epx_lines.specs.Elements.{whole, elements, each_of_at_most}
 
+-- the Id of a list of two numbers: a replica, below 256, and a number, below 2^64
 abbrev pub id_of_pair : List Data → Option Id
 id_of_pair (r ∷ i ∷ []) =
     option_and_then
@@ -19,6 +20,7 @@ id_of_pair _ = None
 unfoldable pub id_of : Data → Option Id
 id_of d = option_and_then id_of_pair (elements d)
 
+-- x is not the Id of the instance itself
 abbrev pub is_other : Id → Id → Bool
 is_other self x = not (is_eq (id_cmp x self))
 
@@ -26,7 +28,7 @@ is_other self x = not (is_eq (id_cmp x self))
 abbrev pub rising_ids : List Id → List Id
 rising_ids ids = fold (insert_key id_cmp) [] ids
 
--- the same without the Id of the instance itself
+-- the distinct Ids of a list in rising order, without that of the instance itself
 abbrev pub rising_others : Id → List Id → List Id
 rising_others self ids = rising_ids (filter (is_other self) ids)
 

@@ -4,6 +4,7 @@ use Rattle.std.specs.Prelude.{option_map, option_and_then, if◌then◌else◌}
 use Rattle.serde_json.specs.Data.{Data, Items, no_items, item}
 use Rattle.serde_json.specs.Find.{as_array, as_number, as_u64, as_i64}
 
+-- the number, if it is below the bound
 abbrev pub below : ℕ → ℕ → Option ℕ
 below bound n = if nat_lt n bound then Some n else None
 
@@ -15,6 +16,7 @@ whole bound d = option_and_then (below bound) (option_and_then as_u64 (as_number
 abbrev pub signed : Data → Option ℤ
 signed d = option_and_then as_i64 (as_number d)
 
+-- the elements of an array, as a list
 abbrev pub list_of : Items → List Data
 list_of no_items = []
 list_of (item d ds) = d ∷ list_of ds

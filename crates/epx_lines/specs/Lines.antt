@@ -12,7 +12,7 @@ abbrev pub lines_of : List ℕ → List (List ℕ)
 lines_of [] = []
 lines_of (b ∷ bs) = if b == 10 then [] ∷ lines_of bs else prepend_to_first b (lines_of bs)
 
--- ---- the same without recursion
+-- ---- what the lines of some bytes are, without recursion
 
 -- some bytes follow the last line feed
 abbrev pub lacks_line_feed : List ℕ → Bool
@@ -28,11 +28,11 @@ pub record AreLinesOf (bytes : List ℕ) (lines : List (List ℕ)) : Type 0 wher
   pub unbroken : All (λ l. ¬ Contains l 10) lines
   pub whole : with_line_feeds lines ≡ (if lacks_line_feed bytes then bytes ++ 10 ∷ [] else bytes)
 
--- `lines_of` returns such lines
+-- `lines_of` returns the lines that make up the bytes
 abbrev pub LinesMakeUpTheBytes : Type 0
 LinesMakeUpTheBytes = (bytes : List ℕ) → AreLinesOf bytes (lines_of bytes)
 
--- no other list of lines is such
+-- no other list of lines makes up the bytes
 abbrev pub LinesAreOne : Type 0
 LinesAreOne = (bytes : List ℕ) (lines : List (List ℕ)) → AreLinesOf bytes lines
     → lines ≡ lines_of bytes

@@ -48,7 +48,8 @@ committed_by text =
     (if bytes_eq text (codes "accepted") || bytes_eq text (codes "pre-accepted") then Some false
     else None)
 
--- the same by the member `status` of an object; without one the instance is committed
+-- whether the instance of an object is committed, by its member `status`; it is if there is no
+-- such member; None if there is one that is no status
 abbrev pub is_committed : Option Data → Option Bool
 is_committed None = Some true
 is_committed (Some d) = option_and_then committed_by (as_str d)
@@ -74,9 +75,12 @@ meaning_of_object d =
 
 -- ---- the line
 
+-- what a line means, by its JSON value, which must be an object
 abbrev pub meaning_of_value : Data → Result Line Why
 meaning_of_value d = if is_some (as_object d) then meaning_of_object d else Err NotObject
 
+-- what a line means, by its bytes without the line feed: nothing if it is blank or not committed
+-- yet, an instance, or the first fault
 abbrev pub meaning_of : List ℕ → Result Line Why
 meaning_of bytes =
     if is_blank bytes then Ok Blank else

@@ -8,6 +8,7 @@ use Rattle.epx_types.specs.declared.op.Op.{Op}
 use Rattle.epx_types.specs.declared.op.Op.TheVariants as op
 use Rattle.epx_lines.specs.Elements.{signed, elements, each_of_at_most}
 
+-- the text, if it may be a key: if it has 1 to 64 bytes
 abbrev pub key_from : List ℕ → Option (List ℕ)
 key_from text = if nat_lt 0 (length text) && nat_le (length text) 64 then Some text else None
 
@@ -35,6 +36,7 @@ op_with_value name k d =
     (if bytes_eq name (codes "floor") then option_map (op.Floor k) (signed d) else
     (if bytes_eq name (codes "copy") then option_map (op.Copy k) (key_of d) else None))))
 
+-- the operation that a list names: by its name, its key and, if it has one, its argument
 abbrev pub op_of_list : List Data → Option Op
 op_of_list (n ∷ k ∷ []) = option_and_then (λ name. option_and_then (op_with_key name) (key_of k))
     (as_str n)

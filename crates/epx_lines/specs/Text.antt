@@ -15,17 +15,20 @@ abbrev pub data_of_id : Id → Data
 data_of_id x =
     array (item (number (unsigned x.replica)) (item (number (unsigned x.number)) no_items))
 
+-- a value of the store: a number, or null where there is none
 abbrev pub data_of_value : Option ℤ → Data
 data_of_value None = null
 data_of_value (Some v) = number (of_integer v)
 
--- a name and a key; then the same with a third part
+-- `[name,key]`, an operation without an argument
 abbrev pub op_pair : List ℕ → List ℕ → Data
 op_pair name k = array (item (string name) (item (string k) no_items))
 
+-- `[name,key,d]`, an operation with the argument d
 abbrev pub op_triple : List ℕ → List ℕ → Data → Data
 op_triple name k d = array (item (string name) (item (string k) (item d no_items)))
 
+-- an operation as an array: its name, its key and, if it has one, its argument
 unfoldable pub data_of_op : Op → Data
 data_of_op (Get k) = op_pair (codes "get") k
 data_of_op (Put k v) = op_triple (codes "put") k (number (of_integer v))

@@ -8,7 +8,7 @@ use Rattle.serde_json.specs.Data.{Data, Members, object, put}
 use Rattle.serde_json.specs.Find.{get}
 use Rattle.serde_json.specs.Read.{of_json, converted}
 use Rattle.epx_types.specs.SmallLists.{items_of}
-use Rattle.epx_lines.specs.declared.direct.Parts.{Parts}
+use Rattle.epx_lines.specs.declared.from_tokens.Parts.{Parts}
 use Rattle.epx_lines.specs.Elements.{whole, each_of_at_most}
 use Rattle.epx_lines.specs.DependencyList.{id_of}
 use Rattle.epx_lines.specs.OperationList.{ops_of}
@@ -19,24 +19,24 @@ abbrev pub AreDigitsOf : List ℕ → ℕ → Type 0
 AreDigitsOf text n = IsNumeral 10 text × (digits_value 10 text ≡ n)
 
 -- the tokens begin with the value d, whose lists nest at most n levels deep, and `rest` follows
-abbrev pub BeginsWith : ℕ → List Token → Data → List Token → Type 0
-BeginsWith n ts d rest = (depth : ℕ) → n ≤ depth
+abbrev pub ReadsValue : ℕ → List Token → Data → List Token → Type 0
+ReadsValue n ts d rest = (depth : ℕ) → n ≤ depth
     → converted of_json (value depth ts) ≡ Some (d, rest)
 
 -- the tokens begin with a value for which f returns x
 abbrev pub ParsesTo : {A : Type 0} → ℕ → (Data → Option A) → List Token → A → List Token → Type 0
-ParsesTo n f ts x rest = (d : Data) × BeginsWith n ts d rest × (f d ≡ Some x)
+ParsesTo n f ts x rest = (d : Data) × ReadsValue n ts d rest × (f d ≡ Some x)
 
 -- the tokens begin with the values ds, one after another
-abbrev pub BeginsWithAll : ℕ → List Token → List Data → List Token → Type 0
-BeginsWithAll n ts [] rest = ts ≡ rest
-BeginsWithAll n ts (d ∷ ds) rest = (mid : List Token) × BeginsWith n ts d mid
-    × BeginsWithAll n mid ds rest
+abbrev pub ReadsValues : ℕ → List Token → List Data → List Token → Type 0
+ReadsValues n ts [] rest = ts ≡ rest
+ReadsValues n ts (d ∷ ds) rest = (mid : List Token) × ReadsValue n ts d mid
+    × ReadsValues n mid ds rest
 
 -- the tokens begin with values for which f returns x
 abbrev pub ParsesAllTo : {A : Type 0} → ℕ → (List Data → Option A) → List Token → A → List Token
     → Type 0
-ParsesAllTo n f ts x rest = (ds : List Data) × BeginsWithAll n ts ds rest × (f ds ≡ Some x)
+ParsesAllTo n f ts x rest = (ds : List Data) × ReadsValues n ts ds rest × (f ds ≡ Some x)
 
 -- if the part is known, it is f of the object's member
 abbrev pub IsMember : {A : Type 0} → List ℕ → (Data → Option A) → Members → Option A → Type 0
@@ -55,5 +55,5 @@ pub record HoldsParts (ms : Members) (p : Parts) : Type 0 where
 -- the tokens begin with a value; if the old parts are those of an object, the new ones are those
 -- of the object with this value under the name
 abbrev pub AddsMember : List ℕ → List Token → List Token → Parts → Parts → Type 0
-AddsMember name ts rest old new = (d : Data) × BeginsWith 2 ts d rest
+AddsMember name ts rest old new = (d : Data) × ReadsValue 2 ts d rest
     × ((ms : Members) → HoldsParts ms old → HoldsParts (put name d ms) new)

@@ -63,7 +63,8 @@ fn sort_others(alloc: Global, id: Id, named: &[Id]) -> Result<Vec<Id>, Memory>
     Ok(others.into_iter().collect(alloc)?)
 }
 
-/// As `sort_others`, but a list that is already so is returned unchanged.
+/// The Ids of a list, sorted, without repeats and without the Id of the instance itself. A list
+/// that is so already is returned unchanged, in linear time.
 pub fn sort_other_ids(alloc: Global, id: Id, named: SmallList<Id>) -> Result<SmallList<Id>, Memory>
     ensures { IfOk result (λ list. items_of list ≡ rising_others id (items_of named)) }
 {

@@ -5,7 +5,7 @@
 mod cut;
 mod deps;
 mod digits;
-mod direct;
+mod from_tokens;
 mod laws;
 mod ops;
 mod read;

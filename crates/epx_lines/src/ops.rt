@@ -33,6 +33,7 @@ pub fn read_value_or_null(value: &Value) -> Option<Option<i64>>
     Some(Some(value.as_i64()?))
 }
 
+/// The operation `[name,key]`. None if no operation of this name has a key alone.
 #[tactic(auto, unfolding(crate::specs::OperationList::op_with_key))]
 pub fn op_named(name: &str, key: Key) -> Option<Op>
     ensures { result ≡ op_with_key name.now key }
@@ -46,6 +47,7 @@ pub fn op_named(name: &str, key: Key) -> Option<Op>
     }
 }
 
+/// The operation `[name,key,number]`. None if no operation of this name takes a number.
 #[tactic(auto, unfolding(crate::specs::OperationList::op_with_value))]
 pub fn op_with_number(name: &str, key: Key, number: i64) -> Option<Op>
     ensures { (d : Data) → signed d ≡ Some number → result ≡ op_with_value name.now key d }
@@ -69,6 +71,7 @@ pub fn op_with_number(name: &str, key: Key, number: i64) -> Option<Op>
     }
 }
 
+/// The operation `["copy",key,target]`. None if the name is another one.
 #[tactic(auto, unfolding(crate::specs::OperationList::op_with_value))]
 pub fn op_with_target(name: &str, key: Key, target: Key) -> Option<Op>
     ensures { (d : Data) → key_of d ≡ Some target → result ≡ op_with_value name.now key d }
@@ -83,6 +86,7 @@ pub fn op_with_target(name: &str, key: Key, target: Key) -> Option<Op>
     }
 }
 
+/// The operation `["is",key,null]`: the key must be absent. None if the name is another one.
 #[tactic(auto, unfolding(crate::specs::OperationList::key_of, crate::specs::OperationList::value_or_null, crate::specs::OperationList::op_with_value))]
 pub fn op_with_absence(name: &str, key: Key) -> Option<Op>
     ensures { result ≡ op_with_value name.now key null }
@@ -94,6 +98,7 @@ pub fn op_with_absence(name: &str, key: Key) -> Option<Op>
     }
 }
 
+/// Reads the operation `[name,key,value]`. None if no operation of this name takes such a value.
 #[tactic(auto, unfolding(crate::specs::OperationList::op_with_value))]
 fn op_named_with(alloc: Global, name: &str, key: Key, value: &Value) -> Result<Option<Op>, Memory>
     ensures { IfOk result (λ o. o ≡ op_with_value name.now key (view value.now)) }
@@ -110,6 +115,7 @@ fn op_named_with(alloc: Global, name: &str, key: Key, value: &Value) -> Result<O
     Ok(op_with_target(name, key, target))
 }
 
+/// Reads an operation: `[name,key]` or `[name,key,value]`. None if the value is not one.
 #[tactic(auto, unfolding(crate::specs::OperationList::op_of))]
 fn read_op(alloc: Global, value: &Value) -> Result<Option<Op>, Memory>
     ensures { IfOk result (λ o. o ≡ op_of (view value.now)) }

@@ -11,7 +11,7 @@ ghost use Rattle.epx_lines.specs.OperationList.{ops_of};
 ghost use Rattle.epx_lines.specs.Faults.{IsFaultOf};
 
 use crate::deps::{read_deps, read_number, read_replica};
-use crate::direct::{ListBuffers, entry_from_tokens};
+use crate::from_tokens::{ListBuffers, entry_from_tokens};
 use crate::ops::read_ops;
 use crate::status::committed_by;
 use crate::{Line, LineFault};
@@ -41,6 +41,8 @@ fn is_committed(object: &Value) -> Option<bool>
     committed_by(status.as_str()?)
 }
 
+/// Reads the member `deps` of an object. None if it is missing, or is not an array of at most
+/// `MAX_DEPS` Ids.
 fn member_deps(alloc: Global, id: Id, object: &Value) -> Result<Option<SmallList<Id>>, Memory>
     ensures { IfOk result
         (λ o. option_map items_of o
@@ -52,6 +54,8 @@ fn member_deps(alloc: Global, id: Id, object: &Value) -> Result<Option<SmallList
     }
 }
 
+/// Reads the member `ops` of an object. None if it is missing, or is not an array of at most
+/// `MAX_OPS` operations.
 fn member_ops(alloc: Global, object: &Value) -> Result<Option<Vec<Op>>, Memory>
     ensures { IfOk result
         (λ o. option_map (λ v. v.items) o
@@ -63,6 +67,7 @@ fn member_ops(alloc: Global, object: &Value) -> Result<Option<Vec<Op>>, Memory>
     }
 }
 
+/// What an object means. Its members are read in the order in which their faults are reported.
 #[tactic(auto, unfolding(crate::specs::Meaning::meaning_of_object))]
 fn read_object(alloc: Global, value: &Value) -> Result<Line, LineFault>
     ensures ok { IfOk result (λ l. meaning_of_object (view value.now) ≡ Ok l) }

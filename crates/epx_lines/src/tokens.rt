@@ -5,7 +5,7 @@ ghost use Rattle.serde_json.specs.Data.{string};
 ghost use Rattle.epx_lines.specs.DependencyList.{id_of_pair};
 ghost use Rattle.epx_lines.specs.Elements.{whole, signed};
 ghost use Rattle.epx_lines.specs.OperationList.{key_of, value_or_null};
-ghost use Rattle.epx_lines.specs.Tokens.{BeginsWith, ParsesTo, ParsesAllTo};
+ghost use Rattle.epx_lines.specs.Tokens.{ReadsValue, ParsesTo, ParsesAllTo};
 
 use crate::digits::{read_signed, read_unsigned};
 use epx_types::{Id, Key};
@@ -61,7 +61,7 @@ pub fn take_value_or_null(reader: &mut Reader<'_>) -> Option<Option<i64>>
 
 /// Takes a text, borrowed from the line or from the reader's scratch.
 pub fn take_text<'a>(reader: &mut Reader<'a>) -> Option<&'a str>
-    ensures { IfSome result (λ s. BeginsWith 0 reader.old (string s.now) reader.new) }
+    ensures { IfSome result (λ s. ReadsValue 0 reader.old (string s.now) reader.new) }
 {
     match reader.next()? {
         Token::String(text) => Some(text),

@@ -15,6 +15,7 @@ use epx_types::{Entry, Id, Memory, Op};
 use serde_json::{Value, json};
 use std::alloc::{AllocError, Global};
 
+/// An Id, as `[r,i]`.
 fn id_value(alloc: Global, replica: u8, number: u64) -> Result<Value, AllocError>
     ensures data { IfOk result
         (λ v. view v ≡ data_of_id (record { replica = replica; number = number })) }
@@ -23,6 +24,7 @@ fn id_value(alloc: Global, replica: u8, number: u64) -> Result<Value, AllocError
     json!(in alloc; [replica, number])
 }
 
+/// A number with sign, as a JSON value.
 fn number_value(value: &i64) -> Value
     ensures data { view result ≡ number (of_integer value.now) }
     ensures fits { IsWritableValue value.now }
@@ -31,6 +33,7 @@ fn number_value(value: &i64) -> Value
     Value::from(number)
 }
 
+/// A value of the store: a number, or null where there is none.
 fn value_or_null(value: Option<i64>) -> Value
     ensures data { view result ≡ data_of_value value }
     ensures fits { IfSome value IsWritableValue }
@@ -41,6 +44,7 @@ fn value_or_null(value: Option<i64>) -> Value
     }
 }
 
+/// An operation, as an array of its name, its key and, if it has one, its argument.
 #[tactic(auto, unfolding(crate::specs::Text::data_of_op))]
 fn op_value(alloc: Global, op: &Op) -> Result<Value, AllocError>
     ensures data { IfOk result (λ v. view v ≡ data_of_op op.now) }
@@ -57,6 +61,7 @@ fn op_value(alloc: Global, op: &Op) -> Result<Value, AllocError>
     }
 }
 
+/// Each of the Ids, as `[r,i]`.
 fn id_values(alloc: Global, ids: &[Id]) -> Result<Vec<Value>, AllocError>
     ensures data { IfOk result (λ v. map view v.items ≡ map data_of_id ids.now) }
     ensures fit { OnOk result (All IsWritableId ids.now) }
@@ -68,6 +73,7 @@ fn id_values(alloc: Global, ids: &[Id]) -> Result<Vec<Value>, AllocError>
     Ok(values)
 }
 
+/// Each of the operations, as an array.
 fn op_values(alloc: Global, ops: &[Op]) -> Result<Vec<Value>, AllocError>
     ensures data { IfOk result (λ v. map view v.items ≡ map data_of_op ops.now) }
     ensures fit { OnOk result (All IsWritableOp ops.now) }
@@ -79,6 +85,7 @@ fn op_values(alloc: Global, ops: &[Op]) -> Result<Vec<Value>, AllocError>
     Ok(values)
 }
 
+/// The object of these members, in the order of their names.
 fn object_value(
     alloc: Global,
     replica: u8,
@@ -94,6 +101,7 @@ fn object_value(
     json!(in alloc; {"deps": deps, "i": number, "ops": ops, "r": replica, "seq": seq})
 }
 
+/// The object of an entry.
 fn entry_value(alloc: Global, entry: &Entry) -> Result<Value, AllocError>
     ensures data { IfOk result (λ v. view v ≡ object_of entry.now) }
     ensures fits { OnOk result (IsWritableEntry entry.now) }

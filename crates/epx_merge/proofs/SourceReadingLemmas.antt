@@ -174,7 +174,7 @@ module _ {S : Type 0} (D : SourceModel S) (first : List S) where
       next_read (Err f) given whole ended short of_log stops failed long taken =
           stopped_at f of_log long stops failed taken
 
-      -- the same, by how reading its log ended
+      -- the result of reading the next source, by how reading its log ended
       pub next_log : (result : Result (List ℕ) Fault)
           → EndsLog D n (get_or now n next) later result → MatchResult result
           (λ bytes. AreDeliveredUpTo D first (set now n later) (n + 1) (logs ++ bytes ∷ []))

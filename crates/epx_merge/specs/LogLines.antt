@@ -19,6 +19,7 @@ pub record MeaningAt : Type 0 where
   pub place : Place
   pub meaning : Result Line Why
 
+-- the meaning of the line of these bytes, with its place
 abbrev pub meaning_at : Place → List ℕ → MeaningAt
 meaning_at place bytes = record { place = place; meaning = meaning_of bytes }
 
@@ -39,29 +40,36 @@ meanings_of logs = meanings_from 0 logs
 
 -- ---- the lines that have an instance
 
+-- a line that has an instance, with its place; none if it is blank or bad
 abbrev pub placed_at : Place → Result Line Why → List Placed
 placed_at p (Ok Blank) = []
 placed_at p (Ok (Entry e)) = record { place = p; instance = e } ∷ []
 placed_at p (Err why) = []
 
+-- those of some lines that have an instance
 abbrev pub placed_among : List MeaningAt → List Placed
 placed_among lines = flat_map (λ l. placed_at l.place l.meaning) lines
 
+-- the lines of all logs that have an instance, by rising place
 abbrev pub placed_of : List (List ℕ) → List Placed
 placed_of logs = placed_among (meanings_of logs)
 
 -- ---- the lines that have a fault
 
+-- a bad line: its place, and the first fault that applies
 pub record BadLineAt : Type 0 where
   pub place : Place
   pub why : Why
 
+-- a bad line, with its place and its fault; none if it is blank or has an instance
 abbrev pub bad_lines_at : Place → Result Line Why → List BadLineAt
 bad_lines_at p (Ok l) = []
 bad_lines_at p (Err why) = record { place = p; why = why } ∷ []
 
+-- those of some lines that have a fault
 abbrev pub bad_lines_among : List MeaningAt → List BadLineAt
 bad_lines_among lines = flat_map (λ l. bad_lines_at l.place l.meaning) lines
 
+-- the lines of all logs that have a fault, by rising place
 abbrev pub bad_lines_of : List (List ℕ) → List BadLineAt
 bad_lines_of logs = bad_lines_among (meanings_of logs)

@@ -21,6 +21,7 @@ pub record IsCleanRead {E : Type 0} (holds : List Placed → E → Type 0) (line
   pub clean : bad_lines_among lines ≡ []
   pub placed : holds (placed_among lines) held
 
+-- this is the first of the lines that is bad, with its fault
 abbrev pub IsFirstBad : List MeaningAt → BadLine → Type 0
 IsFirstBad lines bad = IsFirstBadLine (bad_lines_among lines) bad.place bad.why
 

@@ -13,11 +13,13 @@ use Rattle.epx_merge.specs.LogLines.{placed_of, BadLineAt, bad_lines_of}
 
 -- ---- the least log that is too long
 
+-- the log with this number is the first that has over `max_log_bytes` bytes
 pub record IsFirstTooLong (logs : List (List ℕ)) (log : ℕ) : Type 0 where
   pub long : (bytes : List ℕ) × (slice_get logs log ≡ Some bytes) × (max_log_bytes < length bytes)
   pub first : (k : ℕ) (bytes : List ℕ) → k < log → slice_get logs k ≡ Some bytes
       → length bytes ≤ max_log_bytes
 
+-- each log has at most `max_log_bytes` bytes
 abbrev pub NoneTooLong : List (List ℕ) → Type 0
 NoneTooLong logs = (k : ℕ) (bytes : List ℕ) → slice_get logs k ≡ Some bytes
     → length bytes ≤ max_log_bytes

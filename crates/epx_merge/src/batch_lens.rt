@@ -7,11 +7,12 @@ use epx_types::Plan;
 /// not worth a thread.
 const MIN_LINES_EACH: usize = 4_096;
 
-/// The same in later logs. Most of their lines repeat earlier ones, and are skipped in little time.
+/// The least number of lines in a batch for each of several workers, in later logs. Most of their
+/// lines repeat earlier ones, and are skipped in little time.
 const MIN_LATER_LINES_EACH: usize = 8_192;
 
-/// The same for one worker, which starts no thread. So few lines stay in its cache until it reads
-/// them.
+/// The least number of lines in a batch for one worker, which starts no thread. So few lines stay
+/// in its processor's cache until it reads them.
 const MIN_LINES_ALONE: usize = 1_024;
 
 /// The greatest number of lines in a batch, so that longer logs take no more memory. Up to two

@@ -26,12 +26,14 @@ impl<'a> Model for PlacedLine<'a> {
 }
 
 impl<'a> PlacedLine<'a> {
+    /// The line of these bytes, which have no line feed, at a place.
     pub(crate) fn new(place: Place, bytes: &'a [u8]) -> PlacedLine<'a>
         ensures { result ≡ meaning_at place bytes.now }
     {
         PlacedLine { place, bytes }
     }
 
+    /// The log and the number of the line.
     pub fn place(&self) -> Place
         ensures { result ≡ self.now.place }
     {
@@ -53,6 +55,7 @@ impl<'a> PlacedLine<'a> {
         is_blank_line(self.bytes)
     }
 
+    /// Reads the line with the reader's buffers.
     pub fn read(&self, alloc: Global, reader: &mut LineReader) -> Result<Line, LineFault>
         ensures line { IfOk result (λ l. self.now.meaning ≡ Ok l) }
         ensures fault { IfErr result (λ f. IsFaultOf f self.now.meaning) }

@@ -57,6 +57,7 @@ fn line_end(bytes: &[u8], start: usize) -> usize
 }
 
 impl LineBatch {
+    /// A batch of no lines.
     pub fn new(alloc: Global) -> LineBatch
         ensures { result ≡ [] }
     {
@@ -66,6 +67,7 @@ impl LineBatch {
         }
     }
 
+    /// The number of lines that it holds. Blank lines are not among them.
     pub fn len(&self) -> usize
         ensures { result ≡ length self.now }
     {

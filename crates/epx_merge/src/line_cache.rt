@@ -69,6 +69,7 @@ impl<'a> LineCache<'a> {
         }
     }
 
+    /// An empty cache whose slots are free.
     fn with_slots(alloc: Global) -> Result<LineCache<'a>, Memory>
         ensures { IfOk result (λ cache. cache ≡ []) }
     {
@@ -128,6 +129,7 @@ impl<'a> LineCache<'a> {
         let _made = self.kept.reserve(unseen);
     }
 
+    /// What a slot holds. None if there is no such slot.
     fn slot(&self, at: usize) -> Option<u64> {
         self.slots.get(at).copied()
     }

@@ -47,7 +47,10 @@ pub fn merge_sources<R: Threads + RandomSource + Sync, S: Source, G: Gate + Sync
     merge_noted(noted)
 }
 
-/// As `merge_sources`, for logs in memory.
+/// The committed map of logs in memory, or their first refusal.
+///
+/// The lines of all logs are cut into the plan's pieces, which its workers claim. The result is
+/// the same for every plan, gate and random source. `Memory` can come instead of any result.
 pub fn read_logs<R: Threads + RandomSource + Sync, G: Gate + Sync>(
     rt: &R,
     alloc: Global,

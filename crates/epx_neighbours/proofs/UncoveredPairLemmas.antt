@@ -26,7 +26,7 @@ use Rattle.epx_neighbours.specs.declared.uncovered_row.UncoveredRow.{UncoveredRo
 use Rattle.epx_neighbours.specs.inner.KeyNumbers.{keys_in, number_of}
 use Rattle.epx_neighbours.specs.inner.KeyTouches.{AreTouches}
 use Rattle.epx_neighbours.specs.inner.NumberedPairs.{AreNumbered, HasTouch, HasWrite}
-use Rattle.epx_neighbours.specs.inner.UncoveredRows.{RowBelow, AreRows, AreOfKeys}
+use Rattle.epx_neighbours.specs.inner.UncoveredRows.{RowBelow, AreRows, HavePositionsWithin}
 use Rattle.epx_neighbours.specs.inner.UncoveredRows.{pair_of}
 use Rattle.epx_neighbours.proofs.KeyNumberLemmas.{at_number}
 use Rattle.epx_neighbours.proofs.TouchLemmas.{keys_rise, write_iff, touch_iff}
@@ -178,7 +178,7 @@ module _ (m : List Instance) (order : List Ranked) (orders : IsExecutionOrder m 
       let n = numbered_within commands touches are x ((exact x).0 h) in
       (omega (arith, n.0, same_length), omega (arith, n.1, same_length))
 
-  pub found_within : AreOfKeys (length ids) found
+  pub found_within : HavePositionsWithin (length ids) found
   found_within = All-weaker (Contains found) _ found_in found (All-contains_itself found)
 
   -- the later position of each two neighbours comes first
@@ -318,7 +318,7 @@ module _ (m : List Instance) (order : List Ranked) (orders : IsExecutionOrder m 
       (commands_in m (ranked_ids order)) touches
   known = subst₂ (λ ks cs. AreTouches ks cs touches) names_are all_is are
 
-  pub all_within : AreOfKeys (length (ranked_ids order)) found
+  pub all_within : HavePositionsWithin (length (ranked_ids order)) found
   all_within = found_within m order orders touches known found exact
 
   pub all_pairs_within : AreLaterFirst (length order) (map (λ x. (x.after, x.before)) found)

@@ -7,6 +7,7 @@ use Rattle.epx_types.specs.CommandKeys.{touched_keys, written_keys}
 abbrev pub TouchesAt : List (List Op) → ℕ → List ℕ → Type 0
 TouchesAt commands p k = Contains (touched_keys (slice_index_or commands p [])) k
 
+-- the command at a position writes the key; past the end of the list there is no command
 abbrev pub WritesAt : List (List Op) → ℕ → List ℕ → Type 0
 WritesAt commands p k = Contains (written_keys (slice_index_or commands p [])) k
 

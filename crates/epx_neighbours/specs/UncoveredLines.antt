@@ -12,6 +12,7 @@ pair_data n = string (codes "uncovered") ∷ data_of_number n.before.replica
     ∷ data_of_number n.before.number ∷ data_of_number n.after.replica
     ∷ data_of_number n.after.number ∷ string n.key ∷ []
 
+-- the line of two neighbours that are not related, with their key
 abbrev pub pair_line : NeighbourPair → List ℕ
 pair_line n = line_of (pair_data n)
 

@@ -22,6 +22,7 @@ abbrev pub pair_cmp : NeighbourPair → NeighbourPair → Ordering
 pair_cmp a b = ordering_then (id_cmp a.before b.before)
     (ordering_then (id_cmp a.after b.after) (key_cmp a.key b.key))
 
+-- pair a comes before pair b, by the first Id, the second Id and the key
 abbrev pub PairBelow : NeighbourPair → NeighbourPair → Type 0
 PairBelow a b = is_lt (pair_cmp a b) ≡ true
 
@@ -35,7 +36,7 @@ pub record IsUncoveredPair (m : List Instance) (order : List Ranked) (n : Neighb
   pub neighbours : AreNeighbours (commands_in m (ranked_ids order)) first second n.key
   pub apart : (¬ Reaches m n.before n.after) × (¬ Reaches m n.after n.before)
 
--- all such pairs, each once, rising
+-- all uncovered pairs of an execution order, each once, rising
 pub record AreUncoveredPairs (m : List Instance) (order : List Ranked)
     (pairs : List NeighbourPair) : Type 0 where
   pub exact : (n : NeighbourPair) → Contains pairs n ↔ IsUncoveredPair m order n

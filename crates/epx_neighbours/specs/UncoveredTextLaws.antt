@@ -16,7 +16,7 @@ abbrev pub UncoveredTextExists : Type 0
 UncoveredTextExists = (m : List Instance) → IsRising (ids_of m)
     → (text : List ℕ) × IsUncoveredText m text
 
--- a map has at most one such text
+-- a map has at most one text of its uncovered neighbours
 abbrev pub UncoveredTextIsUnique : Type 0
 UncoveredTextIsUnique = (m : List Instance) (text other : List ℕ) → IsUncoveredText m text
     → IsUncoveredText m other → text ≡ other

@@ -9,6 +9,7 @@ use epx_types::{Command, Key, Memory, Op};
 use std::alloc::Global;
 use std::collections::BTreeSet;
 
+/// Adds a key to the set. One that is there already changes nothing.
 fn add_key<'a>(keys: &mut BTreeSet<&'a Key>, key: &'a Key) -> Result<(), Memory>
     ensures { OnOk result
         (map (λ k. k.now) keys.new.keys ≡
@@ -18,6 +19,7 @@ fn add_key<'a>(keys: &mut BTreeSet<&'a Key>, key: &'a Key) -> Result<(), Memory>
     Ok(())
 }
 
+/// Adds the keys that an operation touches: one, or two if it copies.
 fn add_operation<'a>(keys: &mut BTreeSet<&'a Key>, op: &'a Op) -> Result<(), Memory>
     ensures { OnOk result
         (map (λ k. k.now) keys.new.keys ≡
@@ -31,6 +33,7 @@ fn add_operation<'a>(keys: &mut BTreeSet<&'a Key>, op: &'a Op) -> Result<(), Mem
     }
 }
 
+/// Adds the keys that the operations of a command touch.
 fn add_command<'a>(keys: &mut BTreeSet<&'a Key>, ops: &'a [Op]) -> Result<(), Memory>
     ensures { OnOk result
         (map (λ k. k.now) keys.new.keys ≡
@@ -42,6 +45,7 @@ fn add_command<'a>(keys: &mut BTreeSet<&'a Key>, ops: &'a [Op]) -> Result<(), Me
     Ok(())
 }
 
+/// The set of the keys that commands touch. Takes O(n log n) time for n operations.
 fn gather_keys<'a>(alloc: Global, commands: &[Command<'a>]) -> Result<BTreeSet<&'a Key>, Memory>
     ensures { IfOk result (λ keys. map (λ k. k.now) keys.keys
         ≡ keys_in (map (λ c. c.ops.now) commands.now)) }

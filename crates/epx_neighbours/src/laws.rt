@@ -8,7 +8,7 @@ pub fn uncovered_text_exists()
     ensures { UncoveredTextExists }
 {}
 
-/// A map has at most one such text.
+/// A map has at most one text of its uncovered neighbours.
 pub fn uncovered_text_is_unique()
     ensures { UncoveredTextIsUnique }
 {}

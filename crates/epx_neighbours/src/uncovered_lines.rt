@@ -14,6 +14,7 @@ use epx_types::{Id, Key, Memory};
 use serde_json::{Value, json};
 use std::alloc::{AllocError, Global};
 
+/// The array of a pair: `["uncovered",r,i,r2,i2,k]`.
 fn pair_value(alloc: Global, before: Id, after: Id, key: &Key) -> Result<Value, AllocError>
     ensures data { IfOk result (λ v. view v ≡ array_of
         (pair_data (record { before = before; after = after; key = key.now }))) }

@@ -1,7 +1,7 @@
 //! Neighbours that are not related.
 ghost use Rattle.std.specs.Prelude.{◌≡◌, ◌↔◌, length, Contains, IfOk};
 ghost use Rattle.epx_neighbours.specs.declared.uncovered_row.UncoveredRow.{UncoveredRow};
-ghost use Rattle.epx_neighbours.specs.inner.UncoveredRows.{AreRows, AreOfKeys, IsUnmarked};
+ghost use Rattle.epx_neighbours.specs.inner.UncoveredRows.{AreRows, HavePositionsWithin, IsUnmarked};
 
 use crate::neighbours::Neighbours;
 use epx_types::{Id, Memory};
@@ -24,7 +24,7 @@ fn unmarked_rows(
     found: &[Neighbours],
     marks: &[bool],
 ) -> Result<Vec<UncoveredRow>, Memory>
-    requires within { AreOfKeys (length ids.now) found.now }
+    requires within { HavePositionsWithin (length ids.now) found.now }
     requires marks { length marks.now ≡ length found.now }
     ensures { IfOk result (λ rows. (r : UncoveredRow) → Contains rows.items r
         ↔ IsUnmarked ids.now found.now marks.now (length found.now) r) }
@@ -50,7 +50,7 @@ pub(crate) fn rows_of(
     found: &[Neighbours],
     marks: &[bool],
 ) -> Result<Vec<UncoveredRow>, Memory>
-    requires within { AreOfKeys (length ids.now) found.now }
+    requires within { HavePositionsWithin (length ids.now) found.now }
     requires marks { length marks.now ≡ length found.now }
     ensures { IfOk result (λ rows. AreRows ids.now found.now marks.now rows.items) }
 {

@@ -52,7 +52,7 @@ module _ (marks : List Bool) (x : ℕ) (within : x < length marks) where
 
 -- ---- one marking after another
 
--- the same for a property that holds of the same nodes
+-- what marks more nodes by one property does so by any property that holds of the same nodes
 pub marking_same : (P Q : ℕ → Type 0) (old new : MarkedLevel) → ((k : ℕ) → P k → Q k)
     → ((k : ℕ) → Q k → P k) → MarksMore P old new → MarksMore Q old new
 marking_same P Q old new there back is = record {

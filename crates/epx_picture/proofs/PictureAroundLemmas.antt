@@ -46,7 +46,7 @@ part_of_picture m x n near text exact p = record {
   printed = refl;
 }
 
--- the same from all boxes and all missing instances
+-- the text of those boxes and missing instances that pass the test is a picture around x
 pub picture_from_marked : (m : List Instance) (g : DependencyGraph) → IsGraphOf m g → (x : Id)
     (n : ℕ) (near : Id → Bool) → IsWithinTest m n x near → (all node_boxes : List NodeBox)
     (missing : List Id) (text : List ℕ) → map (λ d. d.id) all ≡ ids_of m
@@ -142,7 +142,8 @@ picture_around_is_whole m x n text all = (there, back) where
 
 -- ---- more steps
 
--- the same picture, where as much lies within the steps
+-- a picture of n steps around x is one of l steps, if the same instances are within n steps and
+-- within l steps
 same_around : (m : List Instance) (x : Id) (n l : ℕ) (text : List ℕ)
     → ((y : Id) → IsWithinSteps m n x y → IsWithinSteps m l x y)
     → ((y : Id) → IsWithinSteps m l x y → IsWithinSteps m n x y)

@@ -23,7 +23,7 @@ abbrev pub PictureAroundExists : Type 0
 PictureAroundExists = (m : List Instance) (x : Id) (n : ℕ) → IsRising (ids_of m)
     → (text : List ℕ) × IsPictureAround m x n text
 
--- and no other one
+-- in a committed map there is at most one picture of n steps around an instance
 abbrev pub PictureAroundIsUnique : Type 0
 PictureAroundIsUnique = (m : List Instance) (x : Id) (n : ℕ) (text other : List ℕ)
     → IsPictureAround m x n text → IsPictureAround m x n other → text ≡ other

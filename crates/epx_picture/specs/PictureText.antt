@@ -6,9 +6,11 @@ use Rattle.epx_types.specs.Faults.{id_text}
 use Rattle.epx_types.specs.Instances.{Instance}
 use Rattle.epx_picture.specs.declared.node_box.NodeBox.{NodeBox}
 
+-- the first lines of every picture: a directed graph whose nodes are boxes
 abbrev pub head_text : List ℕ
 head_text = codes "digraph dependencies {\n  node [shape=box];\n"
 
+-- the last line of every picture
 abbrev pub foot_text : List ℕ
 foot_text = codes "}\n"
 
@@ -35,6 +37,7 @@ in_cluster None box = codes "  " ++ (box ++ codes "\n")
 in_cluster (Some leader) box = codes "  subgraph \"cluster "
     ++ (id_text leader ++ (codes "\" { " ++ (box ++ codes " }\n")))
 
+-- the line of a committed instance: its box, in a cluster if its component has another member
 abbrev pub box_line : NodeBox → List ℕ
 box_line d = in_cluster d.cluster (box_text d)
 
@@ -46,6 +49,7 @@ missing_box_line x = codes "  \"" ++ (id_text x ++ codes "\" [style=dotted];\n")
 abbrev pub arrow_line : Id → Id → List ℕ
 arrow_line x y = codes "  \"" ++ (id_text x ++ (codes "\" -> \"" ++ (id_text y ++ codes "\";\n")))
 
+-- an arrow from the instance to each of its dependencies
 abbrev pub arrow_lines : Instance → List ℕ
 arrow_lines e = flat_map (arrow_line e.id) e.deps
 

@@ -16,6 +16,7 @@ use epx_graph::Graph;
 use epx_types::{Entry, Id, Memory};
 use std::alloc::{AllocError, Global};
 
+/// Writes the line of a committed instance: its box, in a cluster if it has one.
 fn write_box(text: &mut String, node_box: NodeBox) -> Result<(), AllocError>
     ensures { OnOk result (string_bytes text.new ≡ string_bytes text.old ++ box_line node_box) }
 {
@@ -25,12 +26,14 @@ fn write_box(text: &mut String, node_box: NodeBox) -> Result<(), AllocError>
     }
 }
 
+/// Writes the line of a missing instance: a dotted box.
 fn write_missing(text: &mut String, id: Id) -> Result<(), AllocError>
     ensures { OnOk result (string_bytes text.new ≡ string_bytes text.old ++ missing_box_line id) }
 {
     write!(text, "  \"{id}\" [style=dotted];\n")
 }
 
+/// Writes the arrow from an instance to one of its dependencies.
 fn write_arrow(text: &mut String, id: Id, dependency: Id) -> Result<(), AllocError>
     ensures { OnOk result (string_bytes text.new
         ≡ string_bytes text.old ++ arrow_line id dependency) }
@@ -38,6 +41,7 @@ fn write_arrow(text: &mut String, id: Id, dependency: Id) -> Result<(), AllocErr
     write!(text, "  \"{id}\" -> \"{dependency}\";\n")
 }
 
+/// Writes the arrows from an instance to all of its dependencies.
 fn write_arrows(text: &mut String, entry: &Entry) -> Result<(), AllocError>
     ensures { OnOk result (string_bytes text.new ≡ string_bytes text.old ++ arrow_lines entry.now) }
 {
@@ -48,6 +52,7 @@ fn write_arrows(text: &mut String, entry: &Entry) -> Result<(), AllocError>
     Ok(())
 }
 
+/// Writes the lines of committed instances.
 fn write_boxes(text: &mut String, node_boxes: &[NodeBox]) -> Result<(), AllocError>
     ensures { OnOk result (string_bytes text.new
         ≡ string_bytes text.old ++ flat_map box_line node_boxes.now) }
@@ -58,6 +63,7 @@ fn write_boxes(text: &mut String, node_boxes: &[NodeBox]) -> Result<(), AllocErr
     Ok(())
 }
 
+/// Writes the lines of missing instances.
 fn write_all_missing(text: &mut String, missing: &[Id]) -> Result<(), AllocError>
     ensures { OnOk result (string_bytes text.new
         ≡ string_bytes text.old ++ flat_map missing_box_line missing.now) }
@@ -68,6 +74,7 @@ fn write_all_missing(text: &mut String, missing: &[Id]) -> Result<(), AllocError
     Ok(())
 }
 
+/// Writes the arrows from all instances of a map to their dependencies.
 fn write_all_arrows(text: &mut String, merged: &Merged) -> Result<(), AllocError>
     ensures { OnOk result (string_bytes text.new
         ≡ string_bytes text.old ++ flat_map arrow_lines merged.now) }

@@ -112,7 +112,7 @@ task_answered : {Given T : Type 0} {OfKnown : (Given → Type 0) → Type 0}
 task_answered found run task texts given known answers =
     let w = known _ run.text in (w.0, answers w.0 w.1, w.2)
 
--- the same for a run that ended with a fault
+-- what a task over known texts comes to, by the run over them that ended with a fault
 task_refused : {Given T : Type 0} {OfKnown : (Given → Type 0) → Type 0}
     {Answer : Given → List ℕ → Type 0} {IsFault : Given → Fault → Type 0}
     {Delivered : (List ℕ → Type 0) → Type 0} {Ends : Fault → Type 0} {W : SinkModel T}

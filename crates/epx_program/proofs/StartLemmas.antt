@@ -19,7 +19,7 @@ use Rattle.epx_program.specs.FollowStops.{CannotRead, RefusesState}
 use Rattle.epx_program.specs.SourcesAt.{IsSourceAt, SourceAt, model_at}
 use Rattle.epx_program.specs.inner.Follows.{RefusesStart}
 
--- as many lines as what they say
+-- if each line says one thing, there are as many lines as things said
 as_many : {A : Type 0} (f : List ℕ → Option A) (lines : List (List ℕ)) (said : List A)
     → map f lines ≡ map Some said → length lines ≡ length said
 as_many f lines said e =

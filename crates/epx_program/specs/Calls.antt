@@ -49,12 +49,15 @@ IsFollow (asked.Text text status) = ⊥
 -- finds in the words
 pub record Asks (words : List Text) (wanted : Words) : Type 0 where
   pub bare : IsBare words → wanted ≡ asked.Work Run (record { workers = 4; cut = 256 }) None
+  -- with a subcommand, work and following are what clap finds in its words
   pub work : ¬ IsBare words → IfWork (AsksFor (subcommand_of epx_app words)) wanted
   pub follow : ¬ IsBare words → IfFollow (AsksToFollow (subcommand_of epx_app words)) wanted
   pub flags : ¬ IsBare words → IsWork wanted
       → FitFlags (flags_of wanted) (rows_in (subcommand_of epx_app words))
+  -- work is wanted exactly if clap takes the words and they name all that they ask about
   pub taken : ¬ IsBare words
       → IsWork wanted ↔ IsTaken (fault_of epx_app words) (subcommand_of epx_app words)
+  -- a text is wanted only if clap does not take the words, or they name too little
   pub text : ¬ IsBare words → IfText (λ status. ((takes epx_app words ≡ false)
       ⊎ (¬ NamesAll (subcommand_of epx_app words)))
       × IsTextStatus (fault_of epx_app words) (subcommand_of epx_app words) status) wanted

@@ -92,7 +92,7 @@ abbrev pub answer_status : Bool → Bool → ℕ
 answer_status true true = 5
 answer_status _ _ = 0
 
--- that of an answer if the task succeeded, otherwise that of the fault
+-- the status after a task: that of the answer if it succeeded, otherwise that of the fault
 abbrev pub status_of : Bool → Result Bool Fault → ℕ
 status_of exit_code (Ok found) = answer_status exit_code found
 status_of exit_code (Err fault) = fault_status fault
@@ -109,6 +109,6 @@ EndsWith exit_code task texts status old new =
 abbrev pub IsAnswerStatus : ℕ → Type 0
 IsAnswerStatus status = (status ≡ 0) ⊎ (status ≡ 5)
 
--- that of an answer or of a fault
+-- the status of an answer or of a fault
 abbrev pub IsStatus : ℕ → Type 0
 IsStatus status = IsAnswerStatus status ⊎ ((fault : Fault) × (status ≡ fault_status fault))

@@ -13,10 +13,11 @@ use Rattle.epx_program.specs.Inputs.{AreTextsAt, AreTextsRead, TextRelation}
 use Rattle.epx_program.specs.PathsRead.{paths_read}
 use Rattle.epx_program.specs.Saving.{CannotSave, SaveRelation, SavesState}
 
--- the path of the state to go on from, and that under which the state at the end is saved
+-- the path of the state to go on from, if there is one
 abbrev pub state_of : FollowOptions → Option (List ℕ)
 state_of options = option_map string_bytes options.state
 
+-- the path under which the state at the end is saved, if there is one
 abbrev pub save_of : FollowOptions → Option (List ℕ)
 save_of options = option_map string_bytes options.save
 
@@ -52,7 +53,7 @@ pub record StopsBefore (Is : TextRelation) (Saving : SaveRelation) (options : Fo
   pub stops : ((fault ≡ Memory) × Keeps old new)
       ⊎ Is.Stops (state_of options) options.each paths fault old new
 
--- `Saving` says what is saved
+-- How the program that follows logs ends. `Saving` says what is saved
 pub record EndsFollow (Is : TextRelation) (Saving : SaveRelation) (options : FollowOptions)
     (paths : Option (List (List ℕ))) (status : ℕ) (failed : Bool) (old new : Option (List ℕ))
     : Type 0 where

@@ -21,7 +21,8 @@ pub record TextRelation : Type 1 where
   pub Stops : Option (List ℕ) → Bool → Option (List (List ℕ)) → Fault
       → Option (List ℕ) → Option (List ℕ) → Type 0
 
--- the same texts once the input is read: nothing is left of it, so its text is empty
+-- which text is that of a path once the input is read: nothing is left of the input, so its text
+-- is empty
 abbrev pub after_input : TextRelation → TextRelation
 after_input Is = record Is { OfInput = λ text. text ≡ [] }
 
@@ -33,7 +34,7 @@ AreTextsAt Is (path ∷ paths) (text ∷ texts) =
     ((path ≢ codes "-") × Is.OfFile path text × AreTextsAt Is paths texts)
     ⊎ ((path ≡ codes "-") × Is.OfInput text × AreTextsAt (after_input Is) paths texts)
 
--- the texts that are read there
+-- the texts that are read at these paths; without paths that of the input is read
 abbrev pub AreTextsRead : TextRelation → Option (List (List ℕ)) → List (List ℕ) → Type 0
 AreTextsRead Is paths = AreTextsAt Is (paths_read paths)
 

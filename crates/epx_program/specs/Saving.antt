@@ -14,6 +14,7 @@ pub record SaveRelation : Type 1 where
   pub Refuses : List ℕ → List ℕ → Type 0
   pub IsUnused : Type 0
 
+-- what became of a saver of this model, from its states before and after
 abbrev pub save_relation : {V : Type 0} → SaverModel V → V → V → SaveRelation
 save_relation model old new = record {
   Saves = λ path bytes. model.saves old path bytes new;
@@ -30,7 +31,7 @@ abbrev pub SavesState : SaveRelation → Option (List ℕ) → FollowerView → 
 SavesState Saving None v = Saving.IsUnused
 SavesState Saving (Some path) v = (bytes : List ℕ) × IsStateOf bytes v × Saving.Saves path bytes
 
--- it cannot be saved under the path: out of memory, or the saver refuses it
+-- the state of the follower cannot be saved under the path: out of memory, or the saver refuses it
 abbrev pub CannotSave : SaveRelation → Option (List ℕ) → FollowerView → Fault → Type 0
 CannotSave Saving None v fault = ⊥
 CannotSave Saving (Some path) v fault = ((fault ≡ Memory) × Saving.IsUnused)

@@ -11,7 +11,7 @@ use Rattle.epx_devices.specs.declared.either_source.EitherSource.TheVariants.{Fi
 abbrev pub SourceAt : Type 0 → Type 0 → Type 0 → Type 0
 SourceAt O F I = EitherSource (PathState O F) (EitherSource I (List ℕ))
 
--- its model
+-- the model of a source at a path, by those of the opener, of its files and of the input
 abbrev pub model_at : {O F I : Type 0} → OpenerModel O F → SourceModel F → SourceModel I
     → SourceModel (SourceAt O F I)
 model_at opening D E = either_source (path_source opening D) (either_source E memory_source)

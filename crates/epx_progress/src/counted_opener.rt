@@ -22,6 +22,7 @@ impl<'a, R, O> Model for CountedOpener<'a, R, O> {
 }
 
 impl<'a, R, O> CountedOpener<'a, R, O> {
+    /// Opens files by `opener`. What is read of them is counted in `progress`.
     pub fn new(opener: &'a O, progress: &'a Progress<'a, R>) -> CountedOpener<'a, R, O>
         ensures { result ≡ opener.now }
     {

@@ -23,6 +23,7 @@ impl<'a, R, S> Model for CountedSource<'a, R, S> {
 }
 
 impl<'a, R: Clock + Eprint, S: Source> CountedSource<'a, R, S> {
+    /// Reads `source`. What is read of it from now on is counted in `progress`.
     pub fn new(source: S, progress: &'a Progress<'a, R>) -> CountedSource<'a, R, S>
         ensures { result ≡ source }
     {

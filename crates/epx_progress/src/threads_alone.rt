@@ -13,6 +13,7 @@ pub struct ThreadsAlone<'a, R> {
 }
 
 impl<'a, R> ThreadsAlone<'a, R> {
+    /// The threads of `rt`, without its clock and its standard error.
     pub fn new(rt: &'a R) -> ThreadsAlone<'a, R> {
         ThreadsAlone { rt }
     }

@@ -12,7 +12,7 @@ abbrev pub OrderFaultIsUnique : Type 0
 OrderFaultIsUnique = (m : List Instance) (ids : List Id) (f g : OrderFault)
     → f ≢ Memory → g ≢ Memory → IsOrderFault m ids f → IsOrderFault m ids g → f ≡ g
 
--- a lawful order has none
+-- a lawful order has no fault, except for out of memory
 abbrev pub LawfulOrderHasNoFault : Type 0
 LawfulOrderHasNoFault = (m : List Instance) (ids : List Id) (f : OrderFault) → f ≢ Memory
     → IsLawful m ids → ¬ IsOrderFault m ids f

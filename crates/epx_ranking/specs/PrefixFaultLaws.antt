@@ -22,7 +22,7 @@ abbrev pub PrefixFaultIsUnique : Type 0
 PrefixFaultIsUnique = (m : List Instance) (ids : List Id) (f g : OrderFault) → f ≢ Memory
     → g ≢ Memory → IsPrefixFault m ids f → IsPrefixFault m ids g → f ≡ g
 
--- a prefix of a lawful order has none
+-- a prefix of a lawful order has no fault as a prefix, except for out of memory
 abbrev pub LawfulPrefixHasNoFault : Type 0
 LawfulPrefixHasNoFault = (m : List Instance) (ids : List Id) (f : OrderFault) → f ≢ Memory
     → IsLawfulPrefix m ids → ¬ IsPrefixFault m ids f

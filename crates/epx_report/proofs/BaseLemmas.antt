@@ -7,8 +7,8 @@ use Rattle.epx_types.proofs.Common.{insert_all-from_entries, entries-from_entrie
 use Rattle.epx_types.specs.declared.id.Id.{Id}
 use Rattle.std.specs.FinMap as contents
 use Rattle.epx_lines.specs.Lines.{lines_of}
-use Rattle.epx_report.specs.declared.form.BaseLine.{BaseLine}
-use Rattle.epx_report.specs.declared.form.Counts.{Counts}
+use Rattle.epx_report.specs.declared.from_value.BaseLine.{BaseLine}
+use Rattle.epx_report.specs.declared.from_value.Counts.{Counts}
 use Rattle.epx_report.specs.Bases.{Say, lines_in_order, AreBaseParts, AreDoneIn, IsBase, AreWhole}
 use Rattle.epx_report.specs.Bases.{BeginBase, IsBadBase}
 use Rattle.epx_report.specs.Laws.{BaseOrBadBase, BaseIsNoBadBase, BaseSaysOneThing}

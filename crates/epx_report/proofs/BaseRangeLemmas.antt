@@ -11,9 +11,9 @@ use Rattle.epx_lines.specs.Lines.{lines_of}
 use Rattle.epx_lines.specs.Elements.{elements, signed}
 use Rattle.epx_lines.specs.OperationList.{key_of}
 use Rattle.epx_lines.specs.Meaning.{json_of}
-use Rattle.epx_report.specs.declared.form.Counts.{Counts}
-use Rattle.epx_report.specs.declared.form.BaseLine.{BaseLine}
-use Rattle.epx_report.specs.declared.form.BaseLine.TheVariants.{Header, Done, Reply, Waiting, Store}
+use Rattle.epx_report.specs.declared.from_value.Counts.{Counts}
+use Rattle.epx_report.specs.declared.from_value.BaseLine.{BaseLine}
+use Rattle.epx_report.specs.declared.from_value.BaseLine.TheVariants.{Header, Done, Reply, Waiting, Store}
 use Rattle.epx_report.specs.Forms.{id_from, counts_of, header_of, id_line_of, short_line_of}
 use Rattle.epx_report.specs.Forms.{form_of_list, form_of, base_line_of}
 use Rattle.epx_report.specs.inner.Progress.{Progress, nothing_seen, after, after_with}

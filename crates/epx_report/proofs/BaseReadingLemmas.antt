@@ -3,7 +3,7 @@ use Rattle.std.proofs.Common.{◌≡◌, ◌⊎◌, inl, inr, ℕ, suc, ◌+◌,
 use Rattle.std.proofs.Common.{◌++◌, length, map, take, Option, Some, None, Result, Ok, Err, refl}
 use Rattle.std.proofs.Common.{sym, ap, ap₂, ◌∙◌, subst, arith}
 use Rattle.std.proofs.lemmas.List.{take-map}
-use Rattle.epx_report.specs.declared.form.BaseLine.{BaseLine}
+use Rattle.epx_report.specs.declared.from_value.BaseLine.{BaseLine}
 use Rattle.epx_report.specs.Bases.{Say}
 use Rattle.epx_report.specs.Forms.{base_line_of}
 use Rattle.epx_report.specs.inner.Progress.{Progress, after, is_complete}

@@ -12,9 +12,9 @@ use Rattle.epx_types.proofs.Common.{is_among_cases}
 use Rattle.epx_types.specs.declared.id.Id.{Id}
 use Rattle.epx_lines.proofs.EntryLemmas.{IsRising-insert}
 use Rattle.epx_store.proofs.RisingEntryLemmas.{both_of, below_all_trans}
-use Rattle.epx_report.specs.declared.form.Counts.{Counts}
-use Rattle.epx_report.specs.declared.form.BaseLine.{BaseLine}
-use Rattle.epx_report.specs.declared.form.BaseLine.TheVariants as line
+use Rattle.epx_report.specs.declared.from_value.Counts.{Counts}
+use Rattle.epx_report.specs.declared.from_value.BaseLine.{BaseLine}
+use Rattle.epx_report.specs.declared.from_value.BaseLine.TheVariants as line
 use Rattle.epx_report.specs.Bases.{BaseParts, lines_in_order, AreDistinctIds, AreDoneIn}
 use Rattle.epx_report.specs.inner.Progress.{Progress, nothing_seen, after, last, is_after_last}
 use Rattle.epx_report.specs.inner.BaseReadings.{after_all}

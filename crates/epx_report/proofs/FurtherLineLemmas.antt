@@ -10,8 +10,8 @@ use Rattle.epx_types.proofs.Common.{AllPairs-from_IsRising, BelowAll-from_each}
 use Rattle.epx_types.proofs.Common.{IsRising-from_AllPairs}
 use Rattle.epx_types.specs.declared.id.Id.{Id}
 use Rattle.std.specs.Cmp.{tied_itself}
-use Rattle.epx_report.specs.declared.form.BaseLine.{BaseLine}
-use Rattle.epx_report.specs.declared.form.BaseLine.TheVariants as line
+use Rattle.epx_report.specs.declared.from_value.BaseLine.{BaseLine}
+use Rattle.epx_report.specs.declared.from_value.BaseLine.TheVariants as line
 use Rattle.epx_report.specs.Bases.{BaseParts, lines_in_order, AreBaseParts}
 use Rattle.epx_report.proofs.BegunBaseLemmas.{IsBegun}
 use Rattle.epx_report.proofs.LineOrderLemmas.{replies_more, waiting_more}

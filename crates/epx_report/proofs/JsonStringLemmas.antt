@@ -29,19 +29,19 @@ pub by_test : {A : Type 0} (P : A → Type 0) (b : Bool) (x y : A) → (b ≡ tr
 by_test P true x y p q = p refl
 by_test P false x y p q = q refl
 
--- the same, if both branches do without the test
+-- a choice satisfies P if both branches do, whatever the test is
 pub by_branch : {A : Type 0} (P : A → Type 0) (b : Bool) (x y : A) → P x → P y → P (cond b x y)
 by_branch P true x y p q = p
 by_branch P false x y p q = q
 
--- the same for a choice by an ordering
+-- a choice by an ordering satisfies P if all three branches do
 pub by_ordering : {A : Type 0} (P : A → Type 0) (o : Ordering) (x y z : A) → P x → P y → P z
     → P (match_ordering o x y z)
 by_ordering P Less x y z p q r = p
 by_ordering P Equal x y z p q r = q
 by_ordering P Greater x y z p q r = r
 
--- the same for optional values, if P holds for the value when there is one
+-- P holds for the value of a choice, if there is a value, where it holds for those of the branches
 module _ {A : Type 0} (P : A → Type 0) (b : Bool) (o p : Option A) where
   pub IfSome-test : (b ≡ true → IfSome o P) → (b ≡ false → IfSome p P) → IfSome (cond b o p) P
   IfSome-test h k = by_test (λ (o : Option A). IfSome o P) b o p h k
@@ -221,7 +221,7 @@ abbrev pub FitsToken : Token → Type 0
 FitsToken (string s) = IsUtf8 s
 FitsToken _ = ⊤
 
--- the same for a lexeme
+-- the token of a lexeme fits, if the lexeme is a token
 abbrev FitsLexeme : Lexeme → Type 0
 FitsLexeme (token t) = FitsToken t
 FitsLexeme _ = ⊤

@@ -82,7 +82,7 @@ number_of_fits s = search (rules, IfSome-branch FitsNum, number_from_fits)
 abbrev JsonFits : json.Json → Type 0
 JsonFits j = IfSome (of_json j) FitsData
 
--- the same for the items of an array
+-- the values that the items of a JSON array convert to, if they all do, fit
 abbrev JsonItemsFit : json.Items → Type 0
 JsonItemsFit js = IfSome (of_items js) FitItems
 

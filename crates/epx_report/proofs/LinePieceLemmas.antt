@@ -6,7 +6,7 @@ use Rattle.epx_types.proofs.Common.{map-append, get_or-drop}
 use Rattle.memchr.specs.Find.{Passes, is_byte}
 use Rattle.epx_lines.specs.Lines.{prepend_to_first, lines_of}
 use Rattle.epx_lines.proofs.FirstLineLemmas.{lines_of-feed, lines_of-go_on}
-use Rattle.epx_report.specs.declared.form.BaseLine.{BaseLine}
+use Rattle.epx_report.specs.declared.from_value.BaseLine.{BaseLine}
 use Rattle.epx_report.specs.Bases.{Say}
 use Rattle.epx_report.specs.Forms.{base_line_of}
 

@@ -49,7 +49,7 @@ module _ (ds : List Data) (now : List Token) (before text whole : List ℕ) wher
       → OnOk result IsAdded → OnOk result (whole ≡ text ++ line_of ds)
   line_written result same none = on_ok_weaker result (line_added same none)
 
-  -- the same for a text that is only this line
+  -- the line of an array of which all tokens but the last are written, added to an empty text
   pub line_alone : now ≡ open_tokens ds → before ≡ [] → text ≡ [] → IsAdded → whole ≡ line_of ds
   line_alone same none empty e = line_added same none e ∙ ap (λ t. t ++ line_of ds) empty
 

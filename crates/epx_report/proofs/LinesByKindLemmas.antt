@@ -14,9 +14,9 @@ use Rattle.epx_types.proofs.Common.{Contains-nil, Contains-cons_cases, IsRising-
 use Rattle.epx_types.proofs.Common.{is_among_cases}
 use Rattle.epx_types.specs.declared.id.Id.{Id}
 use Rattle.epx_lines.specs.Lines.{lines_of}
-use Rattle.epx_report.specs.declared.form.BaseLine.{BaseLine}
-use Rattle.epx_report.specs.declared.form.BaseLine.TheVariants as line
-use Rattle.epx_report.specs.declared.form.Counts.{Counts}
+use Rattle.epx_report.specs.declared.from_value.BaseLine.{BaseLine}
+use Rattle.epx_report.specs.declared.from_value.BaseLine.TheVariants as line
+use Rattle.epx_report.specs.declared.from_value.Counts.{Counts}
 use Rattle.epx_report.specs.Bases.{BaseParts, Say, lines_in_order, IsBase}
 use Rattle.epx_report.specs.Forms.{base_line_of}
 use Rattle.epx_report.specs.inner.BaseReadings.{put_pairs}

@@ -21,8 +21,8 @@ use Rattle.epx_lines.specs.OperationList.{value_or_null}
 use Rattle.epx_lines.specs.Text.{data_of_value}
 use Rattle.epx_lines.proofs.WrittenPartLemmas.{whole-fits, key_of-fits, length-quoted}
 use Rattle.epx_lines.proofs.WrittenPartLemmas.{IsWritableValue-from_range}
-use Rattle.epx_report.specs.declared.form.BaseLine.{BaseLine}
-use Rattle.epx_report.specs.declared.form.BaseLine.TheVariants as line
+use Rattle.epx_report.specs.declared.from_value.BaseLine.{BaseLine}
+use Rattle.epx_report.specs.declared.from_value.BaseLine.TheVariants as line
 use Rattle.epx_report.specs.Forms.{counts_of, header_of, is_value_list, is_op_index, is_outcome}
 use Rattle.epx_report.specs.Forms.{id_line_of, short_line_of, form_of, base_line_of}
 use Rattle.epx_report.specs.ReportLines.{array_of, data_of_number, header_data, done_data}

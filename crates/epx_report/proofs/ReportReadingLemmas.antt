@@ -9,9 +9,9 @@ use Rattle.std.specs.Int.RustNames.{FitsSigned}
 use Rattle.serde_json.specs.Data.{Data}
 use Rattle.serde_json.specs.Written.{compact_text}
 use Rattle.epx_lines.specs.Lines.{lines_of}
-use Rattle.epx_report.specs.declared.form.Counts.{Counts}
-use Rattle.epx_report.specs.declared.form.BaseLine.{BaseLine}
-use Rattle.epx_report.specs.declared.form.BaseLine.TheVariants as line
+use Rattle.epx_report.specs.declared.from_value.Counts.{Counts}
+use Rattle.epx_report.specs.declared.from_value.BaseLine.{BaseLine}
+use Rattle.epx_report.specs.declared.from_value.BaseLine.TheVariants as line
 use Rattle.epx_report.specs.Forms.{base_line_of}
 use Rattle.epx_report.specs.Bases.{lines_in_order}
 use Rattle.epx_report.specs.ReportLines.{array_of, header_data, done_data, reply_data}
@@ -37,7 +37,7 @@ module _ {X : Type 0} (text : X → List ℕ) (says : X → BaseLine) where
   says-each (x ∷ xs) h = ap₂ (λ l ls. l ∷ ls) (h 0 x (omega arith))
       (says-each xs (λ k d l. h (suc k) d (omega arith)))
 
-  -- the same in front of other lines
+  -- the lines of the items, in front of other lines, say what the items say and then what those do
   says-before : (xs : List X) (texts : List (List ℕ)) (ls : List BaseLine)
       → All (λ x. base_line_of (text x) ≡ Some (says x)) xs → map base_line_of texts ≡ map Some ls
       → map base_line_of (map text xs ++ texts) ≡ map Some (map says xs ++ ls)

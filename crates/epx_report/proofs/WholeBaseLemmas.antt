@@ -8,9 +8,9 @@ use Rattle.epx_types.proofs.Common.{Contains-cons_cases, AllPairs-head, AllPairs
 use Rattle.epx_types.specs.declared.id.Id.{Id}
 use Rattle.epx_lines.proofs.EntryLemmas.{IsRising-insert, IsRising-fold}
 use Rattle.epx_lines.proofs.OtherIdLemmas.{insert_last}
-use Rattle.epx_report.specs.declared.form.Counts.{Counts}
-use Rattle.epx_report.specs.declared.form.BaseLine.{BaseLine}
-use Rattle.epx_report.specs.declared.form.BaseLine.TheVariants as line
+use Rattle.epx_report.specs.declared.from_value.Counts.{Counts}
+use Rattle.epx_report.specs.declared.from_value.BaseLine.{BaseLine}
+use Rattle.epx_report.specs.declared.from_value.BaseLine.TheVariants as line
 use Rattle.epx_report.specs.Bases.{BaseParts, lines_in_order, AreBaseParts, AreDoneIn}
 use Rattle.epx_report.specs.inner.Progress.{Progress, nothing_seen, after, is_complete}
 use Rattle.epx_report.specs.inner.BaseReadings.{after_all}

@@ -12,9 +12,9 @@ use Rattle.epx_types.specs.Keys.{key_cmp}
 use Rattle.epx_lines.specs.Lines.{lines_of}
 use Rattle.epx_report.specs.declared.base.BaseFault.{BaseFault}
 use Rattle.epx_report.specs.declared.base.BaseFault.TheVariants.{Memory, Bad}
-use Rattle.epx_report.specs.declared.form.BaseLine.{BaseLine}
-use Rattle.epx_report.specs.declared.form.BaseLine.TheVariants as line
-use Rattle.epx_report.specs.declared.form.Counts.{Counts}
+use Rattle.epx_report.specs.declared.from_value.BaseLine.{BaseLine}
+use Rattle.epx_report.specs.declared.from_value.BaseLine.TheVariants as line
+use Rattle.epx_report.specs.declared.from_value.Counts.{Counts}
 use Rattle.epx_report.specs.BadLines.{IsFirstNotGood}
 use Rattle.epx_report.specs.Forms.{base_line_of}
 
@@ -50,8 +50,8 @@ pub record AreDistinctIds (done replied waiting : List Id) : Type 0 where
   pub waiting_left : (x : Id) → Contains waiting x
       → (¬ Contains done x) × (¬ Contains replied x)
 
--- the keys of store lines rise too, and there are as many replies and waiting lines as the header
--- says
+-- no two lines name one instance, the done, waiting and store lines rise, and there are as many
+-- reply and waiting lines as the header says
 pub record AreBaseParts (p : BaseParts) : Type 0 where
   pub distinct : AreDistinctIds p.done p.replied p.waiting
   pub stored_rise : IsTrue (is_sorted key_cmp p.stored)

@@ -10,6 +10,7 @@ pub record DoneAndStored : Type 0 where
   pub done : List Id
   pub stored : Contents
 
+-- an Id, coded as the pair of its replica and its number
 abbrev pub id_code : Coded Id
 id_code = code_by (ℕ × ℕ) (coded× coded_ℕ coded_ℕ) (λ x. (x.replica, x.number))
     (λ p. record { replica = p.0; number = p.1 }) (λ _. refl)

@@ -11,10 +11,11 @@ use Rattle.epx_lines.specs.Meaning.{max_line_bytes, json_of}
 use Rattle.epx_lines.specs.Elements.{below, whole, signed, elements}
 use Rattle.epx_lines.specs.DependencyList.{id_of_pair}
 use Rattle.epx_lines.specs.OperationList.{key_of, value_or_null}
-use Rattle.epx_report.specs.declared.form.Counts.{Counts}
-use Rattle.epx_report.specs.declared.form.BaseLine.{BaseLine}
-use Rattle.epx_report.specs.declared.form.BaseLine.TheVariants.{Header, Done, Reply, Waiting, Store}
+use Rattle.epx_report.specs.declared.from_value.Counts.{Counts}
+use Rattle.epx_report.specs.declared.from_value.BaseLine.{BaseLine}
+use Rattle.epx_report.specs.declared.from_value.BaseLine.TheVariants.{Header, Done, Reply, Waiting, Store}
 
+-- there is a text, and it is this one
 abbrev pub is_same_text : List ℕ → Option (List ℕ) → Bool
 is_same_text text None = false
 is_same_text text (Some found) = bytes_eq found text
@@ -29,6 +30,7 @@ id_from r i = id_of_pair (r ∷ i ∷ [])
 
 -- ---- the first line
 
+-- the counts of a header; None if it says that there are more components than executed instances
 abbrev pub counts_within : ℕ → ℕ → ℕ → Option Counts
 counts_within executed waiting components =
     if nat_le components executed then Some (record { executed = executed; waiting = waiting })
@@ -49,6 +51,7 @@ header_of n e o w p c = if is_text (codes "executed") n && is_text (codes "waiti
 
 -- ---- replies
 
+-- there is a list, of at most 64 values, each a number or null
 abbrev pub are_few_values : Option (List Data) → Bool
 are_few_values None = false
 are_few_values (Some ds) = nat_le (length ds) 64 && list_all (λ d. is_some (value_or_null d)) ds
@@ -83,6 +86,7 @@ short_line_of n a b =
     (if is_text (codes "store") n then option_and_then (λ k. option_map (Store k) (signed b))
     (key_of a) else None)
 
+-- what a line says, by the elements of its array; None if they have none of the forms
 abbrev pub form_of_list : List Data → Option BaseLine
 form_of_list (n ∷ a ∷ b ∷ []) = short_line_of n a b
 form_of_list (n ∷ r ∷ i ∷ a ∷ b ∷ []) = id_line_of n r i a b

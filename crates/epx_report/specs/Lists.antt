@@ -14,6 +14,7 @@ unfoldable pub listed_id_of : List ℕ → Option Id
 listed_id_of bytes = if nat_lt max_line_bytes (length bytes) then None else option_and_then id_of
     (json_of bytes)
 
+-- the lines that are not blank
 abbrev pub filled_lines : List (List ℕ) → List (List ℕ)
 filled_lines lines = filter (λ l. not (is_blank l)) lines
 
@@ -21,6 +22,7 @@ filled_lines lines = filter (λ l. not (is_blank l)) lines
 abbrev pub LinesName : List (List ℕ) → List Id → Type 0
 LinesName lines ids = map listed_id_of (filled_lines lines) ≡ map Some ids
 
+-- the bytes are a list, whose lines name these instances, in order
 abbrev pub IsList : List ℕ → List Id → Type 0
 IsList bytes ids = LinesName (lines_of bytes) ids
 

@@ -17,6 +17,7 @@ AreLinesInOrder r = AreDistinctIds r.done (replied_ids r.replies) (waiting_ids r
 abbrev pub AreDoneAfter : ReportData → List Id → Type 0
 AreDoneAfter r done = AreDoneIn r.done (replied_ids r.replies) done
 
+-- where the done lines of a report rise, some list has the instances that are done after it
 abbrev pub DoneAfterExists : Type 0
 DoneAfterExists = (r : ReportData) → IsRising r.done → (done : List Id) × AreDoneAfter r done
 

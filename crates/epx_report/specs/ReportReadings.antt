@@ -17,15 +17,20 @@ use Rattle.epx_report.specs.ReportLines.{store_line}
 
 -- the data that a report is written from
 pub record ReportData : Type 0 where
+  -- how many components the executed instances make up
   pub components : ℕ
+  -- the instances that were done before
   pub done : List Id
   pub replies : List (Id × Reply)
   pub waiting : List Waiting
+  -- the keys of the store, with their values, in the order of their lines
   pub stored : List (List ℕ × ℤ)
 
+-- the instances of replies, in the order of the replies
 abbrev pub replied_ids : List (Id × Reply) → List Id
 replied_ids replies = map (λ p. p.0) replies
 
+-- the text of a report: its header, then its done, reply, waiting and store lines
 abbrev pub text_of_report : ReportData → List ℕ
 text_of_report r =
     header_line (length r.replies) (length r.waiting) r.components
@@ -46,16 +51,21 @@ parts_of_report r =
 
 -- ---- the numbers and texts of a report are within their limits
 
+-- an Id of a replica below 256 and a number below 2^64
 abbrev pub FitsNumbers : Id → Type 0
 FitsNumbers x = (x.replica < 256) × (x.number < 2 ^ 64)
 
+-- a value of 64 bits with sign, or none
 abbrev pub FitsOptional : Option ℤ → Type 0
 FitsOptional o = IfSome o (FitsSigned w64)
 
+-- a reply of at most 64 values, or of the index of an operation, below 64
 abbrev pub FitsReply : Reply → Type 0
 FitsReply (Values vs) = (length vs ≤ 64) × All FitsOptional vs
 FitsReply (Abort j) = j < 64
 
+-- the numbers and texts of a report are within the limits of a base, and it has no more components
+-- than replies
 pub record FitsReportData (r : ReportData) : Type 0 where
   pub replies_counted : length r.replies < 2 ^ 64
   pub waiting_counted : length r.waiting < 2 ^ 64

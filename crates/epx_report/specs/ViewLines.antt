@@ -12,6 +12,7 @@ order_data x depth leader = string (codes "order") ∷ data_of_number x.replica
     ∷ data_of_number x.number ∷ data_of_number depth ∷ data_of_number leader.replica
     ∷ data_of_number leader.number ∷ []
 
+-- `["order",r,i,depth,lr,li]`, for a ready instance with its depth and its leader lr.li
 abbrev pub order_line : Ranked → List ℕ
 order_line r = line_of (order_data r.id r.depth r.leader)
 
@@ -20,6 +21,7 @@ abbrev pub level_data : Id → ℕ → List Data
 level_data x level = string (codes "level") ∷ data_of_number x.replica ∷ data_of_number x.number
     ∷ data_of_number level ∷ []
 
+-- `["level",r,i,level]`, for a ready instance and the level of its command
 abbrev pub level_line : Id × ℕ → List ℕ
 level_line p = line_of (level_data p.0 p.1)
 
@@ -36,6 +38,7 @@ abbrev pub uncovered_data : Id → Id → List Data
 uncovered_data x y = string (codes "uncovered") ∷ data_of_number x.replica
     ∷ data_of_number x.number ∷ data_of_number y.replica ∷ data_of_number y.number ∷ []
 
+-- `["uncovered",r,i,r2,i2]`, for two instances that conflict and are not related
 abbrev pub uncovered_line : Id → Id → List ℕ
 uncovered_line x y = line_of (uncovered_data x y)
 
@@ -47,12 +50,14 @@ lawful_line = name_line (codes "lawful")
 abbrev pub position_data : List ℕ → ℕ → List Data
 position_data name position = string name ∷ data_of_number position ∷ []
 
+-- a line as `["early",p]`, for the position p of a list that has the named fault
 abbrev pub position_line : List ℕ → ℕ → List ℕ
 position_line name position = line_of (position_data name position)
 
--- a ready instance that is not in the list
+-- an instance that is missing: a ready one that a list lacks, or one that no log commits
 abbrev pub missing_data : Id → List Data
 missing_data x = string (codes "missing") ∷ data_of_number x.replica ∷ data_of_number x.number ∷ []
 
+-- `["missing",r,i]`, for an instance that a list lacks or that no log commits
 abbrev pub missing_line : Id → List ℕ
 missing_line x = line_of (missing_data x)

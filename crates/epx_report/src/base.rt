@@ -33,6 +33,7 @@ impl Model for Base {
 }
 
 impl Base {
+    /// Makes a base of the instances that are done, by rising Id, and the store.
     pub(crate) fn new(done: Vec<Id>, store: Store) -> Base
         requires { IsRising done.items }
         ensures done { result.done ≡ done.items }

@@ -56,6 +56,7 @@ impl Model for IdSet {
 }
 
 impl IdSet {
+    /// Returns an empty set.
     pub(crate) fn new(alloc: Global) -> IdSet
         ensures { result ≡ [] }
     {
@@ -65,12 +66,14 @@ impl IdSet {
         }
     }
 
+    /// The greatest Id. None if the set is empty.
     pub(crate) fn last(&self) -> Option<&Id>
         ensures { option_copied result ≡ last self.now }
     {
         self.rising.last()
     }
 
+    /// Whether the Id is in the set. Takes O(log n) time for n Ids.
     pub(crate) fn contains(&self, id: &Id) -> bool
         ensures { result ≡ is_among self.now id.now }
     {

@@ -3,8 +3,8 @@
 #![tactic(auto)]
 
 mod base;
-mod direct;
-mod form;
+mod from_tokens;
+mod from_value;
 mod id_set;
 mod laws;
 mod line_parts;

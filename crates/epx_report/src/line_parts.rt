@@ -4,7 +4,7 @@ ghost use Rattle.std.specs.Prelude.{Some, IfOk, IfSome};
 ghost use Rattle.epx_lines.specs.Lines.{lines_of};
 ghost use Rattle.epx_report.specs.Bases.{Say};
 
-use crate::form::BaseLine;
+use crate::from_value::BaseLine;
 use crate::read::BaseLineReader;
 use epx_claims::{FreeGate, claimed_map};
 use epx_lines::cut_line;

@@ -11,7 +11,7 @@ ghost use Rattle.epx_report.specs.inner.LinesByKind.{with_done, with_reply, with
 ghost use Rattle.epx_report.specs.inner.LinesByKind.{with_stored, with_next, Rise, IsBaseOf};
 
 use crate::base::Base;
-use crate::form::{BaseLine, Counts};
+use crate::from_value::{BaseLine, Counts};
 use crate::id_set::{contains_id, is_after_last};
 use crate::line_parts::Unread;
 use crate::progress::store_of;
@@ -118,8 +118,8 @@ impl Parts {
         }
     }
 
-    /// Takes one more done line. False if none may follow, or it does not rise. The methods below
-    /// do the same for the other kinds of lines.
+    /// Takes one more done line. False after a reply, waiting or store line, or if its Id is not
+    /// greater than that of the last done line.
     fn take_done(&mut self, id: Id) -> Result<bool, Memory>
         ensures { IfOk result (λ follows. with_done self.old id ≡ some_if follows self.new) }
     {
@@ -133,6 +133,8 @@ impl Parts {
         Ok(true)
     }
 
+    /// Takes one more reply line. False after a waiting or store line. Whether the instance is in
+    /// two lines is found by `into_base`.
     fn take_reply(&mut self, id: Id) -> Result<bool, Memory>
         ensures { IfOk result (λ follows. with_reply self.old id ≡ some_if follows self.new) }
     {
@@ -143,6 +145,8 @@ impl Parts {
         Ok(true)
     }
 
+    /// Takes one more waiting line. False after a store line, or if its Id is not greater than
+    /// that of the last waiting line.
     fn take_waiting(&mut self, id: Id) -> Result<bool, Memory>
         ensures { IfOk result (λ follows. with_waiting self.old id ≡ some_if follows self.new) }
     {
@@ -153,6 +157,7 @@ impl Parts {
         Ok(true)
     }
 
+    /// Takes one more store line. False if its key is not greater than that of the last one.
     fn take_stored(&mut self, key: Key, value: i64) -> Result<bool, Memory>
         ensures { IfOk result (λ follows. with_stored self.old key value
             ≡ some_if follows self.new) }
@@ -164,7 +169,7 @@ impl Parts {
         Ok(true)
     }
 
-    /// Takes one more line. False if it does not follow.
+    /// Takes one more line. False if it may not follow, as a second header may not.
     #[tactic(auto, unfolding(crate::specs::inner::LinesByKind::with_next))]
     pub(crate) fn take(&mut self, line: BaseLine) -> Result<bool, Memory>
         ensures { IfOk result (λ follows. with_next self.old line ≡ some_if follows self.new) }

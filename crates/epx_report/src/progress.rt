@@ -7,7 +7,7 @@ ghost use Rattle.epx_report.specs.inner.Progress.{some_if, is_complete};
 ghost use Rattle.epx_report.specs.inner.BaseReadings.{after_line, put_pairs};
 
 use crate::base::Base;
-use crate::form::{BaseLine, Counts};
+use crate::from_value::{BaseLine, Counts};
 use crate::id_set::{IdSet, is_after_last};
 use crate::read::BaseLineReader;
 use epx_store::Store;
@@ -69,8 +69,8 @@ impl Progress {
         }
     }
 
-    /// Takes one more done line. False if it is not allowed at its position. The methods below do
-    /// the same for the other kinds of lines.
+    /// Takes one more done line. False after a reply, waiting or store line, or if its Id is not
+    /// greater than that of the last done line.
     fn take_done(&mut self, id: Id) -> Result<bool, Memory>
         ensures { IfOk result (λ is_allowed. after_done self.old id ≡ some_if is_allowed self.new) }
     {
@@ -84,6 +84,8 @@ impl Progress {
         Ok(true)
     }
 
+    /// Takes one more reply line. False if the header says that there are no more, or if the
+    /// instance is done already.
     fn take_reply(&mut self, counts: Counts, id: Id) -> Result<bool, Memory>
         ensures { IfOk result (λ is_allowed. after_reply counts self.old id
             ≡ some_if is_allowed self.new) }
@@ -95,6 +97,9 @@ impl Progress {
         Ok(true)
     }
 
+    /// Takes one more waiting line. False if a reply line is missing, or if the header says that
+    /// there are no more. False too if its Id is not greater than that of the last waiting line,
+    /// or if its instance is done.
     fn take_waiting(&mut self, counts: Counts, id: Id) -> Result<bool, Memory>
         ensures { IfOk result (λ is_allowed. after_waiting counts self.old id
             ≡ some_if is_allowed self.new) }
@@ -109,6 +114,8 @@ impl Progress {
         Ok(true)
     }
 
+    /// Takes one more store line. False if a reply line or a waiting line is missing, or if its
+    /// key is not greater than that of the last store line.
     fn take_store(&mut self, counts: Counts, key: Key, value: i64) -> Result<bool, Memory>
         ensures { IfOk result (λ is_allowed. after_store counts self.old key value
             ≡ some_if is_allowed self.new) }
@@ -123,6 +130,7 @@ impl Progress {
         Ok(true)
     }
 
+    /// Takes the first line. False if it is not a header.
     fn take_first(&mut self, line: BaseLine) -> bool
         ensures { after_with None self.old line ≡ some_if result self.new }
     {

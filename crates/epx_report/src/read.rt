@@ -3,8 +3,8 @@ ghost use Rattle.std.specs.Prelude.{◌≡◌, IfOk, option_and_then};
 ghost use Rattle.epx_lines.specs.Meaning.{json_of};
 ghost use Rattle.epx_report.specs.Forms.{form_of, base_line_of};
 
-use crate::direct::line_from_tokens;
-use crate::form::{BaseLine, read_base_line};
+use crate::from_tokens::line_from_tokens;
+use crate::from_value::{BaseLine, read_base_line};
 use epx_lines::{MAX_LINE_BYTES, read_json};
 use epx_types::Memory;
 use json::Scratch;
@@ -27,6 +27,7 @@ pub(crate) struct BaseLineReader {
 }
 
 impl BaseLineReader {
+    /// Returns a reader with an empty buffer.
     pub(crate) fn new(alloc: Global) -> BaseLineReader {
         BaseLineReader {
             scratch: Scratch::new(alloc),

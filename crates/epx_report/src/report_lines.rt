@@ -59,6 +59,7 @@ pub(crate) fn write_id_parts(out: &mut Writer, id: Id) -> Result<(), AllocError>
     out.u64(id.number)
 }
 
+/// Writes a value: a number, or null where there is none.
 fn write_value(out: &mut Writer, value: Option<i64>) -> Result<(), AllocError>
     ensures tokens { OnOk result (out.new.tokens ≡ out.old.tokens ++ value_token value ∷ []) }
     ensures before { out.new.before ≡ out.old.before }
@@ -69,6 +70,7 @@ fn write_value(out: &mut Writer, value: Option<i64>) -> Result<(), AllocError>
     }
 }
 
+/// Writes values, without the brackets of their array.
 fn write_values(out: &mut Writer, values: &[Option<i64>]) -> Result<(), AllocError>
     ensures tokens { OnOk result (out.new.tokens ≡ out.old.tokens ++ map value_token values.now) }
     ensures before { out.new.before ≡ out.old.before }
@@ -79,6 +81,7 @@ fn write_values(out: &mut Writer, values: &[Option<i64>]) -> Result<(), AllocErr
     Ok(())
 }
 
+/// Writes `"ok"` and the array of values, or `"abort"` and the index of the operation.
 fn write_reply(out: &mut Writer, reply: &Reply) -> Result<(), AllocError>
     ensures tokens { OnOk result (out.new.tokens ≡ out.old.tokens ++ reply_tokens reply.now) }
     ensures before { out.new.before ≡ out.old.before }
@@ -119,6 +122,7 @@ pub fn append_header(
     end_line(text, line, out)
 }
 
+/// Appends the line of an instance that was done before. `line` is a buffer to reuse.
 fn append_done_instance(
     alloc: Global,
     text: &mut Vec<u8>,
@@ -132,6 +136,7 @@ fn append_done_instance(
     end_line(text, line, out)
 }
 
+/// Appends the line of an executed instance and its reply. `line` is a buffer to reuse.
 fn append_reply(
     alloc: Global,
     text: &mut Vec<u8>,
@@ -147,6 +152,7 @@ fn append_reply(
     end_line(text, line, out)
 }
 
+/// Appends the line of a key and its value. `line` is a buffer to reuse.
 fn append_store_pair(
     alloc: Global,
     text: &mut Vec<u8>,

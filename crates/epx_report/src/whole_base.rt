@@ -4,12 +4,12 @@ ghost use Rattle.std.specs.Prelude.{flat_map, IfOk, IfErr};
 ghost use Rattle.epx_lines.specs.Lines.{lines_of};
 ghost use Rattle.epx_report.specs.Bases.{IsBase, IsBaseFault};
 ghost use Rattle.epx_report.specs.Forms.{base_line_of};
-ghost use Rattle.epx_report.specs.declared.form.BaseLine.{BaseLine};
-ghost use Rattle.epx_report.specs.declared.form.BaseLine.TheVariants as said;
+ghost use Rattle.epx_report.specs.declared.from_value.BaseLine.{BaseLine};
+ghost use Rattle.epx_report.specs.declared.from_value.BaseLine.TheVariants as said;
 ghost use Rattle.epx_report.specs.inner.LinesByKind.{with_all};
 
 use crate::base::{Base, BaseFault, read_base};
-use crate::form::{BaseLine, Counts};
+use crate::from_value::{BaseLine, Counts};
 use crate::line_parts::{Unread, read_pieces};
 use crate::line_pieces::cut_pieces;
 use crate::parts::Parts;
@@ -86,8 +86,9 @@ fn read_whole<R: Threads + Sync>(
     parts_of(alloc, counts, lines)?.into_base(rt, alloc, plan)
 }
 
-/// As `read_base`. The plan's workers read the lines. If they are no base, or there is too little
-/// memory for what all lines say, they are read again, one after another.
+/// Reads an earlier report as a base: the done instances and the store. The plan's workers read
+/// the lines. If they are no base, or there is too little memory for what all lines say,
+/// `read_base` reads them again, one after another.
 pub fn read_base_by<R: Threads + Sync>(
     rt: &R,
     alloc: Global,

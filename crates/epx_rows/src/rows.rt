@@ -50,6 +50,7 @@ fn push_ends(ends: &mut Vec<usize>, before: usize, later: &[usize]) -> Result<()
     Ok(())
 }
 
+/// The numbers from `start` up to the one before `end`.
 fn part(numbers: &[usize], start: usize, end: usize) -> &[usize]
     requires start { start ≤ end }
     requires end { end ≤ length numbers.now }
@@ -80,12 +81,14 @@ impl Rows {
         )
     }
 
+    /// The number of rows.
     pub fn len(&self) -> usize
         ensures { result ≡ length self.now }
     {
         self.ends.len()
     }
 
+    /// The numbers of the row at an index. Takes constant time.
     pub fn row(&self, index: usize) -> &[usize]
         requires { index < length self.now }
         ensures { result.now ≡ row_of self.now index }

@@ -20,7 +20,7 @@ module _ (done : List Id) (runs : List Run)
       → b ≡ is_among (ids_in runs) x
   among_ids_in b x h = done_test b done x h ∙ among x
 
-  -- the same remains of a map
+  -- what remains of a map after the done instances is what remains after those in the runs
   pub remaining_in_runs : (m : List Instance) → remaining done m ≡ remaining (ids_in runs) m
   remaining_in_runs m =
       remaining-agree done (ids_in runs) m (λ e h. among e.id) (λ e x h k. among x)

@@ -22,7 +22,7 @@ module _ {A : Type 0} (form : List ℕ → Option A) where
       → length xs ≡ length vs
   length-said xs vs h = sym (length-map xs form) ∙ ap length h ∙ length-map vs Some
 
-  -- the same lines say the same
+  -- lists of lines that are equal say equal lists
   said_once : (xs ys : List (List ℕ)) (vs ws : List A) → map form xs ≡ map Some vs
       → map form ys ≡ map Some ws → xs ≡ ys → vs ≡ ws
   said_once xs ys vs ws p q same =

@@ -24,10 +24,11 @@ pub record StateEndsEarly (bytes : List ℕ) (line : ℕ) : Type 0 where
 abbrev pub IsReadyIn : StateParts → Instance → Type 0
 IsReadyIn p e = IsReady (remaining (ids_in p.runs) p.waiting) e.id
 
--- the line is the first one of an instance that is ready
+-- the line is that of the first instance that is ready and so cannot wait
 pub record HasReady (bytes : List ℕ) (line : ℕ) : Type 0 where
   pub parts : StateParts
   pub whole : IsState bytes parts
+  -- its position in the list of those that wait
   pub number : ℕ
   pub ready : Instance
   pub there : slice_get parts.waiting number ≡ Some ready
@@ -46,7 +47,7 @@ IsBadState bytes line = IsFirstNotGood BeginState (lines_of bytes) line
 abbrev pub HoldsTooMany : List ℕ → Type 0
 HoldsTooMany bytes = (p : StateParts) × IsState bytes p × (max_instances < length p.waiting)
 
--- `Memory` says nothing about the bytes
+-- why bytes are refused as a state; `Memory` says nothing about them
 abbrev pub IsStateFault : List ℕ → Fault → Type 0
 IsStateFault bytes Memory = Unit {0}
 IsStateFault bytes (BadBase line) = IsBadState bytes line

@@ -36,6 +36,7 @@ abbrev pub run_data : Run → List Data
 run_data r = string (codes "runs") ∷ data_of_number r.replica ∷ data_of_number r.first
     ∷ data_of_number r.last ∷ []
 
+-- the line of a run
 abbrev pub run_line : Run → List ℕ
 run_line r = line_of (run_data r)
 
@@ -43,6 +44,7 @@ run_line r = line_of (run_data r)
 abbrev pub entry_line : Instance → List ℕ
 entry_line e = line_text e ++ line_feed ∷ []
 
+-- the counts of the first line: how many runs, instances that wait and keys there are
 abbrev pub state_counts : StateParts → StateCounts
 state_counts p =
     record { runs = length p.runs; waiting = length p.waiting; stored = length p.stored }
@@ -64,12 +66,14 @@ counts_from r w s = option_and_then (λ runs. option_and_then (λ waiting. optio
     (λ stored. record { runs = runs; waiting = waiting; stored = stored })
     (whole (2 ^ 64) s)) (whole (2 ^ 64) w)) (whole (2 ^ 64) r)
 
+-- the counts, if the elements are those of `["state","runs",R,"waiting",W,"store",S]`
 abbrev pub counts_of_list : List Data → Option StateCounts
 counts_of_list (n ∷ a ∷ r ∷ b ∷ w ∷ c ∷ s ∷ []) =
     if is_text (codes "state") n && is_text (codes "runs") a && is_text (codes "waiting") b
     && is_text (codes "store") c then counts_from r w s else None
 counts_of_list _ = None
 
+-- the run from the first number to the last, if the last is not smaller
 abbrev pub run_within : ℕ → ℕ → ℕ → Option Run
 run_within replica first last = if nat_le first last
     then Some (record { replica = replica; first = first; last = last }) else None
@@ -80,29 +84,35 @@ run_from r f l = option_and_then (λ replica. option_and_then (λ first. option_
     (λ last. run_within replica first last)
     (whole (2 ^ 64) l)) (whole (2 ^ 64) f)) (whole 256 r)
 
+-- the run, if the elements are those of `["runs",r,first,last]`
 abbrev pub run_of_list : List Data → Option Run
 run_of_list (n ∷ r ∷ f ∷ l ∷ []) = if is_text (codes "runs") n then run_from r f l else None
 run_of_list _ = None
 
+-- a key and its value of 64 bits with sign, if the elements are those of `["store",k,v]`
 abbrev pub pair_of_list : List Data → Option (List ℕ × ℤ)
 pair_of_list (n ∷ k ∷ v ∷ []) = if is_text (codes "store") n
     then option_and_then (λ key. option_map (λ value. (key, value)) (signed v)) (key_of k) else None
 pair_of_list _ = None
 
--- the instance that a line commits
+-- the instance of a line with this meaning; None if the line is bad or commits none
 abbrev pub entry_of : Result Line Why → Option Instance
 entry_of (Ok (Entry e)) = Some e
 entry_of (Ok Blank) = None
 entry_of (Err why) = None
 
+-- the counts that a line says, if it is the first line of a state, in any spelling
 unfoldable pub counts_of_line : List ℕ → Option StateCounts
 counts_of_line bytes = of_line counts_of_list bytes
 
+-- the run that a line says, if it is the line of a run, in any spelling
 unfoldable pub run_of_line : List ℕ → Option Run
 run_of_line bytes = of_line run_of_list bytes
 
+-- the instance that a line commits, read as a line of a log
 unfoldable pub entry_of_line : List ℕ → Option Instance
 entry_of_line bytes = entry_of (meaning_of bytes)
 
+-- the key and the value that a line says, if it is a line of the store, in any spelling
 unfoldable pub pair_of_line : List ℕ → Option (List ℕ × ℤ)
 pair_of_line bytes = of_line pair_of_list bytes

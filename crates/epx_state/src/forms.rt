@@ -22,6 +22,7 @@ pub(crate) struct StateCounts {
     pub(crate) stored: u64,
 }
 
+/// Whether a value is this text.
 fn has_text(value: &Value, text: &str) -> bool
     ensures { result ≡ is_text text.now (view value.now) }
 {
@@ -43,6 +44,7 @@ fn are_names(name: &Value, runs: &Value, waiting: &Value, store: &Value) -> bool
         && has_text(store, "store")
 }
 
+/// The counts, if all three are whole numbers below 2^64.
 fn read_counts(runs: &Value, waiting: &Value, stored: &Value) -> Option<StateCounts>
     ensures { result ≡ counts_from (view runs.now) (view waiting.now) (view stored.now) }
 {
@@ -70,6 +72,8 @@ fn counts_of_value(value: &Value) -> Option<StateCounts>
     read_counts(runs, waiting, stored)
 }
 
+/// The run of a replica from the first number to the last. None if one of them is no number of
+/// its range, or the last is below the first.
 fn read_run(replica: &Value, first: &Value, last: &Value) -> Option<Run>
     ensures run { result ≡ run_from (view replica.now) (view first.now) (view last.now) }
     ensures filled { IfSome result (λ r. IsFilledRun r) }
@@ -134,8 +138,7 @@ pub(crate) fn read_counts_line(alloc: Global, bytes: &[u8]) -> Result<Option<Sta
     }
 }
 
-/// Reads the line of a run. None if it is none. The functions below do the same for the other
-/// kinds of lines.
+/// Reads the line of a run. None if it is none.
 #[tactic(auto, unfolding(crate::specs::StateForms::run_of_line))]
 pub(crate) fn read_run_line(alloc: Global, bytes: &[u8]) -> Result<Option<Run>, Memory>
     ensures run { IfOk result (λ o. o ≡ run_of_line bytes.now) }
@@ -147,6 +150,7 @@ pub(crate) fn read_run_line(alloc: Global, bytes: &[u8]) -> Result<Option<Run>, 
     }
 }
 
+/// Reads the line of a key and its value. None if it is none.
 #[tactic(auto, unfolding(crate::specs::StateForms::pair_of_line))]
 pub(crate) fn read_pair_line(alloc: Global, bytes: &[u8]) -> Result<Option<(Key, i64)>, Memory>
     ensures { IfOk result (λ o. o ≡ pair_of_line bytes.now) }
@@ -157,6 +161,7 @@ pub(crate) fn read_pair_line(alloc: Global, bytes: &[u8]) -> Result<Option<(Key,
     }
 }
 
+/// Reads the line of an instance that waits, as in a log. None if it is bad or commits none.
 #[tactic(auto, unfolding(crate::specs::StateForms::entry_of_line))]
 pub(crate) fn read_entry_line(
     alloc: Global,

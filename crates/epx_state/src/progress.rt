@@ -18,6 +18,7 @@ use epx_types::{Entry, Id, Key, Memory};
 use std::alloc::Global;
 use std::marker::Model;
 
+/// The Id with the first number of a run.
 fn start(run: &Run) -> Id
     ensures { result ≡ start_of run.now }
 {
@@ -27,6 +28,7 @@ fn start(run: &Run) -> Id
     }
 }
 
+/// The Id with the last number of a run.
 fn end(run: &Run) -> Id
     ensures { result ≡ end_of run.now }
 {
@@ -121,8 +123,7 @@ impl StateProgress {
         Ok(found)
     }
 
-    /// Takes one more run. False if it does not begin after the last one. The methods below do
-    /// the same for instances and for pairs.
+    /// Takes one more run. False if it does not begin after the last one ends.
     fn take_run(&mut self, run: Run) -> Result<bool, Memory>
         requires { IsFilledRun run }
         ensures { IfOk result (λ is_allowed. after_run self.old run ≡ some_if is_allowed self.new) }
@@ -135,6 +136,8 @@ impl StateProgress {
         Ok(true)
     }
 
+    /// Takes one more instance that waits. False if its Id is not greater than the last one, or is
+    /// in a run.
     fn take_entry(&mut self, alloc: Global, entry: Entry) -> Result<bool, Memory>
         ensures { IfOk result (λ is_allowed. after_entry self.old entry
             ≡ some_if is_allowed self.new) }
@@ -150,6 +153,7 @@ impl StateProgress {
         Ok(true)
     }
 
+    /// Takes one more key and its value. False if the key is not greater than the last one.
     fn take_pair(&mut self, key: Key, value: i64) -> Result<bool, Memory>
         ensures { IfOk result (λ is_allowed. after_pair self.old (key, value)
             ≡ some_if is_allowed self.new) }
@@ -161,6 +165,7 @@ impl StateProgress {
         Ok(true)
     }
 
+    /// Takes the first line. False if it is not that of a state.
     fn take_counts(&mut self, alloc: Global, bytes: &[u8]) -> Result<bool, Memory>
         ensures { IfOk result (λ is_allowed. after_counts self.old bytes.now
             ≡ some_if is_allowed self.new) }
@@ -174,6 +179,8 @@ impl StateProgress {
         }
     }
 
+    /// Takes a line after the first one: a run while runs are missing, then an instance, then a
+    /// pair. False if it is none of that kind, is out of order, or is one too many.
     fn take_part(
         &mut self,
         alloc: Global,

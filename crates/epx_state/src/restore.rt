@@ -27,6 +27,7 @@ fn store_of(alloc: Global, pairs: Vec<(Key, i64)>) -> Result<Store, Memory>
     Ok(store)
 }
 
+/// The Ids of instances, in the order of these.
 fn list_ids(alloc: Global, entries: &[Entry]) -> Result<Vec<Id>, Memory>
     ensures { IfOk result (λ ids. ids.items ≡ ids_of entries.now) }
 {

@@ -64,6 +64,7 @@ fn run_value(alloc: Global, replica: u8, first: u64, last: u64) -> Result<Value,
     json!(in alloc; ["runs", replica, first, last])
 }
 
+/// Appends the line of a run.
 fn append_run(alloc: Global, text: &mut Vec<u8>, run: Run) -> Result<(), Memory>
     requires { IsFilledRun run }
     ensures text { OnOk result (text.new.items ≡ text.old.items ++ run_line run) }
@@ -85,6 +86,7 @@ fn append_runs(alloc: Global, text: &mut Vec<u8>, runs: &[Run]) -> Result<(), Me
     Ok(())
 }
 
+/// Appends the line of an instance, as in a log.
 fn append_entry(alloc: Global, text: &mut Vec<u8>, entry: &Entry) -> Result<(), Memory>
     ensures text { OnOk result (text.new.items ≡ text.old.items ++ entry_line entry.now) }
     ensures read { OnOk result (IsReadEntry entry.now) }
@@ -114,8 +116,8 @@ fn pair_is_read(key: &Key, value: &i64)
     let _value = *value;
 }
 
-/// The same for each pair of a list, since `append_pairs` does not say it. It does nothing when it
-/// runs: it only shows what the types of keys and values say.
+/// The line of each pair of a list is read as this pair, which `append_pairs` does not say. The
+/// call does nothing when it runs: it only shows what the types of keys and values say.
 fn pairs_are_read(pairs: &[(&Key, i64)])
     ensures { All (λ p. IsReadPair (p.0.now, p.1)) pairs.now }
 {

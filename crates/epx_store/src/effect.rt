@@ -21,6 +21,7 @@ impl Model for Writes {
 }
 
 impl Writes {
+    /// Returns these writes, in this order.
     pub fn new(items: Vec<(Key, Option<i64>)>) -> Writes
         ensures { result ≡ items.items }
     {

@@ -58,6 +58,7 @@ fn slot_of(writes: &[(&Key, Option<i64>)], key: &Key) -> Result<usize, usize>
 }
 
 impl<'a> FewWrites<'a> {
+    /// Returns no writes. Allocates nothing.
     pub fn new(alloc: Global) -> FewWrites<'a>
         ensures { result ≡ contents.empty }
     {
@@ -66,6 +67,8 @@ impl<'a> FewWrites<'a> {
         }
     }
 
+    /// Returns what is written under the key: `Some(None)` if the key is removed, None if it is
+    /// not written.
     pub fn get(&self, key: &Key) -> Option<Option<i64>>
         ensures { result ≡ contents.get self.now key.now }
     {

@@ -32,6 +32,7 @@ impl<V> Model for KeyMap<V> {
 }
 
 impl<V: Copy> KeyMap<V> {
+    /// Returns a map without keys. Allocates nothing.
     pub(crate) fn new(alloc: Global) -> KeyMap<V>
         ensures { result ≡ contents.empty }
     {
@@ -41,18 +42,21 @@ impl<V: Copy> KeyMap<V> {
         }
     }
 
+    /// Returns the value under the key. None if the key is absent.
     pub fn get(&self, key: &Key) -> Option<V>
         ensures { result ≡ contents.get self.now key.now }
     {
         self.map.get(key).copied()
     }
 
+    /// Returns the number of keys.
     pub(crate) fn len(&self) -> usize
         ensures { result ≡ contents.len self.now }
     {
         self.map.len()
     }
 
+    /// Puts the value under the key. On `Memory` the key is dropped.
     pub(crate) fn insert(&mut self, key: Key, value: V) -> Result<(), Memory>
         ensures ok { OnOk result (self.new ≡ contents.insert self.old key value) }
         ensures err { OnErr result (self.new ≡ self.old) }
@@ -61,8 +65,8 @@ impl<V: Copy> KeyMap<V> {
         Ok(())
     }
 
-    /// As `insert`, with a borrowed key. A long key is copied only if it is new. To copy a short
-    /// one takes less time than to look for it first.
+    /// Puts the value under a borrowed key. A long key is copied only if it is new. To copy a
+    /// short one takes less time than to look for it first.
     pub fn set(&mut self, key: &Key, value: V) -> Result<(), Memory>
         ensures ok { OnOk result (self.new ≡ contents.insert self.old key.now value) }
         ensures err { OnErr result (self.new ≡ self.old) }
@@ -73,7 +77,8 @@ impl<V: Copy> KeyMap<V> {
         self.insert(key.copy()?, value)
     }
 
-    /// As `set`, for a key whose copy is allocated.
+    /// Puts the value under a borrowed key whose copy is allocated, and copies it only if it is
+    /// new.
     fn set_long(&mut self, key: &Key, value: V) -> Result<(), Memory>
         ensures ok { OnOk result (self.new ≡ contents.insert self.old key.now value) }
         ensures err { OnErr result (self.new ≡ self.old) }
@@ -85,12 +90,14 @@ impl<V: Copy> KeyMap<V> {
         self.insert(key.copy()?, value)
     }
 
+    /// Removes the key, if it is there.
     pub(crate) fn remove(&mut self, key: &Key)
         ensures { self.new ≡ contents.remove self.old key.now }
     {
         let _ = self.map.remove(key);
     }
 
+    /// Returns a map with copies of the keys. Takes O(n log n) key comparisons for n keys.
     pub(crate) fn copy(&self) -> Result<KeyMap<V>, Memory>
         ensures { IfOk result (λ m. m ≡ self.now) }
     {

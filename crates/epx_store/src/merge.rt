@@ -12,6 +12,7 @@ use std::thread::Threads;
 /// as long.
 const PARALLEL_MIN: usize = 4_096;
 
+/// Returns whether the effects have fewer than `PARALLEL_MIN` writes. Stops counting there.
 fn has_few_writes(effects: &[Effect]) -> bool {
     let mut count = 0usize;
     for effect in effects {

@@ -28,6 +28,7 @@ fn middle_head(lists: &[Pairs; SHARDS]) -> u64 {
     }
 }
 
+/// Returns a copy of the pairs, whose keys stay borrowed.
 fn copy_of<'a>(alloc: Global, pairs: &[(&'a Key, i64)]) -> Result<Pairs<'a>, Memory>
     ensures { IfOk result (λ v. v.items ≡ pairs.now) }
 {

@@ -30,6 +30,7 @@ pub(crate) fn empty_shards(alloc: Global) -> [KeyMap<i64>; SHARDS]
     array::from_fn(|_| KeyMap::new(alloc))
 }
 
+/// Returns copies of all shards, with keys of their own.
 pub(crate) fn copy_shards(
     alloc: Global,
     shards: &[KeyMap<i64>; SHARDS],

@@ -121,11 +121,12 @@ impl Store {
     {
         let lists = list_shards(self.alloc, &self.shards)?;
         let (pairs, rises) = merge(self.alloc, lists)?;
-        in_key_order(pairs, rises)
+        sorted_by_key(pairs, rises)
     }
 
-    /// Returns the same. The plan's workers list the keys, each those of one range. None is started
-    /// for fewer keys than a piece of the plan has.
+    /// Returns the keys with their values, in byte order of the keys. The plan's workers list
+    /// them, each those of one range. No worker is started for fewer keys than a piece of the plan
+    /// has.
     pub fn pairs_by<R: Threads + Sync>(
         &self,
         rt: &R,
@@ -137,13 +138,13 @@ impl Store {
         let pieces = self.len() / plan.cut() as u128;
         let threads = pieces.min(plan.workers() as u128) as usize;
         let (pairs, rises) = merge_by_ranges(rt, self.alloc, lists, threads)?;
-        in_key_order(pairs, rises)
+        sorted_by_key(pairs, rises)
     }
 }
 
 /// The pairs of all shards by rising key. `rises` says that they are in this order already.
 // The keys may rise although `rises` is false: keys that have one head do not show it.
-fn in_key_order<'a>(pairs: Pairs<'a>, rises: bool) -> Result<Pairs<'a>, Memory>
+fn sorted_by_key<'a>(pairs: Pairs<'a>, rises: bool) -> Result<Pairs<'a>, Memory>
     requires { T rises → T (is_sorted key_cmp (map (λ p. (p.0.now, p.1)) pairs.items)) }
     ensures { IfOk result (λ v. (shards : List Contents) → AreShards shards
         → IsPermutation (flat_map contents.entries shards)

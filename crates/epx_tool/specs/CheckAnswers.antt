@@ -38,6 +38,6 @@ abbrev pub IsHistoryCheckText : ℕ → List ℕ → List Instance → List ℕ 
 IsHistoryCheckText D history m text = (h : List ClientCall)
     × IsHistoryText history h × IsLinearText m (map (later_by D) h) text
 
--- the verdict, or the first refusal
+-- the answer to a list and logs: the verdict on the list as an order, or the first refusal
 abbrev pub Checks : List ℕ → List (List ℕ) → Result (List ℕ) Fault → Type 0
 Checks = AnswersWithInput IsBadList IsCheckText

@@ -18,7 +18,7 @@ pub record WritesDelivered {S : Type 0} (D : SourceModel S)
   pub answer : Answer logs (Ok text)
   pub written : Written text
 
--- the same for the text `Is` of the committed map
+-- `WritesDelivered` where the answer is a text of the committed map, as `Is` says
 abbrev pub AnswersDelivered : {S : Type 0} → SourceModel S → (List Instance → List ℕ → Type 0)
     → List S → List S → (List ℕ → Type 0) → Type 0
 AnswersDelivered D Is = WritesDelivered D (Answers Is)
@@ -36,6 +36,7 @@ abbrev pub EndsRefused : {S : Type 0} → SourceModel S → (List (List ℕ) →
 EndsRefused D Refuses old new fault =
     StopsReading D old new fault ⊎ RefusesDelivered D Refuses old new fault
 
--- the same for the refusals of logs that are merged
+-- a run whose answer is a text of the committed map ends with this fault: reading stopped with it,
+-- or it is the refusal of the delivered logs
 abbrev pub EndsWithout : {S : Type 0} → SourceModel S → List S → List S → Fault → Type 0
 EndsWithout D = EndsRefused D IsRefusal

@@ -13,6 +13,6 @@ abbrev pub IsResumedText : List ℕ → List Instance → List ℕ → Type 0
 IsResumedText base m text = (done : List Id) × (stored : Contents) × IsBase base done stored
     × IsReportAfter done stored m text
 
--- that report, or the first refusal
+-- the answer to a base and logs: the report that resumes from the base, or the first refusal
 abbrev pub Resumes : List ℕ → List (List ℕ) → Result (List ℕ) Fault → Type 0
 Resumes = AnswersWithInput IsBadBase IsResumedText

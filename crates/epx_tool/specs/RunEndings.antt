@@ -28,13 +28,16 @@ pub record WritesAnswer {Given T : Type 0} (OfKnown : (Given → Type 0) → Typ
     (Answer : Given → List ℕ → Type 0) (IsFault : Given → Fault → Type 0)
     (Delivered : (List ℕ → Type 0) → Type 0) (Ends : Fault → Type 0) (W : SinkModel T)
     (was now : T) (result : Result (Unit {0}) Fault) : Type 0 where
+  -- success: an answer was added to the sink, and all of it was flushed
   pub text : OnOk result (OfKnown (λ given. (text : List ℕ) × Answer given text
       × Appends (W.contents was) (W.contents now) text))
   pub answered : OnOk result (Delivered (Appends (W.contents was) (W.contents now)))
   pub flushed : OnOk result (W.is_flushed now ≡ true)
+  -- a fault: it is one of such a run, and nothing was added unless it is of the sink
   pub refusal : IfErr result (λ fault. OfKnown (λ given. IsFault given fault))
   pub refused : IfErr result (λ fault. fault ≢ Write → Ends fault)
   pub nothing : IfErr result (λ fault. fault ≢ Write → Keeps (W.contents was) (W.contents now))
+  -- a fault of the sink, which comes exactly if it failed: a prefix of an answer was added
   pub prefix : IsErrOf result Write → OfKnown (λ given. (text : List ℕ) × Answer given text
       × AppendsPrefix (W.contents was) (W.contents now) text)
   pub part : IsErrOf result Write → Delivered (AppendsPrefix (W.contents was) (W.contents now))
@@ -52,7 +55,8 @@ pub record EndsRun {S T : Type 0} (D : SourceModel S) (W : SinkModel T)
       W was now result
   pub sources : LeavesSources D old new result
 
--- the same for a run over an extra input too; `first` and `last` are its source, before and after
+-- a run over logs and an extra input that writes this answer ends with this result; `first` and
+-- `last` are the source of the input, before and after
 pub record EndsRunWithInput {I S T : Type 0} (E : SourceModel I) (D : SourceModel S)
     (W : SinkModel T) (IsBad : List ℕ → ℕ → Type 0)
     (Is : List ℕ → List Instance → List ℕ → Type 0) (first last : I) (old new : List S)

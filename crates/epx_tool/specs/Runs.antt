@@ -15,6 +15,6 @@ IsFaultOfRun Answer logs (Read log) = (length logs ≤ max_logs) × (log < lengt
 IsFaultOfRun Answer logs Write = (text : List ℕ) × Answer logs (Ok text)
 IsFaultOfRun Answer logs fault = Answer logs (Err fault)
 
--- those of a run that writes the text `Is` of the committed map
+-- the faults of a run that writes the text `Is` of the committed map
 abbrev pub IsRunFault : (List Instance → List ℕ → Type 0) → List (List ℕ) → Fault → Type 0
 IsRunFault Is = IsFaultOfRun (Answers Is)

@@ -12,8 +12,11 @@ use Rattle.epx_merge.specs.SourceEndings.{StopsAt}
 -- of logs
 pub record LeavesInput {I T : Type 0} (E : SourceModel I) (first last : I) (count : ℕ)
     (result : Result T Fault) : Type 0 where
+  -- it has failed exactly if the fault is of reading it: its number is that of the logs
   pub read : IsErrOf result (Read count) ↔ (E.has_failed last ≡ true)
+  -- at most one byte more than a log may have is read of it
   pub taken : ConsumesUpTo (E.remaining first) (E.remaining last) (max_log_bytes + 1)
   pub ended : OnOk result (IsAtEnd (E.remaining last))
+  -- it is not read where reading stops at a log, or where there are too many logs
   pub untouched : (log : ℕ) → StopsAt result log → log < count → last ≡ first
   pub none_read : IsErrOf result TooManyLogs → last ≡ first

@@ -36,6 +36,7 @@ abbrev pub AnswersLogs : Task → List (List ℕ) → Result (List ℕ) Fault �
 AnswersLogs task.Compare = Compares
 AnswersLogs task = Answers (IsTaskText task [])
 
+-- the answer to the question of a view: a text of the map that logs commit, or a comparison
 abbrev pub AnswersView : Ask → List (List ℕ) → Result (List ℕ) Fault → Type 0
 AnswersView ask = AnswersLogs (task_of ask)
 

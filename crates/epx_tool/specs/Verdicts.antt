@@ -27,6 +27,7 @@ fault_data (Missing x) = missing_data x
 fault_data (Early place) = position_data (codes "early") place
 fault_data (Sequence place) = position_data (codes "sequence") place
 
+-- the verdict on a list with this fault: one line
 abbrev pub order_fault_text : OrderFault → List ℕ
 order_fault_text fault = line_of (fault_data fault)
 

@@ -9,6 +9,7 @@ use Rattle.epx_types.specs.Limits.{max_logs, max_log_bytes}
 use Rattle.epx_merge.specs.Refusals.{IsFirstTooLong, IsRefusal}
 use Rattle.epx_merge.specs.Acceptance.{IsAccepted}
 
+-- the bytes are no more than a log may have
 abbrev pub IsShort : List ℕ → Type 0
 IsShort bytes = length bytes ≤ max_log_bytes
 
@@ -23,7 +24,8 @@ IsRefusalWithInput IsBad input logs (BadBase line) = IsShort input
     × ((m : List Instance) × IsAccepted logs m) × IsBad input line
 IsRefusalWithInput IsBad input logs fault = IsShort input × IsRefusal logs fault
 
--- the answer; Is says which text answers an extra input and a committed map
+-- the answer to logs and an extra input: a text, or the first refusal; Is says which text answers
+-- the input and the map that the logs commit
 abbrev pub AnswersWithInput : (List ℕ → ℕ → Type 0) → (List ℕ → List Instance → List ℕ → Type 0)
     → List ℕ → List (List ℕ) → Result (List ℕ) Fault → Type 0
 AnswersWithInput IsBad Is input logs (Ok text) = IsShort input

@@ -91,8 +91,8 @@ pub fn answer<R: Threads + RandomSource + Sync>(
     answer_texts(rt, alloc, Task::Run, &[], logs, plan)
 }
 
-/// Like `answer`, but it returns a view instead of the report. `Ask::Compare` has no refusal
-/// `BadLine` or `Disagree`.
+/// A view of the logs, or the first refusal. The refusals are those of `answer`, except that
+/// `Ask::Compare` has no `BadLine` and no `Disagree`. The result is the same for every plan.
 pub fn view<R: Threads + RandomSource + Sync>(
     rt: &R,
     alloc: Global,

@@ -35,7 +35,7 @@ impl Answer {
         }
     }
 
-    /// The same answer with its map.
+    /// The answer with the map that it is about.
     pub(crate) fn about(self, merged: Merged) -> Answer
         ensures text { result.text ≡ self.text }
         ensures found { result.has_findings ≡ self.has_findings }

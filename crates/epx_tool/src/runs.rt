@@ -71,7 +71,10 @@ pub fn run<T: Threads + RandomSource + Sync, S: Source, W: Sink>(
     write_answer(rt, alloc, Task::Run, sources, plan, sink)
 }
 
-/// Like `run`, but it writes a view instead of the report.
+/// Reads the logs from the sources in order, and writes a view of them to the sink. If there is a
+/// fault, nothing is written, except that a sink that fails has taken a prefix of the view.
+///
+/// The faults are those of `view`, `Fault::Read` of a source and `Fault::Write` of the sink.
 pub fn show<T: Threads + RandomSource + Sync, S: Source, W: Sink>(
     rt: &T,
     alloc: Global,

@@ -18,7 +18,9 @@ use std::random::RandomSource;
 use std::rt::Clock;
 use std::thread::Threads;
 
-/// As `run_task`, and shows that the answer is made.
+/// Reads the logs and the input of a task, if it has one, from their sources, and writes the
+/// answer to the sink. Meanwhile `progress` shows that the answer is made, if it shows anything. A
+/// task without an input leaves the source of the input untouched.
 pub fn run_shown<
     T: Threads + RandomSource + Sync,
     P: Clock + Eprint + Threads + Sync,
@@ -75,7 +77,8 @@ pub fn run_task<T: Threads + RandomSource + Sync, I: Source, S: Source, W: Sink>
     run_shown(rt, alloc, task, &unseen, input, sources, plan, sink)
 }
 
-/// As `run_task`, for a task without an input. It frees the answer.
+/// Reads the logs of a task without an input from the sources, and writes the answer to the sink.
+/// Frees the answer.
 pub(crate) fn write_answer<T: Threads + RandomSource + Sync, S: Source, W: Sink>(
     rt: &T,
     alloc: Global,
@@ -100,7 +103,8 @@ pub(crate) fn write_answer<T: Threads + RandomSource + Sync, S: Source, W: Sink>
     }
 }
 
-/// As `run_task`, for a task with an input. It frees the answer.
+/// Reads the logs of a task from the sources, and then its input from its own. Writes the answer
+/// to the sink, and frees it.
 pub(crate) fn write_with_input<T: Threads + RandomSource + Sync, I: Source, S: Source, W: Sink>(
     rt: &T,
     alloc: Global,

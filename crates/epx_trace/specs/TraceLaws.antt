@@ -16,7 +16,7 @@ abbrev pub TraceTextExists : Type 0
 TraceTextExists = (m : List Instance) (key : List ℕ) (reads : Bool) → IsRising (ids_of m)
     → (text : List ℕ) × IsTraceText m key reads text
 
--- and no other one
+-- for each map and key there is at most one text of its trace
 abbrev pub TraceTextIsUnique : Type 0
 TraceTextIsUnique = (m : List Instance) (key : List ℕ) (reads : Bool) (text other : List ℕ)
     → IsTraceText m key reads text → IsTraceText m key reads other → text ≡ other
@@ -36,6 +36,8 @@ abbrev pub FindLastWrites : Option ℤ → List Touch → Type 0
 FindLastWrites value [] = Unit {0}
 FindLastWrites value (t ∷ ts) = (value_before t ≡ value) × FindLastWrites (value_left value t) ts
 
+-- each touch of a trace finds what the last write before it left, or what the contents had before
+-- all commands
 abbrev pub TouchesFindLastWrites : Type 0
 TouchesFindLastWrites = (commands : List IdCommand) (c : Contents) (k : List ℕ)
     → FindLastWrites (contents.get c k) (trace_of commands c k)

@@ -12,6 +12,7 @@ abbrev pub write_data : Id → Option ℤ → Option ℤ → List Data
 write_data x before after = string (codes "write") ∷ data_of_number x.replica
     ∷ data_of_number x.number ∷ data_of_value before ∷ data_of_value after ∷ []
 
+-- an instance that reads the key, and the value that it finds; null where the key is absent
 abbrev pub read_data : Id → Option ℤ → List Data
 read_data x value = string (codes "read") ∷ data_of_number x.replica ∷ data_of_number x.number
     ∷ data_of_value value ∷ []

@@ -17,6 +17,7 @@ use Rattle.epx_trace.specs.declared.touch.Touch.TheVariants.{Write, Read}
 abbrev pub IdCommand : Type 0
 IdCommand = Id × List Op
 
+-- the key is one of these keys
 abbrev pub has_key : List (List ℕ) → List ℕ → Bool
 has_key keys k = list_any (λ j. is_eq (key_cmp k j)) keys
 

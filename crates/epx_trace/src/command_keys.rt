@@ -7,6 +7,7 @@ ghost use Rattle.epx_trace.specs.Traces.{has_key};
 
 use epx_types::{Key, Op, Reply};
 
+/// Whether an operation has the key in its text.
 fn op_touches(op: &Op, key: &Key) -> bool
     ensures { result ≡ has_key (touched_by op.now) key.now }
 {
@@ -20,6 +21,7 @@ fn op_touches(op: &Op, key: &Key) -> bool
     }
 }
 
+/// Whether an operation writes the key, if its command does not abort.
 fn op_writes(op: &Op, key: &Key) -> bool
     ensures { result ≡ has_key (written_by op.now) key.now }
 {

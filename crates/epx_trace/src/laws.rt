@@ -7,7 +7,7 @@ pub fn trace_text_exists()
     ensures { TraceTextExists }
 {}
 
-/// A key has at most one such text.
+/// A key has at most one text of its trace.
 pub fn trace_text_is_unique()
     ensures { TraceTextIsUnique }
 {}

@@ -22,6 +22,7 @@ fn stored_value(alloc: Global, stored: Option<i64>) -> Result<Value, AllocError>
     }
 }
 
+/// The array of a write: `["write",r,i,before,after]`, with null where the key is absent.
 fn write_value(
     alloc: Global,
     id: Id,
@@ -36,6 +37,7 @@ fn write_value(
     json!(in alloc; ["write", replica, number, before, after])
 }
 
+/// The array of a read: `["read",r,i,value]`, with null where the key is absent.
 fn read_value(alloc: Global, id: Id, stored: Option<i64>) -> Result<Value, AllocError>
     ensures data { IfOk result (λ v. view v ≡ array_of (read_data id stored)) }
     ensures whole { IfOk result (λ v. has_float (view v) ≡ false) }

@@ -28,6 +28,7 @@ pub(crate) fn key_used(op: &Op) -> Option<&Key>
     }
 }
 
+/// Returns what an operation does that only tests a value: it goes on if the test holds.
 fn pass_or_abort<'a>(holds: bool) -> Action<'a>
     ensures { result ≡ (if holds then Action.Pass else Action.Abort) }
 {

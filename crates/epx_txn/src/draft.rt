@@ -35,6 +35,7 @@ impl<'a> Model for Draft<'a> {
 }
 
 impl<'a> Draft<'a> {
+    /// Returns the draft of a command that has written nothing. Allocates nothing.
     pub(crate) fn new(alloc: Global) -> Draft<'a>
         ensures { result ≡ contents.empty }
     {
@@ -45,6 +46,8 @@ impl<'a> Draft<'a> {
         }
     }
 
+    /// Returns what the command has written under the key: `Some(None)` if it removed the key,
+    /// None if it has not written it.
     fn get(&self, key: &Key) -> Option<Option<i64>>
         ensures { result ≡ contents.get self.now key.now }
     {
@@ -54,6 +57,7 @@ impl<'a> Draft<'a> {
         }
     }
 
+    /// Writes under a key; None removes it. Moves all writes to a tree once `few` has no room.
     fn set(&mut self, key: &'a Key, value: Option<i64>) -> Result<(), Memory>
         ensures { OnOk result (self.new ≡ contents.insert self.old key.now value) }
     {

@@ -14,14 +14,20 @@ accesses_of (Is k v) = (k, false) ∷ []
 accesses_of (Floor k least) = (k, false) ∷ []
 accesses_of (Copy k j) = (k, false) ∷ (j, true) ∷ []
 
+-- the keys that an operation reads or writes: one, or the source and the target of a copy
 abbrev pub touched_by : Op → List (List ℕ)
 touched_by op = map (λ a. a.0) (accesses_of op)
 
+-- the keys that an operation writes: the one that it sets, adds to or removes, if there is one
 abbrev pub written_by : Op → List (List ℕ)
 written_by op = map (λ a. a.0) (filter (λ a. a.1) (accesses_of op))
 
+-- the keys that the text of a command touches, rising, each once; they count also where the
+-- command aborts
 abbrev pub touched_keys : List Op → List (List ℕ)
 touched_keys ops = rising_keys (flat_map touched_by ops)
 
+-- the keys that the text of a command writes, rising, each once; they count also where the command
+-- aborts
 abbrev pub written_keys : List Op → List (List ℕ)
 written_keys ops = rising_keys (flat_map written_by ops)

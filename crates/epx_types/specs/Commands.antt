@@ -6,6 +6,7 @@ use Rattle.epx_types.specs.declared.reply.Reply.TheVariants.{Values, Abort}
 use Rattle.epx_types.specs.Contents.{Contents}
 use Rattle.epx_types.specs.Operations.{operate}
 
+-- what a command leads to: its reply, and the contents after it
 pub record Outcome : Type 0 where
   pub reply : Reply
   pub after : Contents

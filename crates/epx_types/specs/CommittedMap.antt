@@ -7,9 +7,11 @@ use Rattle.epx_types.specs.Ids.{id_cmp, IsRising}
 use Rattle.epx_types.specs.Instances.{Instance}
 use Rattle.epx_types.specs.PlacedLines.{Placed}
 
+-- the Ids of some instances, in the order of the instances
 abbrev pub ids_of : List Instance → List Id
 ids_of m = map (λ e. e.id) m
 
+-- the instance that an Id names; None if the map has none, so that the Id is not committed
 abbrev pub instance_of : List Instance → Id → Option Instance
 instance_of m x = find (λ e. is_eq (id_cmp e.id x)) m
 
@@ -33,5 +35,7 @@ IsCommitted m x = Contains (ids_of m) x
 -- the map that the lines commit, which exists only if they agree
 pub record IsCommittedBy (lines : List Placed) (m : List Instance) : Type 0 where
   pub rising : IsRising (ids_of m)
+  -- each instance of the map is that of some line
   pub given : (e : Instance) → Contains m e → (p : Placed) × Contains lines p × (p.instance ≡ e)
+  -- the instance of each line is in the map
   pub whole : (p : Placed) → Contains lines p → Contains m p.instance

@@ -5,6 +5,8 @@ use Rattle.epx_types.specs.declared.reply.Reply.{Reply}
 use Rattle.epx_types.specs.Contents.{Contents}
 use Rattle.epx_types.specs.Commands.{command_on}
 
+-- what executing commands leads to: the reply of each, in their order, and the contents after the
+-- last
 pub record Execution : Type 0 where
   pub replies : List Reply
   pub final : Contents

@@ -22,15 +22,18 @@ rank_cmp a b = ordering_then (nat_cmp a.depth b.depth)
     (ordering_then (id_cmp a.leader b.leader)
     (ordering_then (nat_cmp a.seq b.seq) (id_cmp a.id b.id)))
 
+-- a comes before b in the execution order
 abbrev pub RanksBelow : Ranked → Ranked → Type 0
 RanksBelow a b = is_lt (rank_cmp a b) ≡ true
 
+-- the instance is ready in the map, and has this sequence number, leader and depth there
 pub record IsRanked (m : List Instance) (r : Ranked) : Type 0 where
   pub ready : IsReady m r.id
   pub seq : (e : Instance) → Contains m e → e.id ≡ r.id → e.seq ≡ r.seq
   pub leader : IsLeader m r.id r.leader
   pub depth : IsDepth m r.id r.depth
 
+-- the Ids of ranked instances, in their order
 abbrev pub ranked_ids : List Ranked → List Id
 ranked_ids order = map (λ r. r.id) order
 

@@ -10,9 +10,11 @@ use Rattle.epx_types.specs.declared.fault.Fault.TheVariants.{Read, Write, BadBas
 use Rattle.epx_types.specs.declared.id.Id.{Id}
 use Rattle.epx_types.specs.declared.place.Place.{Place}
 
+-- the fault of a run that ran out of memory, which says nothing of the logs
 abbrev pub out_of_memory : Fault
 out_of_memory = Memory
 
+-- the number by which the text of a fault and the documents name it
 abbrev pub fault_number : Fault → ℕ
 fault_number Memory = 1
 fault_number TooManyLogs = 2
@@ -36,6 +38,7 @@ fault_status (Read log) = 4
 fault_status Write = 4
 fault_status (BadBase line) = 1
 
+-- the word for the reason why a line is bad, as faults and comparisons print it
 abbrev pub why_text : Why → List ℕ
 why_text TooLong = codes "TooLong"
 why_text NotJson = codes "NotJson"
@@ -47,12 +50,15 @@ why_text Status = codes "Status"
 why_text Deps = codes "Deps"
 why_text Ops = codes "Ops"
 
+-- the name of an instance: replica, dot and number in decimal, as in `0.7`
 abbrev pub id_text : Id → List ℕ
 id_text x = decimal x.replica ++ codes "." ++ decimal x.number
 
+-- the name of a place, as in `log 0 line 3`; logs count from 0 and lines from 1
 abbrev pub place_text : Place → List ℕ
 place_text p = codes "log " ++ decimal p.log ++ codes " line " ++ decimal p.line
 
+-- the line that the program prints for a fault, byte for byte, without its line feed
 abbrev pub fault_text : Fault → List ℕ
 fault_text Memory = codes "epx: fault 1: out of memory"
 fault_text TooManyLogs = codes "epx: fault 2: more than 64 logs"

@@ -13,6 +13,7 @@ FitsKey text = (1 ≤ length text) × (length text ≤ 64)
 abbrev pub key_cmp : List ℕ → List ℕ → Ordering
 key_cmp = slice_cmp nat_cmp
 
+-- the key j comes before the key k in the order of keys
 abbrev pub KeyBelow : List ℕ → List ℕ → Type 0
 KeyBelow j k = is_lt (key_cmp j k) ≡ true
 

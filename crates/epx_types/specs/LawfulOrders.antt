@@ -34,5 +34,6 @@ pub record IsLawfulFor (m : List Instance) (Member : Id → Type 0) (ids : List 
   pub by_sequence : (x y : Id) → Contains ids x → Contains ids y → InOneComponent m x y
       → SequenceBefore m x y → Before ids x y
 
+-- a lawful order: one in which the protocol allows all ready instances of the map to be executed
 abbrev pub IsLawful : List Instance → List Id → Type 0
 IsLawful m ids = IsLawfulFor m (IsReady m) ids

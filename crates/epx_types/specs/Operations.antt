@@ -10,6 +10,7 @@ use Rattle.epx_types.specs.Contents.{Contents, assign, amount_at}
 abbrev pub fits_i64 : ℤ → Bool
 fits_i64 z = not (int_lt z (neg_ℤ (pos (2 ^ 63)))) && int_lt z (pos (2 ^ 63))
 
+-- whether two values of keys are equal; None means absence, which equals no number
 abbrev pub same_value : Option ℤ → Option ℤ → Bool
 same_value None None = true
 same_value None (Some w) = false

@@ -8,6 +8,7 @@ pub record PlanNumbers : Type 0 where
   pub workers : ℕ
   pub cut : ℕ
 
+-- a plan has at least one worker and one item in a piece, and at most `MAX_WORKERS` and `MAX_CUT`
 pub record IsWithinLimits (plan : PlanNumbers) : Type 0 where
   pub some_worker : 1 ≤ plan.workers
   pub few_workers : plan.workers ≤ 64
@@ -18,6 +19,7 @@ pub record IsWithinLimits (plan : PlanNumbers) : Type 0 where
 abbrev pub piece_count : ℕ → ℕ → ℕ
 piece_count cut items = div_ceil items cut
 
+-- the first item of the piece; pieces and items count from 0
 abbrev pub piece_start : ℕ → ℕ → ℕ
 piece_start cut piece = piece * cut
 

@@ -9,6 +9,7 @@ use Rattle.epx_types.specs.Instances.{Instance}
 abbrev pub place_cmp : Place → Place → Ordering
 place_cmp p q = ordering_then (nat_cmp p.log q.log) (nat_cmp p.line q.line)
 
+-- the place p is in an earlier log than q, or in the same log on an earlier line
 abbrev pub Earlier : Place → Place → Type 0
 Earlier p q = is_lt (place_cmp p q) ≡ true
 

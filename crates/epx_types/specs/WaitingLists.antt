@@ -5,10 +5,12 @@ use Rattle.epx_types.specs.Ids.{IsRising}
 use Rattle.epx_types.specs.Instances.{Instance}
 use Rattle.epx_types.specs.Readiness.{WaitsFor}
 
+-- an instance that waits, and the missing instance that it waits for
 pub record Waiting : Type 0 where
   pub id : Id
   pub missing : Id
 
+-- the Ids of the instances that wait, in the order of the list
 abbrev pub waiting_ids : List Waiting → List Id
 waiting_ids ws = map (λ w. w.id) ws
 

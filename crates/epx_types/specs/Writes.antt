@@ -17,6 +17,8 @@ abbrev pub writes_by : Reply → List Op → Contents → List Write
 writes_by (Values got) ops after = map (λ k. (k, contents.get after k)) (written_keys ops)
 writes_by (Abort j) ops after = []
 
+-- what a command over the contents c writes: each written key with its value afterwards, by rising
+-- key; nothing if the command aborts
 abbrev pub writes_of : List Op → Contents → List Write
 writes_of ops c = writes_by (command_on ops c).reply ops (command_on ops c).after
 
@@ -25,5 +27,6 @@ abbrev pub apply_writes : List Write → Contents → Contents
 apply_writes [] c = c
 apply_writes (w ∷ ws) c = apply_writes ws (assign c w.0 w.1)
 
+-- no two of the writes are to one key
 abbrev pub HasDistinctKeys : List Write → Type 0
 HasDistinctKeys ws = AllPairs (λ v w. v.0 ≢ w.0) ws

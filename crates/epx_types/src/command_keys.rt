@@ -10,6 +10,7 @@ use crate::op::{Access, Op};
 use std::alloc::Global;
 use std::collections::BTreeSet;
 
+/// Adds a key, unless the set has it already.
 fn add<'a>(keys: &mut BTreeSet<&'a Key>, key: &'a Key) -> Result<(), Memory>
     ensures { OnOk result
         (map (λ k. k.now) keys.new.keys ≡
@@ -19,6 +20,7 @@ fn add<'a>(keys: &mut BTreeSet<&'a Key>, key: &'a Key) -> Result<(), Memory>
     Ok(())
 }
 
+/// Adds the keys that an operation touches.
 fn add_touched<'a>(keys: &mut BTreeSet<&'a Key>, op: &'a Op) -> Result<(), Memory>
     ensures { OnOk result
         (map (λ k. k.now) keys.new.keys ≡
@@ -45,6 +47,7 @@ fn add_if_written<'a>(keys: &mut BTreeSet<&'a Key>, access: Access<'a>) -> Resul
     Ok(())
 }
 
+/// Adds the key that an operation writes, if it writes one.
 fn add_written<'a>(keys: &mut BTreeSet<&'a Key>, op: &'a Op) -> Result<(), Memory>
     ensures { OnOk result
         (map (λ k. k.now) keys.new.keys ≡

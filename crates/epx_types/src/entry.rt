@@ -62,7 +62,8 @@ impl Entry {
         Entry::from_lists(id, seq, SmallList::from_vec(deps), SmallList::from_vec(ops))
     }
 
-    /// As `new`, for lists whose lone items need no allocation.
+    /// An entry of lists whose lone items need no allocation. None if the dependencies do not
+    /// strictly rise or name the instance itself, or if a list is too long.
     pub fn from_lists(id: Id, seq: u64, deps: SmallList<Id>, ops: SmallList<Op>) -> Option<Entry>
         ensures fits { IsSome result ↔ IsWellFormed
             (record { id = id; seq = seq; deps = items_of deps; ops = items_of ops }) }
@@ -85,18 +86,21 @@ impl Entry {
         Ok(Entry::new(self.id, self.seq, deps, ops).unwrap())
     }
 
+    /// The Id of the instance.
     pub fn id(&self) -> Id
         ensures { result ≡ self.now.id }
     {
         self.id
     }
 
+    /// The sequence number with which the instance was committed.
     pub fn seq(&self) -> u64
         ensures { result ≡ self.now.seq }
     {
         self.seq
     }
 
+    /// The Ids of the dependencies, in rising order.
     pub fn deps(&self) -> &[Id]
         ensures deps { result.now ≡ self.now.deps }
         ensures fits { IsWellFormed self.now }
@@ -104,6 +108,7 @@ impl Entry {
         self.deps.as_slice()
     }
 
+    /// The operations of the command, in order. A no-op has none.
     pub fn ops(&self) -> &[Op]
         ensures ops { result.now ≡ self.now.ops }
         ensures fits { IsWellFormed self.now }
@@ -112,6 +117,7 @@ impl Entry {
     }
 }
 
+/// The Ids in a vector of their own.
 fn copy_ids(alloc: Global, ids: &[Id]) -> Result<Vec<Id>, Memory>
     ensures { IfOk result (λ copies. copies.items ≡ ids.now) }
 {
@@ -120,6 +126,7 @@ fn copy_ids(alloc: Global, ids: &[Id]) -> Result<Vec<Id>, Memory>
     Ok(copies)
 }
 
+/// Equal operations, with keys of their own.
 fn copy_ops(alloc: Global, ops: &[Op]) -> Result<Vec<Op>, Memory>
     ensures { IfOk result (λ copies. copies.items ≡ ops.now) }
 {

@@ -48,6 +48,7 @@ impl Key {
         Ok(Some(Key { text }))
     }
 
+    /// The text of the key, borrowed from it.
     pub fn text(&self) -> &str
         ensures text { result.now ≡ self.now }
         ensures fits { FitsKey self.now }
@@ -64,6 +65,7 @@ impl Key {
         self.text.head()
     }
 
+    /// An equal key. Only a text of more than `MAX_SHORT_KEY_BYTES` bytes is allocated.
     pub fn copy(&self) -> Result<Key, Memory>
         ensures { IfOk result (λ k. k ≡ self.now) }
     {

@@ -17,6 +17,7 @@ pub(crate) enum KeyText {
 }
 
 impl KeyText {
+    /// Stores a text. It is allocated only if it has more than `MAX_SHORT_KEY_BYTES` bytes.
     pub(crate) fn new(alloc: Global, text: &str) -> Result<KeyText, Memory>
         requires { length text.now ≤ 64 }
         ensures { IfOk result (λ t. text_bytes t ≡ text.now) }
@@ -27,6 +28,7 @@ impl KeyText {
         }
     }
 
+    /// The text, wherever it is stored.
     pub(crate) fn as_str(&self) -> &str
         ensures { result.now ≡ text_bytes self.now }
     {
@@ -47,6 +49,7 @@ impl KeyText {
         }
     }
 
+    /// An equal text. Only a long one is allocated.
     pub(crate) fn copy(&self) -> Result<KeyText, Memory>
         ensures { IfOk result (λ t. text_bytes t ≡ text_bytes self.now) }
     {

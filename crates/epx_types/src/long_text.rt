@@ -47,6 +47,7 @@ fn head_of(text: &str) -> u64
 }
 
 impl LongText {
+    /// Puts a text behind a box, however short it is, and stores its head.
     pub(crate) fn new(alloc: Global, text: &str) -> Result<LongText, Memory>
         requires { length text.now ≤ 64 }
         ensures { IfOk result (λ t. t.text.value.bytes ≡ text.now) }
@@ -59,6 +60,7 @@ impl LongText {
         })
     }
 
+    /// The text behind the box.
     pub(crate) fn as_str(&self) -> &str
         ensures { result.now ≡ self.now.text.value.bytes }
     {
@@ -73,6 +75,7 @@ impl LongText {
         self.head
     }
 
+    /// An equal text behind a box of its own.
     pub(crate) fn copy(&self) -> Result<LongText, Memory>
         ensures { IfOk result (λ t. t.text.value.bytes ≡ self.now.text.value.bytes) }
     {

@@ -35,12 +35,14 @@ pub struct Access<'a> {
     pub writes: bool,
 }
 
+/// The access of an operation that reads the key and does not write it.
 fn read(key: &Key) -> Access<'_>
     ensures { access_of result ≡ (key.now, false) }
 {
     Access { key, writes: false }
 }
 
+/// The access of an operation that writes the key.
 fn write(key: &Key) -> Access<'_>
     ensures { access_of result ≡ (key.now, true) }
 {

@@ -41,6 +41,7 @@ impl Plan {
         Some(Plan { workers, cut })
     }
 
+    /// The number of workers. The caller's thread is one of them.
     pub fn workers(&self) -> usize
         ensures workers { result ≡ self.now.workers }
         ensures fits { IsWithinLimits self.now }

@@ -18,12 +18,14 @@ impl Model for Values {
 }
 
 impl Values {
+    /// The values that `get` operations read, in order.
     pub fn new(items: Vec<Option<i64>>) -> Values
         ensures { result ≡ items.items }
     {
         Values { items }
     }
 
+    /// The values in order, borrowed.
     pub fn as_slice(&self) -> &[Option<i64>]
         ensures { result.now ≡ self.now }
     {

@@ -32,6 +32,7 @@ impl ShortText {
         })
     }
 
+    /// The text, without the zeros after it.
     pub(crate) fn as_str(&self) -> &str
         ensures { result.now ≡ take self.now.len self.now.bytes }
     {

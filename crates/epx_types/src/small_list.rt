@@ -43,6 +43,7 @@ impl<T: Drop> SmallList<T> {
         Ok(SmallList::Many(taken))
     }
 
+    /// The items in order, borrowed.
     pub fn as_slice(&self) -> &[T]
         requires { FitsInMemory T.row }
         ensures { result.now ≡ items_of self.now }

@@ -28,6 +28,7 @@ abbrev pub wrong_reply_data : Id → Reply → Reply → List Data
 wrong_reply_data x said right = string (codes "reply") ∷ data_of_number x.replica
     ∷ data_of_number x.number ∷ outcome_data said ∷ outcome_data right ∷ []
 
+-- both replies have the same values, or are aborts at the same operation
 abbrev pub same_reply : Reply → Reply → Bool
 same_reply (Values vs) (Values ws) = pointwise same_value vs ws
 same_reply (Abort j) (Abort k) = j == k
@@ -55,6 +56,8 @@ value_difference said right k =
 abbrev pub keys_of_either : Contents → Contents → List (List ℕ)
 keys_of_either said right = rising_keys (contents.keys said ++ contents.keys right)
 
+-- the lines of the keys whose values are wrong, by rising key. A key that only one store has is
+-- one of them
 abbrev pub store_differences : Contents → Contents → List ℕ
 store_differences said right = flat_map (value_difference said right) (keys_of_either said right)
 

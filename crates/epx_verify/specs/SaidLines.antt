@@ -38,6 +38,7 @@ stored_of n k v =
     if is_text (codes "store") n
     then option_and_then (λ key. option_map (Stored key) (signed v)) (key_of k) else None
 
+-- what the elements of a line say: the value of a key if they are three, a reply if they are five
 abbrev pub said_by_list : List Data → Option SaidLine
 said_by_list (n ∷ k ∷ v ∷ []) = stored_of n k v
 said_by_list (n ∷ r ∷ i ∷ a ∷ b ∷ []) = replied_of n r i a b

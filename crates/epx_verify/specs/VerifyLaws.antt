@@ -21,20 +21,24 @@ use Rattle.epx_verify.specs.Differences.{differences_text}
 
 -- ---- any bytes say one thing, or have one first bad line, and never both
 
+-- any bytes say replies and a store, or have a first bad line
 abbrev pub SaidOrBadSaid : Type 0
 SaidOrBadSaid = (bytes : List ℕ)
     → ((replies : List (Id × Reply)) × (stored : Contents) × IsSaid bytes replies stored)
     ⊎ ((line : ℕ) × IsBadSaid bytes line)
 
+-- bytes that say replies and a store have no bad line
 abbrev pub SaidIsNoBadSaid : Type 0
 SaidIsNoBadSaid = (bytes : List ℕ) (replies : List (Id × Reply)) (stored : Contents) (line : ℕ)
     → IsSaid bytes replies stored → ¬ IsBadSaid bytes line
 
+-- bytes say only one list of replies, and only one store
 abbrev pub TextSaysOneThing : Type 0
 TextSaysOneThing = (bytes : List ℕ) (replies others : List (Id × Reply)) (stored held : Contents)
     → IsSaid bytes replies stored → IsSaid bytes others held
     → (replies ≡ others) × (stored ≡ held)
 
+-- bytes have only one first bad line
 abbrev pub BadSaidIsBadAtOneLine : Type 0
 BadSaidIsBadAtOneLine = (bytes : List ℕ) (line other : ℕ) → IsBadSaid bytes line
     → IsBadSaid bytes other → line ≡ other
@@ -47,6 +51,8 @@ pub record FitSaidText (replies : List (Id × Reply)) (stored : Contents) : Type
   pub stored_fit : All (λ e. FitsKey e.0 × IsUtf8 e.0 × FitsSigned w64 e.1)
       (contents.entries stored)
 
+-- what is written of replies and a store says these replies and this store, if they are within the
+-- limits
 abbrev pub SaidTextIsSaid : Type 0
 SaidTextIsSaid = (replies : List (Id × Reply)) (stored : Contents) → FitSaidText replies stored
     → IsSaid (said_text replies stored) replies stored

@@ -50,6 +50,7 @@ fn outcome_value(alloc: Global, reply: &Reply) -> Result<Value, AllocError>
     }
 }
 
+/// The array of a wrong reply: `["reply",r,i,said,right]`.
 fn wrong_reply(alloc: Global, id: Id, said: &Reply, right: &Reply) -> Result<Value, AllocError>
     ensures { IfOk result
         (λ v. view v ≡ array_of (wrong_reply_data id said.now right.now)) }
@@ -59,6 +60,7 @@ fn wrong_reply(alloc: Global, id: Id, said: &Reply, right: &Reply) -> Result<Val
     json!(in alloc; ["reply", replica, number, said, right])
 }
 
+/// The array of a wrong value: `["store",k,said,right]`, with null where the key is absent.
 fn wrong_value(
     alloc: Global,
     key: &Key,

@@ -31,6 +31,7 @@ fn append_reply_differences(
     Ok(())
 }
 
+/// Adds a key to the set. One that is there already changes nothing.
 fn add_key<'a>(keys: &mut BTreeSet<&'a Key>, key: &'a Key) -> Result<(), Memory>
     ensures { OnOk result (map (λ k. k.now) keys.new.keys
         ≡ insert_key key_cmp (map (λ k. k.now) keys.old.keys) key.now) }

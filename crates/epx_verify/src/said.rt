@@ -67,6 +67,7 @@ fn store_of(alloc: Global, pairs: Vec<(Key, i64)>) -> Result<Store, Memory>
 }
 
 impl SaidSoFar {
+    /// The state before the first line.
     fn new(alloc: Global) -> SaidSoFar
         ensures { result ≡ nothing_said }
     {

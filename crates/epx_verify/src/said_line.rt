@@ -22,6 +22,7 @@ pub(crate) enum SaidLine {
     Stored(Key, i64),
 }
 
+/// Whether a value is this text.
 fn has_text(value: &Value, text: &str) -> bool
     ensures { result ≡ is_text text.now (view value.now) }
 {
@@ -133,6 +134,7 @@ fn read_stored(
     }
 }
 
+/// Reads one line from its JSON value. None if it is no line of what a replica says.
 #[tactic(auto, unfolding(crate::specs::SaidLines::said_by))]
 fn read_said_value(alloc: Global, value: &Value) -> Result<Option<SaidLine>, Memory>
     ensures { IfOk result (λ o. o ≡ said_by (view value.now)) }

@@ -15,6 +15,7 @@ pub record IsRowOf (versions : List Instance) (row : NotedLine) (line : Placed) 
   pub place : row.place ≡ line.place
   pub version : slice_get versions row.version ≡ Some line.instance
 
+-- the place and the fault of a bad line that is noted
 abbrev pub bad_line_at : NotedBadLine → BadLineAt
 bad_line_at b = record { place = b.place; why = b.why }
 

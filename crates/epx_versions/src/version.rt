@@ -20,12 +20,14 @@ impl Model for Version {
 }
 
 impl Version {
+    /// The version of an entry.
     pub(crate) fn new(entry: Entry) -> Version
         ensures { result ≡ entry }
     {
         Version { entry }
     }
 
+    /// The entry that lines of this version commit.
     pub(crate) fn entry(&self) -> &Entry
         ensures { result.now ≡ self.now }
     {

@@ -33,6 +33,7 @@ impl Model for Versions {
 }
 
 impl Versions {
+    /// No versions.
     pub(crate) fn new(alloc: Global) -> Versions
         ensures keys { result.keys ≡ [] }
         ensures hashes { result.hashes ≡ [] }

@@ -12,6 +12,7 @@ abbrev pub order_text : List Ranked → List Waiting → List ℕ
 order_text order waiting = header_line (length order) (length waiting) (component_count order)
     ++ (flat_map order_line order ++ flat_map waiting_line waiting)
 
+-- the text is that of the execution order of the map, and of the instances that wait in it
 pub record IsOrderText (m : List Instance) (text : List ℕ) : Type 0 where
   pub order : List Ranked
   pub waiting : List Waiting

@@ -25,6 +25,7 @@ fn command_levels(alloc: Global, merged: &Merged, ids: &[Id]) -> Result<LevelMap
     levels(alloc, &commands)
 }
 
+/// Appends the line of each instance, with the level of its command.
 fn append_levels(
     alloc: Global,
     text: &mut Vec<u8>,

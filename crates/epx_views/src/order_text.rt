@@ -10,6 +10,7 @@ use epx_report::append_ranked;
 use epx_types::Memory;
 use std::alloc::{AllocError, Global};
 
+/// Appends the line of each instance, with its depth and the leader of its component.
 fn append_order(alloc: Global, text: &mut Vec<u8>, order: &OrderList) -> Result<(), AllocError>
     ensures { OnOk result (text.new.items ≡ text.old.items ++ flat_map order_line order.now) }
 {

@@ -76,7 +76,7 @@ module _ (g : DependencyGraph) (distances : List (Option ℕ)) (start : ℕ) whe
           (IsRising-push (map (λ (n : Need). n.id) needs) w.id are.rising below);
     }
 
--- the same needs, by equal distances and ends
+-- the needs by some distances, in a range of nodes, are those by equal distances in an equal range
 pub needs_along : (g : DependencyGraph) (ds es : List (Option ℕ)) (start from end to : ℕ)
     (needs : List Need) → ds ≡ es → start ≡ from → end ≡ to → AreNeedsIn g ds start end needs
     → AreNeedsIn g es from to needs

@@ -22,5 +22,6 @@ pub record IsFirstPath (m : List Instance) (x : Id) (via : List Id) (y : Id) : T
   pub first : (other : List Id) → IsPath m x other y → length other ≡ length via
       → ComesUpTo (path_ids x via y) (path_ids x other y)
 
+-- no path of one dependency or more leads from x to y
 abbrev pub HasNoPath : List Instance → Id → Id → Type 0
 HasNoPath m x y = (via : List Id) → ¬ IsPath m x via y

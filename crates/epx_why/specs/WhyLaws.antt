@@ -14,7 +14,7 @@ abbrev pub WhyTextExists : Type 0
 WhyTextExists = (m : List Instance) (x : Id) → IsRising (ids_of m)
     → (text : List ℕ) × IsWhyText m x text
 
--- and no other one
+-- for each map and Id there is at most one text that says why
 abbrev pub WhyTextIsUnique : Type 0
 WhyTextIsUnique = (m : List Instance) (x : Id) (text other : List ℕ) → IsWhyText m x text
     → IsWhyText m x other → text ≡ other
@@ -23,7 +23,7 @@ WhyTextIsUnique = (m : List Instance) (x : Id) (text other : List ℕ) → IsWhy
 abbrev pub PathTextExists : Type 0
 PathTextExists = (m : List Instance) (x y : Id) → (text : List ℕ) × IsPathText m x y text
 
--- and no other one
+-- for each map and two Ids there is at most one text of a path
 abbrev pub PathTextIsUnique : Type 0
 PathTextIsUnique = (m : List Instance) (x y : Id) (text other : List ℕ) → IsPathText m x y text
     → IsPathText m x y other → text ≡ other

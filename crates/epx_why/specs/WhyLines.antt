@@ -14,6 +14,7 @@ ready_data x position depth leader = string (codes "ready") ∷ data_of_number x
     ∷ data_of_number x.number ∷ data_of_number position ∷ data_of_number depth
     ∷ data_of_number leader.replica ∷ data_of_number leader.number ∷ []
 
+-- the line of a ready instance at a position of the execution order, counted from 0
 abbrev pub ready_line : ℕ → Ranked → List ℕ
 ready_line position r = line_of (ready_data r.id position r.depth r.leader)
 
@@ -22,9 +23,11 @@ abbrev pub need_data : List ℕ → Need → List Data
 need_data name n = string name ∷ data_of_number n.id.replica ∷ data_of_number n.id.number
     ∷ data_of_number n.steps ∷ []
 
+-- the line of an instance at the other end of a path. Its name says at which end that instance is
 abbrev pub need_line : List ℕ → Need → List ℕ
 need_line name n = line_of (need_data name n)
 
+-- an instance as an array: `[r,i]`
 abbrev pub id_data : Id → Data
 id_data x = array_of (data_of_number x.replica ∷ data_of_number x.number ∷ [])
 
@@ -32,6 +35,7 @@ id_data x = array_of (data_of_number x.replica ∷ data_of_number x.number ∷ [
 abbrev pub path_data : List Id → List Data
 path_data ids = string (codes "path") ∷ map id_data ids
 
+-- the line of a path, with all its instances from one end to the other
 abbrev pub path_line : List Id → List ℕ
 path_line ids = line_of (path_data ids)
 

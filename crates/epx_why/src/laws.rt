@@ -8,7 +8,7 @@ pub fn why_text_exists()
     ensures { WhyTextExists }
 {}
 
-/// An instance has at most one such text.
+/// An instance has at most one text that says why.
 pub fn why_text_is_unique()
     ensures { WhyTextIsUnique }
 {}
@@ -18,7 +18,7 @@ pub fn path_text_exists()
     ensures { PathTextExists }
 {}
 
-/// Two instances have at most one such text.
+/// Two instances have at most one text of a path.
 pub fn path_text_is_unique()
     ensures { PathTextIsUnique }
 {}

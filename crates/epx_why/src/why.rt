@@ -34,7 +34,7 @@ fn needs_of(alloc: Global, graph: &Graph, node: usize) -> Result<Vec<Need>, Memo
 }
 
 /// The instances that reach the missing instance of a node.
-fn needing(alloc: Global, graph: &Graph, node: usize) -> Result<Vec<Need>, Memory>
+fn find_needing(alloc: Global, graph: &Graph, node: usize) -> Result<Vec<Need>, Memory>
     requires graph { IsGraph graph.now }
     requires node { node < length graph.now.ids }
     requires missing { graph.now.committed ≤ node }
@@ -58,6 +58,8 @@ fn position_of(ids: &[Id], id: Id) -> usize
     ids.len()
 }
 
+/// The text about a waiting instance: what it waits for, and the missing instances that it
+/// reaches.
 fn waiting_text(alloc: Global, id: Id, missing: Id, needs: &[Need]) -> Result<Vec<u8>, Memory>
     ensures { IfOk result (λ text. text.items
         ≡ waiting_line (record { id = id; missing = missing })
@@ -69,6 +71,7 @@ fn waiting_text(alloc: Global, id: Id, missing: Id, needs: &[Need]) -> Result<Ve
     Ok(text)
 }
 
+/// The text about an instance that no log commits, and the instances that reach it.
 fn missing_text(alloc: Global, id: Id, needing: &[Need]) -> Result<Vec<u8>, Memory>
     ensures { IfOk result (λ text. text.items
         ≡ missing_line id ++ flat_map (need_line (codes "needed")) needing.now) }
@@ -92,7 +95,7 @@ pub fn why_text(alloc: Global, graph: &Graph, order: &OrderList, id: Id) -> Resu
         return missing_text(alloc, id, &[]);
     };
     if !graph.is_committed(node) {
-        return missing_text(alloc, id, &needing(alloc, graph, node)?);
+        return missing_text(alloc, id, &find_needing(alloc, graph, node)?);
     }
     let needs = needs_of(alloc, graph, node)?;
     match needs.first() {

@@ -19,6 +19,7 @@ use epx_types::{Id, Memory};
 use serde_json::{Value, json};
 use std::alloc::{AllocError, Global};
 
+/// The array of a ready instance: `["ready",r,i,position,depth,lr,li]`, with its leader lr.li.
 fn ready_value(
     alloc: Global,
     id: Id,
@@ -34,6 +35,7 @@ fn ready_value(
     json!(in alloc; ["ready", replica, number, position, depth, leading, first])
 }
 
+/// The array of an instance at the other end of a path: `[name,r,i,steps]`.
 fn need_value(alloc: Global, name: &str, need: Need) -> Result<Value, AllocError>
     ensures data { IfOk result (λ v. view v ≡ array_of (need_data name.now need)) }
     ensures whole { IfOk result (λ v. has_float (view v) ≡ false) }
@@ -43,6 +45,7 @@ fn need_value(alloc: Global, name: &str, need: Need) -> Result<Value, AllocError
     json!(in alloc; [name, replica, number, steps])
 }
 
+/// The array of an instance: `[r,i]`.
 fn id_value(alloc: Global, id: Id) -> Result<Value, AllocError>
     ensures { IfOk result (λ v. view v ≡ id_data id) }
 {

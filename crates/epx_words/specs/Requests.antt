@@ -117,6 +117,7 @@ IsWork (words.WorkWith task plan paths flags) = ⊤
 IsWork (words.Follow plan paths options) = ⊤
 IsWork (words.Text text status) = ⊥
 
+-- none of the flags is there
 abbrev pub no_flags : Flags
 no_flags = record { exit_code = false; explain = false; quiet = false }
 

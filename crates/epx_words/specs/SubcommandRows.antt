@@ -10,6 +10,7 @@ use Rattle.clap.specs.Words.{IsUnsignedIn, Row, Text, all_of, first_of, one_of}
 abbrev pub Given : Type 0
 Given = Option (Text × List Row)
 
+-- the name of the subcommand, if the words name one
 abbrev pub name_in : Given → Option Text
 name_in = option_map (λ p. p.0)
 
@@ -96,6 +97,7 @@ task_names = codes "run" ∷ codes "order" ∷ codes "levels" ∷ codes "blocker
     ∷ codes "resume" ∷ codes "audit" ∷ codes "check" ∷ codes "verify" ∷ codes "linear"
     ∷ codes "replay" ∷ codes "compare" ∷ codes "why" ∷ codes "trace" ∷ []
 
+-- the name of the subcommand of a task
 abbrev pub IsTaskName : Text → Type 0
 IsTaskName name = IsOneOf name task_names
 

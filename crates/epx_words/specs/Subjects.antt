@@ -33,6 +33,7 @@ abbrev pub ArePartNames : Option Text → Option Text → Type 0
 ArePartNames None steps = steps ≡ None
 ArePartNames (Some text) steps = IsIdName text × IfSome steps (λ far. (n : ℕ) × IsNumberName n far)
 
+-- `--around` and `--steps` name a part of the graph, or neither is there
 abbrev pub NamesPart : List Row → Type 0
 NamesPart rows = ArePartNames (around_in rows) (steps_in rows)
 

@@ -20,6 +20,7 @@ effect_over c ops = record { reply = (command_on ops c).reply; writes = writes_o
 abbrev pub effects_over : Contents → List (List Op) → List Effect
 effects_over c commands = map (effect_over c) commands
 
+-- the replies of some effects, in their order
 abbrev pub replies_in : List Effect → List Reply
 replies_in effects = map (λ e. e.reply) effects
 

@@ -35,6 +35,9 @@ pub record IsWhole (p : ComponentParts) (ready : List Bool) (batch : SourceBatch
   pub nodes : (length batch.sharing.items ≡ length p.component)
       × (length ready ≡ length p.component)
 
+-- the words of a batch of at most 64 sources: for each component exactly the sources that reach
+-- it, and those that it reaches; for each node at least the sources that share a doubtful key with
+-- it
 pub record IsBatch (g : DependencyGraph) (p : ComponentParts) (touches : List DoubtfulTouch)
     (sources : List ℕ) (batch : SourceBatch) : Type 0 where
   pub few : length sources ≤ 64

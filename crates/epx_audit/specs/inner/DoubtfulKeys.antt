@@ -23,6 +23,7 @@ pub record ShareKey (touches : List DoubtfulTouch) (k j : ℕ) : Type 0 where
   pub alike : mine.key ≡ other.key
   pub writes : IsTrue mine.writes ⊎ IsTrue other.writes
 
+-- one of the two nodes reaches the other
 abbrev pub AreRelated : (ℕ → List ℕ) → ℕ → ℕ → Type 0
 AreRelated edges k j = NodeReaches edges k j ⊎ NodeReaches edges j k
 

@@ -11,6 +11,7 @@ pub record KeyLists : Type 0 where
   pub touched : List (List ℕ)
   pub written : List (List ℕ)
 
+-- the keys that the operations of an instance touch and write, also if the command aborts
 abbrev pub keys_of : Instance → KeyLists
 keys_of d = record { touched = touched_keys d.ops; written = written_keys d.ops }
 

@@ -5,6 +5,7 @@ use Rattle.epx_graph.specs.NodePaths.{NodeReaches}
 use Rattle.epx_components.specs.ReadyMarks.{is_marked}
 use Rattle.epx_audit.specs.declared.pair_marks.LeftPair.{LeftPair}
 
+-- the pair at an index of a list; (0, 0) past its end
 abbrev pub pair_at : List (ℕ × ℕ) → ℕ → ℕ × ℕ
 pair_at pairs i = slice_index_or pairs i (0, 0)
 
@@ -14,11 +15,15 @@ IsExact edges nodes pairs marks i = IsTrue (is_marked marks i)
     ↔ NodeReaches edges (slice_index nodes (pair_at pairs i).0)
     (slice_index nodes (pair_at pairs i).1)
 
+-- each pair has a mark, which is set exactly if the node at its first position reaches the one at
+-- its second position
 pub record AreExactMarks (edges : ℕ → List ℕ) (nodes : List ℕ) (pairs : List (ℕ × ℕ))
     (marks : List Bool) : Type 0 where
   pub each_pair : length marks ≡ length pairs
   pub exact : (i : ℕ) → i < length pairs → IsExact edges nodes pairs marks i
 
+-- the pair at an index of a list of those that are left to passes over the graph; zeros past its
+-- end
 abbrev pub left_at : List LeftPair → ℕ → LeftPair
 left_at left i = slice_index_or left i (record { from = 0; to = 0; index = 0 })
 

@@ -12,6 +12,7 @@ pub record CoverLists : Type 0 where
   pub row_paths : List ℕ
   pub row_positions : List ℕ
 
+-- what contracts see of a cover in memory: its members, and the entries of their rows
 abbrev pub lists_of : PathCover → CoverLists
 lists_of cover = record {
   members = cover.members.items;
@@ -119,7 +120,8 @@ abbrev pub IsTargetEntry : CoverLists → List ℕ → List ℕ → ℕ → ℕ 
 IsTargetEntry c positions targets n path e = (i : ℕ) × (i < n)
     × IsEntryAt c (slice_index positions (slice_index targets i)) path e
 
--- such an entry for the node at one of the positions up to an end
+-- an entry of a row that an edge of the next component leads to. The nodes of that component are
+-- at the positions that have no member yet, up to an end
 abbrev pub IsMemberEntry : (ℕ → List ℕ) → List ℕ → CoverLists → List ℕ → ℕ → ℕ → ℕ → Type 0
 IsMemberEntry edges nodes c positions end path e = (p : ℕ) × (length c.members ≤ p) × (p < end)
     × IsTargetEntry c positions (edges (slice_index nodes p))

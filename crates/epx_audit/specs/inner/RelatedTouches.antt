@@ -4,6 +4,7 @@ use Rattle.std.specs.Prelude.{IsTrue}
 use Rattle.epx_graph.specs.NodePaths.{NodeReaches}
 use Rattle.epx_audit.specs.declared.touches.KeyUse.{KeyUse}
 
+-- the touch at an index of a list; past its end, a read of hash 0 at position 0
 abbrev pub touch_at : List KeyUse → ℕ → KeyUse
 touch_at touches i = slice_index_or touches i (record { hash = 0; position = 0; writes = false })
 

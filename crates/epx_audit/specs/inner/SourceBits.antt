@@ -2,6 +2,7 @@
 use Rattle.std.specs.Prelude.{◌≡◌, ◌↔◌, ℕ, ◌<◌, ◌==◌, List, Bool, length, slice_index, IsTrue}
 use Rattle.std.specs.Int.{bit_at}
 
+-- bit b of the word is set: source b is in it
 abbrev pub has_bit : ℕ → ℕ → Bool
 has_bit b word = bit_at word b == 1
 

@@ -18,9 +18,11 @@ abbrev pub touch : DefaultHasher → ℕ → List ℕ → Bool → KeyUse
 touch start position key writes =
     record { hash = hash_of start key; position = position; writes = writes }
 
+-- what one operation of the command at a position touches: one key, or two if it copies
 abbrev pub touches_by : DefaultHasher → ℕ → Op → List KeyUse
 touches_by start position op = map (λ a. touch start position a.0 a.1) (accesses_of op)
 
+-- what the command at a position touches, operation by operation; a key may be there several times
 abbrev pub hashed_touches : DefaultHasher → ℕ → List Op → List KeyUse
 hashed_touches start position ops = flat_map (touches_by start position) ops
 

@@ -5,6 +5,7 @@ use Rattle.epx_graph.specs.NodePaths.{NodeReaches}
 use Rattle.epx_components.specs.ReadyMarks.{is_marked}
 use Rattle.epx_audit.specs.declared.doubtful_touches.DoubtfulTouch.{DoubtfulTouch}
 
+-- the touch of a doubtful key at an index of a list; past its end, a read of key 0 by node 0
 abbrev pub doubtful_at : List DoubtfulTouch → ℕ → DoubtfulTouch
 doubtful_at touches i = slice_index_or touches i (record { key = 0; node = 0; writes = false })
 

@@ -14,6 +14,8 @@ pub record IsNodeBlocker (g : DependencyGraph) (b : Blocker) : Type 0 where
   pub alone : IsNodeCount (λ k. IsOnlyReached g k node) g.committed b.alone
   pub named : IsNodeCount (λ k. Contains (edges_of g k) node) g.committed b.named
 
+-- each missing node once, by rising Id, with both of its counts: of the committed nodes that it
+-- alone blocks, and of those with an edge to it
 pub record AreNodeBlockers (g : DependencyGraph) (bs : List Blocker) : Type 0 where
   pub ids : map (λ b. b.id) bs ≡ missing_ids g
   pub each : (b : Blocker) → Contains bs b → IsNodeBlocker g b

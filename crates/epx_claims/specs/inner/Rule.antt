@@ -12,9 +12,11 @@ use Rattle.epx_claims.specs.declared.seat_state.View.{View}
 use Rattle.epx_claims.specs.Count.{total}
 use Rattle.epx_claims.specs.ClaimState.{ClaimState, StateStep}
 
+-- the state of a seat: the pieces that it has drawn, its share, and whether it has ended
 abbrev pub seat_state : List ℕ → ℕ → Bool → SeatState
 seat_state drawn share ended = record { drawn = drawn; share = share; ended = ended }
 
+-- what a seat of the table holds: the terms, and these seat states
 abbrev pub view : Terms → List SeatState → View
 view terms seat_states = record { terms = terms; seat_states = seat_states }
 
@@ -41,13 +43,15 @@ pub record HasClaimState (terms : Terms) (state : State (Unit {0}) View) : Type 
 abbrev pub opening_view : Terms → View
 opening_view terms = view terms (seat_state [] terms.workers false ∷ [])
 
+-- a seat of the table: its view, and the slots that it has taken. Claims use no slots
 abbrev pub TableSeat : Type 0
 TableSeat = Me (Unit {0}) View
 
--- a seat state after it drew a piece, and after it ended
+-- a seat state after it drew a piece
 abbrev pub with_piece : ℕ → SeatState → SeatState
 with_piece piece h = seat_state (h.drawn ++ piece ∷ []) h.share h.ended
 
+-- a seat state after it ended: the pieces and the share are kept
 abbrev pub at_end : SeatState → SeatState
 at_end h = seat_state h.drawn h.share true
 
@@ -73,6 +77,7 @@ IsDrawOrStop terms seat_states found after =
     × (found < terms.pieces → after ≡ view terms (map (with_piece found) seat_states))
     × (terms.pieces ≤ found → after ≡ view terms (map at_end seat_states))
 
+-- the step of a table by which a seat draws a piece or stops, and keeps its slots
 abbrev pub IsDrawStep : Step (Unit {0}) → TableSeat → ℕ → TableSeat → Type 0
 IsDrawStep step before found after = (after.1 ≡ before.1)
     × IsDrawOrStop before.0.terms before.0.seat_states found after.0
@@ -84,24 +89,29 @@ IsStateMove move terms seat_states found after =
     StateStep terms.pieces terms.workers found found seat_states after.seat_states
     × (after ≡ view terms (move seat_states))
 
+-- the step of a table by which the one state of a seat becomes two; in a split, a new seat then
+-- gets the second
 abbrev pub IsSplitStep : Step (Unit {0}) → TableSeat → ℕ → TableSeat → Type 0
 IsSplitStep step before found after = (after.1 ≡ before.1)
     × IsStateMove split_in_two before.0.terms before.0.seat_states found after.0
 
+-- the step of a table by which the two states of a seat become one, at the end of a join
 abbrev pub IsJoinStep : Step (Unit {0}) → TableSeat → ℕ → TableSeat → Type 0
 IsJoinStep step before found after = (after.1 ≡ before.1)
     × IsStateMove join_two before.0.terms before.0.seat_states found after.0
 
--- the view with the first seat state, and the view with the others
+-- after a split, the view of the old seat: the first seat state
 abbrev pub first_view : View → View
 first_view v = view v.terms (take 1 v.seat_states)
 
+-- after a split, the view of the new seat: the seat states after the first
 abbrev pub other_view : View → View
 other_view v = view v.terms (drop 1 v.seat_states)
 
--- the view with the seat states of two, and the view of a spent seat
+-- the view of a seat with which another is joined: the seat states of both
 abbrev pub joined_view : View → View → View
 joined_view v w = view v.terms (v.seat_states ++ w.seat_states)
 
+-- the view of a spent seat: it has no seat state, so its terms do not matter
 abbrev pub spent_view : View
 spent_view = view (record { pieces = 0; workers = 0 }) []

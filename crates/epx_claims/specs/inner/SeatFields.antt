@@ -10,6 +10,8 @@ abbrev pub drawn_of : List SeatState → List ℕ
 drawn_of [] = []
 drawn_of (h ∷ hs) = h.drawn
 
+-- the fields of a seat as contracts see them; which claims it is of, and what it has drawn, is in
+-- the seat of the table
 abbrev pub seat_view : Inside → SeatView
 seat_view s = record {
   claims = record {

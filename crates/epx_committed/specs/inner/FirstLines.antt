@@ -14,6 +14,7 @@ pub record AreFirstLines (lists : List (Vec Placed Global)) (noted : FirstLines)
   pub found : IsIndexOf (map (λ r. r.id) noted.rows.items) noted.index
   pub distinct : AllPairs (λ x y. x ≢ y) (map (λ r. r.id) noted.rows.items)
 
+-- what is seen of a ledger that has these lists and first lines
 abbrev pub ledger_view : List (Vec Placed Global) → FirstLines → LedgerView
 ledger_view lists noted = record {
   firsts = firsts_at lists noted.rows.items;

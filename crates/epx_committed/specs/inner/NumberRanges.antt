@@ -3,6 +3,7 @@ use Rattle.std.specs.Prelude.{◌≡◌, ℕ, ◌+◌, ◌-◌, ◌≤◌, ◌<�
 use Rattle.epx_types.specs.declared.id.Id.{Id}
 use Rattle.epx_committed.specs.declared.number_ranges.NumberRange.{NumberRange}
 
+-- the number is in the range, whose end is the number after its last
 abbrev pub IsInRange : NumberRange → ℕ → Type 0
 IsInRange range number = (range.first ≤ number) × (number < range.end)
 

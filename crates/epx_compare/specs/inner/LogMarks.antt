@@ -10,6 +10,7 @@ use Rattle.epx_versions.specs.declared.noted.NotedLine.{NotedLine}
 abbrev pub is_line_in : List ℕ → ℕ → ℕ → NotedLine → Bool
 is_line_in positions log k row = (row.place.log == log) && (slice_index positions row.version == k)
 
+-- the log is in the set
 abbrev pub has_log : ℕ → LogSet → Bool
 has_log log set = bit_at set.bits log == 1
 

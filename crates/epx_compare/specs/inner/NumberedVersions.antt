@@ -34,6 +34,7 @@ pub record AreDiffering (es : List Instance) (m : Members) : Type 0 where
   pub deps : m.deps ≡ later_differs same_deps es
   pub ops : m.ops ≡ later_differs same_ops es
 
+-- the names of the members that differ, in the order in which an answer has them
 abbrev pub names_of : Members → List (List ℕ)
 names_of m = named_if m.seq (codes "seq")
     ++ (named_if m.deps (codes "deps") ++ named_if m.ops (codes "ops"))

@@ -60,5 +60,6 @@ pub record IsSearch (edges : ℕ → List ℕ) (n seen : ℕ) (s : SearchState) 
       → IsInGroupFrom s.starts p q → NodeReaches edges k j
   pub finished : AreFinished edges s.visits s.looked_at s.order s.count
 
+-- from the old state to the new one the search keeps its invariant, and what is seen stays seen
 abbrev pub KeepsSearch : (ℕ → List ℕ) → ℕ → SearchState → SearchState → Type 0
 KeepsSearch edges n old new = (seen : ℕ) → IsSearch edges n seen old → IsSearch edges n seen new

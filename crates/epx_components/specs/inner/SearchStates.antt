@@ -14,6 +14,7 @@ pub record SearchState : Type 0 where
   pub order : List ℕ
   pub count : ℕ
 
+-- what contracts see of a search in memory
 abbrev pub state : Search → SearchState
 state s = record {
   visits = s.visits.items;

@@ -24,6 +24,7 @@ pub record IsMapBatch (done : List Id) (m entries : List Instance) (order : List
     (positions : List (Id × ℕ)) (waiters : List Waiting) (now : List Id) : Type 0 where
   pub same : entries ≡ m
   pub ordered : IsExecutionOrder (remaining done m) order
+  -- the operations at the positions are the commands of the order
   pub found : map (λ p. ops_or_empty (slice_get m p.1)) positions
       ≡ commands_in m (ranked_ids order)
   pub waiting : IsWaitingList (remaining done m) waiters
@@ -40,9 +41,12 @@ pub record IsCallBatch (done : List Id) (pending came : List Instance) (choice :
   pub within : (e : Instance) → Contains entries e → Contains m e
   pub whole : (e : Instance) → Contains m e → IsPassedOver choice pending e ⊎ Contains entries e
   pub ordered : IsExecutionOrder (remaining done m) order
+  -- the operations at the positions are the commands of the order
   pub found : map (λ p. ops_or_empty (slice_get entries p.1)) positions
       ≡ commands_in m (ranked_ids order)
+  -- each waiter reaches an instance that is not ready
   pub waits : (w : Waiting) → Contains waiters w → IsBlockedIn (remaining done m) w.id w.missing
+  -- an entry that is not done then is a waiter
   pub waiting : (e : Instance) → Contains entries e → ¬ Contains now e.id
       → Contains (waiting_ids waiters) e.id
   pub done_now : (x : Id) → Contains now x ↔ (Contains done x ⊎ Contains (ranked_ids order) x)

@@ -39,7 +39,7 @@ abbrev pub NeedsMissing : List Id → List Instance → List Id → Filings → 
 NeedsMissing done pending came filings e z =
     (d : Id) × Contains e.deps d × IsNeededBy done pending came filings d z
 
--- an equal instance waits, or none of this Id
+-- the instance is done, or an equal one waits, or none of its Id
 abbrev pub AgreesWith : List Id → List Instance → Instance → Type 0
 AgreesWith done pending e = ¬ Contains done e.id → (p : Instance) → Contains pending p
     → p.id ≡ e.id → p ≡ e
@@ -50,14 +50,14 @@ abbrev pub IsSortedOut : List Id → Filings → List Id → List (Id × Id) →
 IsSortedOut done filings roots blocked e = ¬ Contains done e.id → Contains roots e.id
     ⊎ (((x : Id) → ¬ Contains filings (x, e.id)) ⊎ ((z : Id) × Contains blocked (e.id, z)))
 
--- it came, and needs an instance that is missing
+-- each of these came, is not done, and needs the instance beside it, which is missing
 abbrev pub AreBlocked : List Id → List Instance → List Instance → List Id → Filings
     → List (Id × Id) → Type 0
 AreBlocked done pending came ids filings blocked = (x z : Id) → Contains blocked (x, z)
     → (e : Instance) × Contains came e × (e.id ≡ x) × (¬ Contains done x)
     × NeedsMissing done pending ids filings e z
 
--- it is an instance of the map and reaches z, which is not ready
+-- x is an instance of the map and reaches z, which is not ready
 pub record IsBlockedIn (m : List Instance) (x z : Id) : Type 0 where
   pub committed : IsCommitted m x
   pub reached : Reaches m x z
@@ -67,12 +67,17 @@ pub record IsBlockedIn (m : List Instance) (x z : Id) : Type 0 where
 -- not ready
 pub record IsChoice (done : List Id) (pending came : List Instance) (filings : Filings)
     (ids : List Id) (blocked : List (Id × Id)) : Type 0 where
+  -- what waits and what came are no more than an executor holds
   pub few : length pending + length came ≤ max_instances
+  -- what came agrees with what waits
   pub alike : (e : Instance) → Contains came e → AgreesWith done pending e
+  -- a pending instance that is ready now is in `ids`
   pub whole : (m : List Instance) → IsUnion done pending came m → (x : Id)
       → Contains (ids_of pending) x → IsReady (remaining done m) x → Contains ids x
+  -- an instance of `blocked` reaches the one beside it, which is not ready
   pub need_missing : (m : List Instance) → IsUnion done pending came m → (x z : Id)
       → Contains blocked (x, z) → IsBlockedIn (remaining done m) x z
+  -- what is not in `ids` stays filed, and under an instance that is not ready
   pub left : (m : List Instance) → IsUnion done pending came m → (x y : Id)
       → Contains filings (x, y) → ¬ Contains ids x → ¬ IsReady (remaining done m) y
 
@@ -102,7 +107,8 @@ pub record CanRefile (m : List Instance) (before : Filings) (ids : List Id)
   pub whole : (x : Id) → IsCommitted m x
       → (IsFiled before x × (¬ Contains ids x)) ⊎ Contains (waiting_ids waiters) x
 
--- after a call that looked at a choice, or at all
+-- the filings after a call that looked at a choice, or at all pending instances: they are those of
+-- each map that can be refiled
 abbrev pub IsRefiled : Option Filings → Option Choice → List Waiting → Filings → Type 0
 IsRefiled None choice waiters filings =
     (m : List Instance) → CanRefile m [] [] [] waiters → AreFiledIn m filings

@@ -10,6 +10,7 @@ use Rattle.epx_types.specs.Ids.{id_cmp}
 abbrev pub Filings : Type 0
 Filings = List (Id × Id)
 
+-- x is filed under some Id
 abbrev pub IsFiled : Filings → Id → Type 0
 IsFiled filings x = Contains (map (λ f. f.0) filings) x
 

@@ -16,7 +16,7 @@ place_in places x = get id_cmp places x
 abbrev pub first_place : List Placed → Id → Option Place
 first_place lines x = option_map (λ p. p.place) (first_line lines x)
 
--- for each Id that is noted
+-- the place of the first line is noted for each Id that the lines name, and none for other Ids
 abbrev pub HasFirstPlaces : (Id → Option Place) → List Placed → Type 0
 HasFirstPlaces noted lines = (x : Id) → noted x ≡ first_place lines x
 

@@ -13,6 +13,7 @@ use Rattle.epx_follow.specs.Following.{FollowerView, next_line}
 use Rattle.epx_follow.specs.FollowerLaws.{executor_of}
 use Rattle.epx_follow.specs.inner.FirstPlaces.{HasFirstPlaces, place_in}
 
+-- what is seen where no place is noted: no line is here, since lines are numbered from 1
 abbrev pub no_place : Place
 no_place = record { log = 0; line = 0 }
 
@@ -42,6 +43,7 @@ view_of v h = record {
   is_open = h.is_open;
 }
 
+-- the lines that are kept fit the executor, and each instance of the batch has a place
 abbrev pub IsHeld : ExecutorView → HeldLines → Type 0
 IsHeld v h = AreHeld (place_in h.places) (view_of v h)
     × (length h.batch_places.items ≡ length h.batch.items)

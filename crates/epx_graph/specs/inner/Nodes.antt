@@ -37,6 +37,7 @@ pub record IsGatheredOf (m es : List Instance) (rows : List (List ℕ)) (ids : L
 abbrev pub first_of_piece : ℕ → ℕ → ℕ → ℕ
 first_of_piece size n piece = min (piece * size) n
 
+-- the instances of a map in one of its pieces, which are numbered from 0
 abbrev pub instances_of_piece : ℕ → List Instance → ℕ → List Instance
 instances_of_piece size m piece =
     let first = first_of_piece size (length m) in slice_range m (first piece) (first (piece + 1))

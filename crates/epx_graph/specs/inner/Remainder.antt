@@ -5,14 +5,16 @@ use Rattle.epx_types.specs.declared.id.Id.{Id}
 use Rattle.epx_types.specs.Instances.{Instance}
 use Rattle.epx_types.specs.CommittedMap.{position_of}
 use Rattle.epx_types.specs.Done.{without_deps, remaining}
-use Rattle.epx_graph.specs.declared.left.IdState.{IdState}
-use Rattle.epx_graph.specs.declared.left.IdState.TheVariants as found
+use Rattle.epx_graph.specs.declared.remainder.IdState.{IdState}
+use Rattle.epx_graph.specs.declared.remainder.IdState.TheVariants as found
 
 -- a map, and the done Ids
 pub record RemainderView : Type 0 where
   pub whole : List Instance
   pub done : List Id
 
+-- what is left of the map: the instances that are not done, without their dependencies on done
+-- ones
 abbrev pub rest_of : RemainderView → List Instance
 rest_of r = remaining r.done r.whole
 

@@ -20,6 +20,7 @@ mark_by kind.Steps start steps = steps
 abbrev pub node_mark : List (Option ℕ) → ℕ → Option ℕ
 node_mark marks k = slice_index_or marks k None
 
+-- node k has a mark: the search has found it
 abbrev pub IsMarked : List (Option ℕ) → ℕ → Type 0
 IsMarked marks k = (m : ℕ) × (node_mark marks k ≡ Some m)
 

@@ -11,6 +11,7 @@ use Rattle.epx_report.specs.inner.Progress.{some_if}
 use Rattle.epx_linear.specs.declared.client_call.ClientCall.{ClientCall}
 use Rattle.epx_linear.specs.HistoryLines.{call_line_of}
 
+-- the instances of calls, in the order of the calls
 abbrev pub called_ids : List ClientCall → List Id
 called_ids h = map (λ c. c.id) h
 

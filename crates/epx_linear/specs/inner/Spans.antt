@@ -6,12 +6,16 @@ use Rattle.epx_types.specs.Ids.{UpTo}
 use Rattle.epx_linear.specs.declared.client_call.ClientCall.{ClientCall}
 use Rattle.epx_linear.specs.declared.spans.Span.{Span}
 
+-- the instance of the call. A span holds it reversed, so that of equal times the lower Id is
+-- greater
 abbrev pub id_of_span : Span → Id
 id_of_span s = s.id.0
 
+-- what a span has of a call: when it was invoked, its instance, and when it returned, if it did
 abbrev pub times_of_call : ClientCall → ℕ × (Id × Option ℕ)
 times_of_call c = (c.invoked, (c.id, c.returned))
 
+-- what a span says of its call: when it was invoked, its instance, and when it returned, if it did
 abbrev pub times_of_span : Span → ℕ × (Id × Option ℕ)
 times_of_span s = (s.invoked, (id_of_span s, s.returned))
 
@@ -45,6 +49,7 @@ pub record AreRanksOf (spans : List Span) (ranks : List ℕ) : Type 0 where
   pub no_other : (k r : ℕ) → slice_get ranks k ≡ Some (suc r)
       → (s : Span) × (slice_get spans r ≡ Some s) × (s.at ≡ k)
 
+-- the number, or 0 if there is none
 abbrev pub number_or_zero : Option ℕ → ℕ
 number_or_zero None = 0
 number_or_zero (Some n) = n

@@ -8,6 +8,7 @@ use Rattle.epx_neighbours.specs.inner.KeyTouches.{key_touch_at}
 abbrev pub HasWrite : List KeyTouch → ℕ → ℕ → Type 0
 HasWrite touches p k = Contains touches (record { key = k; position = p; writes = true })
 
+-- the command at position p touches key k: it reads the key or writes it
 abbrev pub HasTouch : List KeyTouch → ℕ → ℕ → Type 0
 HasTouch touches p k =
     (w : Bool) × Contains touches (record { key = k; position = p; writes = w })

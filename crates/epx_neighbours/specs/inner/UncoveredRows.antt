@@ -14,6 +14,7 @@ abbrev pub row_cmp : UncoveredRow → UncoveredRow → Ordering
 row_cmp a b = ordering_then (id_cmp a.before b.before)
     (ordering_then (id_cmp a.after b.after) (nat_cmp a.key b.key))
 
+-- row a comes before row b, by the first Id, the second Id and the number of the key
 abbrev pub RowBelow : UncoveredRow → UncoveredRow → Type 0
 RowBelow a b = is_lt (row_cmp a b) ≡ true
 
@@ -24,8 +25,8 @@ pub record IsUncoveredRowOf (ids : List Id) (n : Neighbours) (r : UncoveredRow) 
   pub key : n.key ≡ r.key
 
 -- the positions of neighbours are in a list of this length
-abbrev pub AreOfKeys : ℕ → List Neighbours → Type 0
-AreOfKeys length found = All (λ n. (n.before < length) × (n.after < length)) found
+abbrev pub HavePositionsWithin : ℕ → List Neighbours → Type 0
+HavePositionsWithin length found = All (λ n. (n.before < length) × (n.after < length)) found
 
 -- r is the row of neighbours without a mark, among the first i
 abbrev pub IsUnmarked : List Id → List Neighbours → List Bool → ℕ → UncoveredRow → Type 0

@@ -14,6 +14,7 @@ IsNodeWithin g zero k j = k ≡ j
 IsNodeWithin g (suc n) k j = IsNodeWithin g n k j
     ⊎ ((i : ℕ) × IsNodeWithin g n k i × IsNodeStep g i j)
 
+-- node k is marked; past the end of the marks no node is
 abbrev pub HasMark : List Bool → ℕ → Type 0
 HasMark marks k = IsTrue (slice_index_or marks k false)
 

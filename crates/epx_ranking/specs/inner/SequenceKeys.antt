@@ -12,6 +12,7 @@ use Rattle.epx_ranking.specs.declared.check.sequence_key.SequenceKey.{SequenceKe
 use Rattle.epx_components.specs.Partitions.{ComponentParts, component_of, number_for}
 use Rattle.epx_components.specs.ReadyMarks.{is_marked}
 
+-- what decides the position of an instance inside its component: its sequence number, then its Id
 abbrev pub sequence_key_of : Instance → SequenceKey
 sequence_key_of e = record { seq = e.seq; id = e.id }
 
@@ -68,11 +69,14 @@ IsNodeAfterGapAt m p left_out nodes i = (e : Instance)
     × (slice_get m (slice_index nodes i) ≡ Some e)
     × ComesAfter (sequence_key_of e) (key_for p left_out (slice_index nodes i))
 
+-- the node at position i is out of sequence in its component: a member with a greater sequence key
+-- is listed earlier, or one with a lesser key is left out
 abbrev pub IsNodeOutOfSequenceAt : List Instance → ComponentParts → List (Option SequenceKey)
     → List ℕ → ℕ → Type 0
 IsNodeOutOfSequenceAt m p left_out nodes i = IsNodeOvertakenAt m p nodes i
     ⊎ IsNodeAfterGapAt m p left_out nodes i
 
+-- none of the first n positions is early or out of sequence
 abbrev pub AreNodesInOrder : List Instance → ComponentParts → List (Option SequenceKey) → List ℕ
     → List ℕ → ℕ → Type 0
 AreNodesInOrder m p left_out below nodes n = (i : ℕ) → i < n

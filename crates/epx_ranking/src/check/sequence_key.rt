@@ -14,6 +14,7 @@ pub(crate) struct SequenceKey {
 }
 
 impl SequenceKey {
+    /// The sort key of an instance.
     pub(crate) fn of(entry: &Entry) -> SequenceKey
         ensures { result ≡ sequence_key_of entry.now }
     {

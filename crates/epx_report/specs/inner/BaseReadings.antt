@@ -5,7 +5,7 @@ use Rattle.std.specs.FinMap as contents
 use Rattle.epx_types.specs.declared.id.Id.{Id}
 use Rattle.epx_types.specs.Contents.{Contents}
 use Rattle.epx_lines.specs.Lines.{lines_of}
-use Rattle.epx_report.specs.declared.form.BaseLine.{BaseLine}
+use Rattle.epx_report.specs.declared.from_value.BaseLine.{BaseLine}
 use Rattle.epx_report.specs.Forms.{base_line_of}
 use Rattle.epx_report.specs.inner.Progress.{Progress, nothing_seen, after, is_complete}
 

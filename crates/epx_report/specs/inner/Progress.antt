@@ -9,9 +9,9 @@ use Rattle.epx_types.specs.declared.id.Id.{Id}
 use Rattle.epx_types.specs.Ids.{id_cmp}
 use Rattle.epx_types.specs.Keys.{key_cmp}
 use Rattle.epx_types.specs.Done.{is_among}
-use Rattle.epx_report.specs.declared.form.Counts.{Counts}
-use Rattle.epx_report.specs.declared.form.BaseLine.{BaseLine}
-use Rattle.epx_report.specs.declared.form.BaseLine.TheVariants.{Header, Done, Reply, Waiting, Store}
+use Rattle.epx_report.specs.declared.from_value.Counts.{Counts}
+use Rattle.epx_report.specs.declared.from_value.BaseLine.{BaseLine}
+use Rattle.epx_report.specs.declared.from_value.BaseLine.TheVariants.{Header, Done, Reply, Waiting, Store}
 
 -- what the lines so far say
 pub record Progress : Type 0 where
@@ -36,6 +36,7 @@ some_if is_allowed next = if is_allowed then Some next else None
 
 -- ---- rising lists
 
+-- the last item of a list; None if the list is empty
 abbrev pub last : {A : Type 0} → List A → Option A
 last xs = slice_get xs (length xs - 1)
 
@@ -87,11 +88,13 @@ after_with (Some c) s (Reply x) = after_reply c s x
 after_with (Some c) s (Waiting x) = after_waiting c s x
 after_with (Some c) s (Store k v) = after_store c s k v
 
+-- the state after one more line; None if the line is not allowed at its position
 unfoldable pub after : Progress → BaseLine → Option Progress
 after s line = after_with s.counts s line
 
 -- ---- the end
 
+-- there was a header, and there are as many reply lines and waiting lines as it says
 abbrev pub is_complete_with : Option Counts → Progress → Bool
 is_complete_with None s = false
 is_complete_with (Some c) s = (s.replies == c.executed) && (length s.waiting == c.waiting)

@@ -17,8 +17,9 @@ pub record IsFirstAmong (done ids : List Id) (position : ℕ) : Type 0 where
   pub among : Contains done id
   pub first : (k : ℕ) (x : Id) → k < position → slice_get ids k ≡ Some x → ¬ Contains done x
 
--- the line is the first one of an instance that is ready
+-- the line is that of the first instance that is ready and so cannot wait
 pub record IsFirstReady (p : StateParts) (line : ℕ) : Type 0 where
+  -- its position in the list of those that wait
   pub number : ℕ
   pub ready : Instance
   pub there : slice_get p.waiting number ≡ Some ready

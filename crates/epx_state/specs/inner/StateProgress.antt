@@ -25,6 +25,7 @@ pub record StateProgress : Type 0 where
 abbrev pub before_lines : StateProgress
 before_lines = record { counts = None; runs = []; waiting = []; stored = [] }
 
+-- the runs, the instances that wait and the pairs so far, without the counts
 abbrev pub parts_of : StateProgress → StateParts
 parts_of s = record { runs = s.runs; waiting = s.waiting; stored = s.stored }
 
@@ -49,6 +50,7 @@ after_pair s p = if is_after_last key_cmp (option_map (λ q. q.0) (last s.stored
 
 -- ---- the state after a line, if it is allowed at its position
 
+-- the first line: it says the counts
 abbrev pub after_counts : StateProgress → List ℕ → Option StateProgress
 after_counts s bytes = option_map (λ c. record s { counts = Some c }) (counts_of_line bytes)
 
@@ -62,10 +64,12 @@ after_part c s bytes =
     (if nat_lt (length s.stored) c.stored
     then option_and_then (after_pair s) (pair_of_line bytes) else None))
 
+-- a line once these counts are known, or the first line as long as none are
 abbrev pub past_with : Option StateCounts → StateProgress → List ℕ → Option StateProgress
 past_with None s bytes = after_counts s bytes
 past_with (Some c) s bytes = after_part c s bytes
 
+-- one more line after those that led to the state
 unfoldable pub past_line : StateProgress → List ℕ → Option StateProgress
 past_line s bytes = past_with s.counts s bytes
 
@@ -83,6 +87,7 @@ pub record IsReadTo (lines next : List (List ℕ)) (number : ℕ) (s : StateProg
 
 -- ---- the end
 
+-- there are so many runs, instances and pairs as are counted; without counts some are missing
 abbrev pub is_whole_with : Option StateCounts → StateProgress → Bool
 is_whole_with None s = false
 is_whole_with (Some c) s =

@@ -58,7 +58,7 @@ IsTextOf (Replay ids) = λ m text. text ≡ replay_text m ids.items
 IsTextOf (Verify said) = λ m. IsSaidVerdict m said.replies.items said.store
 IsTextOf (Linear history) = λ m. IsLinearText m history
 
--- it finds something
+-- the text that answers the question finds something, as `FindsIn` says it of tasks
 abbrev pub FindsOf : MapQuestion → List Instance → List ℕ → Type 0
 FindsOf Report m text = SomeWaits m
 FindsOf (Resume base) m text = SomeWaits (remaining base.done m)
@@ -73,7 +73,7 @@ FindsOf (Verify said) m text = text ≢ lawful_line
 FindsOf (Linear history) m text = text ≢ linear_line
 FindsOf _ m text = ⊥
 
--- the text, and whether it finds something
+-- the text that answers the question, and whether it finds something
 abbrev pub IsFindingOf : MapQuestion → Bool → List Instance → List ℕ → Type 0
 IsFindingOf question found m text =
     IsTextOf question m text × ((found ≡ true) ↔ FindsOf question m text)

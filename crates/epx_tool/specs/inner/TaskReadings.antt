@@ -24,11 +24,13 @@ use Rattle.epx_merge.specs.SourceReadings.{EndsMaking}
 -- how reading logs and then an extra input ends: with both, or with a fault
 pub record EndsReadingBoth {I S : Type 0} (E : SourceModel I) (D : SourceModel S) (first last : I)
     (old new : List S) (result : Result (List ℕ × List (List ℕ)) Fault) : Type 0 where
+  -- both are within the limits, and are the bytes that the sources had and delivered
   pub text : IfOk result (λ v. (before : List ℕ) → E.remaining first ≡ Some before → v.0 ≡ before)
   pub bytes : IfOk result (λ v. (logs : List (List ℕ)) → AreBytesOf D old logs → v.1 ≡ logs)
   pub short : IfOk result (λ v. IsShort v.0)
   pub fit : IfOk result (λ v. FitLimits v.1)
   pub delivered : IfOk result (λ v. DeliversBoth E D first last old new v.0 v.1)
+  -- the fault is one of reading
   pub refusal : IfErr result (λ fault. (before : List ℕ) (logs : List (List ℕ))
       → E.remaining first ≡ Some before → AreBytesOf D old logs
       → IsReadingRefusalWithInput before logs fault)

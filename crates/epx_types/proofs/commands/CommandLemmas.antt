@@ -268,7 +268,7 @@ operate-Alike keys c d agree (Copy k j) within =
           ∙ ap (λ v. contents.get (assign d j v) q) same,
     )
 
--- the same reply, and the same value left under each of the keys
+-- two outcomes have the same reply, and leave the same value under each of the keys
 abbrev pub HasSameOutcome : List (List ℕ) → Outcome → Outcome → Type 0
 HasSameOutcome keys o p = (o.reply ≡ p.reply) × AgreeOn keys o.after p.after
 

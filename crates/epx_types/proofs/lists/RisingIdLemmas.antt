@@ -45,7 +45,7 @@ IsRising-from_AllPairs (x ∷ xs) h = (
   IsRising-from_AllPairs xs (AllPairs-tail Below x xs h),
 )
 
--- the same for instances, by their Ids
+-- if the Ids of some elements rise, each element has a lower Id than all later ones
 pub AllPairs-from_rising_ids : {X : Type 0} (id_of : X → Id) (xs : List X)
     → IsRising (map id_of xs) → AllPairs (λ a b. Below (id_of a) (id_of b)) xs
 AllPairs-from_rising_ids id_of xs h =

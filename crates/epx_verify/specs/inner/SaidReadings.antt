@@ -35,7 +35,7 @@ unfoldable pub after_said : SaidSoFar → SaidLine → Option SaidSoFar
 after_said s (Replied x r) = after_replied s x r
 after_said s (Stored k v) = after_stored s k v
 
--- the same by the bytes of the line
+-- the state after the line with these bytes, if the line is allowed at its position
 abbrev pub after_said_line : SaidSoFar → List ℕ → Option SaidSoFar
 after_said_line s bytes = option_and_then (after_said s) (said_line_of bytes)
 

@@ -13,29 +13,36 @@ use Rattle.epx_types.proofs.lists.ComparisonLemmas.{id_cmp_total, id_cmp-IsAntis
 use Rattle.epx_types.proofs.commands.EqualityLemmas.{ops_decide}
 use Rattle.epx_versions.specs.SameInstances.{same_id, same_seq, same_deps, same_ops, same_instance}
 
+-- the test of an ordering for equality is true of `Equal` alone
 tied : (r : Ordering) → is_eq r ≡ true → r ≡ Equal
 tied Less h = absurd (cc h)
 tied Equal h = refl
 tied Greater h = absurd (cc h)
 
+-- the test of two Ids is true exactly if they are equal
 pub ids_decide : (x y : Id) → Decides (same_id x y) (x ≡ y)
 ids_decide x y = (
   λ h. id_cmp-IsAntisymmetric x y (tied (id_cmp x y) h),
   λ e. ap (λ z. is_eq (id_cmp x z)) (sym e) ∙ ap is_eq (tied_itself id_cmp_total x),
 )
 
+-- the test of two instances' dependencies is true exactly if they are equal
 pub deps_decide : (d e : Instance) → Decides (same_deps d e) (d.deps ≡ e.deps)
 deps_decide d e = pointwise_decides ids_decide d.deps e.deps
 
+-- the test of two instances' operations is true exactly if they are equal
 pub commands_decide : (d e : Instance) → Decides (same_ops d e) (d.ops ≡ e.ops)
 commands_decide d e = pointwise_decides ops_decide d.ops e.ops
 
+-- the test of two instances' sequence numbers is true exactly if they are equal
 pub seqs_decide : (d e : Instance) → Decides (same_seq d e) (d.seq ≡ e.seq)
 seqs_decide d e = (λ h. grind (arith, nat_tests), λ h. grind (arith, nat_tests))
 
+-- two tests that are true are true together
 both : {a b : Bool} → a ≡ true → b ≡ true → a && b ≡ true
 both {a} {b} p q = cc
 
+-- two instances of which the test is true are equal
 pub same_by_test : (d e : Instance) → same_instance d e ≡ true → d ≡ e
 same_by_test d e same =
     let first = first_so ((same_id d.id e.id && same_seq d e) && same_deps d e) _ same in
@@ -48,10 +55,12 @@ same_by_test d e same =
     let op = (commands_decide d e).0 ops in
     λ i. record { id = id i; seq = seq i; deps = dep i; ops = op i }
 
+-- the test of an instance with itself is true
 same_itself : (d : Instance) → same_instance d d ≡ true
 same_itself d = both (both (both ((ids_decide d.id d.id).1 refl) ((seqs_decide d d).1 refl))
     ((deps_decide d d).1 refl)) ((commands_decide d d).1 refl)
 
+-- the test of two instances is true exactly if they are equal
 pub instances_decide : (d e : Instance) → Decides (same_instance d e) (d ≡ e)
 instances_decide d e = (
   same_by_test d e,
@@ -59,8 +68,10 @@ instances_decide d e = (
       subst P same (same_itself d),
 )
 
+-- the test of two instances is an equivalence, which `Eq` asks for
 pub same_instance_equiv : IsEquivalence same_instance
 same_instance_equiv = decided same_instance instances_decide
 
+-- the test of two instances is symmetric and transitive, which `PartialEq` asks for
 pub same_instance_per : IsPartialEquivalence same_instance
 same_instance_per = partial_equiv_from_equiv same_instance_equiv

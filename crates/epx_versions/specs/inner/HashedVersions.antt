@@ -14,11 +14,13 @@ use Rattle.epx_versions.specs.VersionLists.{hash_by}
 abbrev pub IsHashed : Seed → HashedVersion → Type 0
 IsHashed seed v = v.hash ≡ hash_by seed v.version
 
+-- two versions have the same hash and commit the same
 abbrev pub same_hashed : HashedVersion → HashedVersion → Bool
 same_hashed v w = (v.hash == w.hash) && same_instance v.version w.version
 
 -- ---- the test decides whether versions are equal, hashes included
 
+-- two versions of which the test is true are equal, and so are their hashes
 same_by_test : (v w : HashedVersion) → same_hashed v w ≡ true → v ≡ w
 same_by_test v w same =
     let hashes = first_so (v.hash == w.hash) (same_instance v.version w.version) same in
@@ -27,14 +29,17 @@ same_by_test v w same =
     (second_so (v.hash == w.hash) (same_instance v.version w.version) same) in
     λ i. record { version = version i; hash = hash i }
 
+-- two tests that are true are true together
 both : {a b : Bool} → a ≡ true → b ≡ true → a && b ≡ true
 both {a} {b} p q = cc
 
+-- the test of a version with itself is true
 same_itself : (v : HashedVersion) → same_hashed v v ≡ true
 same_itself v =
     let hash : (v.hash == v.hash) ≡ true = grind (arith, nat_tests) in
     both hash ((instances_decide v.version v.version).1 (λ i. v.version))
 
+-- the test of two versions is true exactly if they and their hashes are equal
 pub hashed_decide : (v w : HashedVersion) → Decides (same_hashed v w) (v ≡ w)
 hashed_decide v w = (
   same_by_test v w,
@@ -42,8 +47,10 @@ hashed_decide v w = (
       subst P same (same_itself v),
 )
 
+-- the test of two versions is an equivalence, which `Eq` asks for
 pub same_hashed_equiv : IsEquivalence same_hashed
 same_hashed_equiv = decided same_hashed hashed_decide
 
+-- the test of two versions is symmetric and transitive, which `PartialEq` asks for
 pub same_hashed_per : IsPartialEquivalence same_hashed
 same_hashed_per = partial_equiv_from_equiv same_hashed_equiv

@@ -1,11 +1,8 @@
 use Rattle.std.proofs.Common.{◌≡◌, ◌∙◌, ℕ, ◌<◌, ◌==◌, ◌&&◌, true, not, get_or, length, arith, sym}
-use Rattle.epx_types.proofs.Common.{nat_tests}
+use Rattle.std.proofs.lemmas.Bool.{eq-eqb}
 use Rattle.epx_types.specs.declared.id.Id.{Id}
 use Rattle.epx_compare.proofs.GapLemmas.{goes_on_here, marked_here}
 use Rattle.epx_compare.proofs.gaps.goes_on_at.Goals as goal
-
-nat_eq-true : (m n : ℕ) → m ≡ n → (m == n) ≡ true
-nat_eq-true m n e = grind (arith, nat_tests)
 
 pub returns-then-ids-index : goal.returns-then-ids-index
 returns-then-ids-index c has marking =
@@ -15,6 +12,6 @@ returns-then-ids-index c has marking =
     let within : n < length ids = omega arith in
     let marked = marked_here has ids n zero within c.args.log c.args.marks.now marking in
     let same : ((get_or ids n zero).replica == c.args.replica) ≡ true =
-    nat_eq-true (get_or ids n zero).replica c.args.replica c.if-ids-index.true in
+    eq-eqb (get_or ids n zero).replica c.args.replica c.if-ids-index.true in
     sym (goes_on_here has ids n zero within c.args.replica
     ∙ (λ i. same i && not ((marked ∙ sym c.contains.ensures) i)))

@@ -2,9 +2,9 @@ use Rattle.std.proofs.Common.{◌≡◌, true, codes, ◌∷◌, ◌++◌, arith
 use Rattle.json.specs.Token.{Token}
 use Rattle.json.specs.Reads.{token_of}
 use Rattle.serde_json.specs.Data.{string}
-use Rattle.epx_lines.specs.Tokens.{BeginsWithAll}
-use Rattle.epx_lines.proofs.TokenValueLemmas.{BeginsWith-deeper, BeginsWithAll-deeper}
-use Rattle.epx_lines.proofs.TokenValueLemmas.{BeginsWithAll-append, ParsesAllTo-array}
+use Rattle.epx_lines.specs.Tokens.{ReadsValues}
+use Rattle.epx_lines.proofs.TokenValueLemmas.{ReadsValue-deeper, ReadsValues-deeper}
+use Rattle.epx_lines.proofs.TokenValueLemmas.{ReadsValues-append, ParsesAllTo-array}
 use Rattle.epx_linear.specs.HistoryLines.{call_from_list, call_from, is_up_to}
 use Rattle.epx_linear.proofs.CallTokenLemmas.{HasReturned, HasReturned-unless, call_from_list-said}
 use Rattle.epx_linear.proofs.call_tokens.take_call.Goals as goal
@@ -16,22 +16,22 @@ returns c =
     grind arith in
     let is : c.args.reader.now ≡ Token.begin_array ∷ c.next.new.self = grind (arith, first) in
     let named : c.in_ok-take_text.field-0.now ≡ codes "call" = search rules in
-    let name = BeginsWith-deeper 0 1 c.next.new.self (string (codes "call")) c.take_text.new.reader
+    let name = ReadsValue-deeper 0 1 c.next.new.self (string (codes "call")) c.take_text.new.reader
     (omega arith) (rw named at c.in_ok-take_text.ensures) in
     let x = c.in_ok-id.ensures in
     let t = c.in_ok-invoked.ensures in
     let u = c.in_ok-returned.ensures in
     let a = c.in_ok-answer.ensures in
     let es = a.1.0 in
-    let times : BeginsWithAll 1 c.take_id_parts.new.reader (t.0 ∷ u.0 ∷ es) a.0 = (
+    let times : ReadsValues 1 c.take_id_parts.new.reader (t.0 ∷ u.0 ∷ es) a.0 = (
       _,
-      BeginsWith-deeper 0 1 _ t.0 _ (omega arith) t.1,
-      (_, BeginsWith-deeper 0 1 _ u.0 _ (omega arith) u.1, a.1.1),
+      ReadsValue-deeper 0 1 _ t.0 _ (omega arith) t.1,
+      (_, ReadsValue-deeper 0 1 _ u.0 _ (omega arith) u.1, a.1.1),
     ) in
     let ds = x.0 ++ t.0 ∷ u.0 ∷ es in
-    let all = BeginsWithAll-append 1 c.take_text.new.reader x.0 (t.0 ∷ u.0 ∷ es)
+    let all = ReadsValues-append 1 c.take_text.new.reader x.0 (t.0 ∷ u.0 ∷ es)
     c.take_id_parts.new.reader a.0
-    (BeginsWithAll-deeper 0 1 _ x.0 _ (omega arith) x.1) times in
+    (ReadsValues-deeper 0 1 _ x.0 _ (omega arith) x.1) times in
     let up_to : is_up_to c.in_ok-invoked.invoked c.in_ok-returned.returned ≡ true = search rules in
     let fits : HasReturned c.in_ok-returned.returned c.in_ok-answer.answer =
     search (rules, HasReturned-unless) in

@@ -2,11 +2,11 @@ use Rattle.std.proofs.Common.{◌+◌, ◌++◌, drop, option_map, sym, ap, ◌�
 use Rattle.serde_json.specs.View.{view}
 use Rattle.epx_lines.specs.Elements.{every}
 use Rattle.epx_lines.specs.OperationList.{op_of}
-use Rattle.epx_lines.proofs.ElementLemmas.{ops_of_many, ops_begin, read_one_more}
+use Rattle.epx_lines.proofs.ElementLemmas.{ops_of-too_many, ops_begin, read_one_more}
 use Rattle.epx_lines.proofs.ops.read_ops.Goals as goal
 
 pub returns-then-len-gt-MAX_OPS : goal.returns-then-len-gt-MAX_OPS
-returns-then-len-gt-MAX_OPS c = ops_of_many _ _ c.in-Some.ensures (omega arith)
+returns-then-len-gt-MAX_OPS c = ops_of-too_many _ _ c.in-Some.ensures (omega arith)
 
 pub loop-op-init : goal.loop-op-init
 loop-op-init c = ops_begin _ c.in-Some.written.now.items _ _ c.in-Some.ensures (omega arith)

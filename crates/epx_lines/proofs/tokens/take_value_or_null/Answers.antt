@@ -4,7 +4,7 @@ use Rattle.json.specs.Reads.{token_of}
 use Rattle.serde_json.specs.Data.{null}
 use Rattle.epx_lines.specs.OperationList.{value_or_null}
 use Rattle.epx_lines.proofs.OperationValueLemmas.{value_or_null-signed}
-use Rattle.epx_lines.proofs.TokenValueLemmas.{BeginsWith-null, ParsesTo-signed}
+use Rattle.epx_lines.proofs.TokenValueLemmas.{ReadsValue-null, ParsesTo-signed}
 use Rattle.epx_lines.proofs.tokens.take_value_or_null.Goals as goal
 
 pub returns-in_ok-read_signed-in-Number : goal.returns-in_ok-read_signed-in-Number
@@ -25,4 +25,4 @@ returns-in-Null c =
     let first : c.args.reader.now ≡ token_of c.in_ok-text.field-0 ∷ c.next.new.self =
     grind arith in
     let is : c.args.reader.now ≡ Token.null ∷ c.next.new.self = grind (arith, first) in
-    rw is (null, BeginsWith-null c.next.new.self, refl)
+    rw is (null, ReadsValue-null c.next.new.self, refl)

@@ -8,7 +8,7 @@ use Rattle.epx_types.proofs.Common.{ranked_ids, IfOk-weaker, length-map}
 use Rattle.epx_neighbours.specs.declared.uncovered_row.UncoveredRow.{UncoveredRow}
 use Rattle.epx_neighbours.specs.declared.neighbours.Neighbours.{Neighbours}
 use Rattle.epx_neighbours.specs.inner.KeyTouches.{AreTouches}
-use Rattle.epx_neighbours.specs.inner.UncoveredRows.{AreRows, AreOfKeys}
+use Rattle.epx_neighbours.specs.inner.UncoveredRows.{AreRows, HavePositionsWithin}
 use Rattle.epx_neighbours.proofs.TouchLemmas.{keys_rise}
 use Rattle.epx_neighbours.proofs.UncoveredPairLemmas.{all_within, all_pairs_within}
 use Rattle.epx_neighbours.proofs.UncoveredPairLemmas.{all_rows_within, all_rows_listed}
@@ -41,7 +41,7 @@ rows_of-requires-clause-within c =
     let keys = map (λ k. k.now) c.args.keys.now in
     let are = subst (AreTouches keys commands) (sym c.deref.ensures.value)
     c.in_ok-touches.ensures in
-    subst₂ (λ (ids : List Id) (found : List Neighbours). AreOfKeys (length ids) found)
+    subst₂ (λ (ids : List Id) (found : List Neighbours). HavePositionsWithin (length ids) found)
     (sym c.ids.ensures) (sym c.deref-4.ensures.value)
     (all_within m order c.requires.order commands keys c.deref.result.now
     c.in_ok-found.found.items c.requires.commands c.requires.keys are c.in_ok-found.ensures)

@@ -35,8 +35,8 @@ pub is_committed-requires : goal.is_committed-requires
 is_committed-requires c =
     slice_get_within c.args.graph.now.ids c.in-Some.node c.args.id c.in-Some.ensures
 
-pub needing-requires-clause-node : goal.needing-requires-clause-node
-needing-requires-clause-node c =
+pub find_needing-requires-clause-node : goal.find_needing-requires-clause-node
+find_needing-requires-clause-node c =
     slice_get_within c.args.graph.now.ids c.in-Some.node c.args.id c.in-Some.ensures
 
 pub returns-then-not-is_committed : goal.returns-then-not-is_committed
@@ -53,7 +53,7 @@ returns-then-not-is_committed c =
     → IsWhyText m x text.items)
     (λ text is m of order. missing_text m g of x k c.in-Some.ensures past needing
     (subst (AreNeeding m x) (sym c.deref.ensures.value)
-    (c.in_ok-needing.ensures m x of c.in-Some.ensures)) text.items is)
+    (c.in_ok-find_needing.ensures m x of c.in-Some.ensures)) text.items is)
     c.missing_text-then-not-is_committed.ensures
 
 pub returns-in-Some-first : goal.returns-in-Some-first

@@ -1,6 +1,7 @@
 use Rattle.std.proofs.Common.{◌≡◌, ◌∙◌, ◌≢◌, ◌==◌, ◌||◌, Bool, true, false, inl, inr, sym, ap}
 use Rattle.std.proofs.Common.{arith}
-use Rattle.epx_types.proofs.Common.{bit_at, w64, cases_Bool, nat_tests}
+use Rattle.epx_types.proofs.Common.{bit_at, w64, cases_Bool, eqb-true}
+use Rattle.std.proofs.lemmas.Bool.{eqb-false}
 use Rattle.std.proofs.lemmas.Nat.Bits.{bit_at_set_same, bit_at_set_other}
 use Rattle.epx_compare.proofs.log_set.LogSet.insert.Goals as goal
 
@@ -18,12 +19,12 @@ returns c l =
     let log = c.args.log in
     elim (cases_Bool (log == l)) [
       | inl same ↦
-          let is : log ≡ l = grind (arith, nat_tests) in
+          let is = eqb-true log l same in
           let bit = bit_at_set_same w64 n log (omega arith) in
           either _ (bit_at n l == 1) (log == l)
           (ap (λ b. b == 1) (ap (bit_at _) (sym is) ∙ bit)) same
       | inr other ↦
-          let apart : l ≢ log = grind (arith, nat_tests) in
+          let apart : l ≢ log = λ e. eqb-false log l other (sym e) in
           neither _ (bit_at n l == 1) (log == l)
           (ap (λ b. b == 1) (bit_at_set_other w64 n log (omega arith) l apart)) other
     ]

@@ -6,8 +6,8 @@ use Rattle.epx_store.proofs.store.Store.pairs_by.Goals as goal
 
 pub returns : goal.returns
 returns g c =
-    IfOk-weaker c.in_key_order.result _ _ (λ v ordered.
+    IfOk-weaker c.sorted_by_key.result _ _ (λ v ordered.
     ordered c.self.inside.shards c.self.invariant
     (entries-placed (λ p. p.0.now) (λ p. p.1) (λ l. l.items) c.in_ok-lists.lists
     c.self.inside.shards _ c.in_ok-lists.ensures c.in_ok-pairs.ensures.all)
-    ∙ ap contents.entries c.self.view_is) c.in_key_order.ensures
+    ∙ ap contents.entries c.self.view_is) c.sorted_by_key.ensures
