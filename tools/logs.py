@@ -165,6 +165,16 @@ def write(texts):
             new.unlink()
 
 
+def write_texts(folder, texts):
+    """Writes logs of these texts into a new folder, and returns their paths."""
+    folder.mkdir(parents=True)
+    paths = []
+    for number, text in enumerate(texts):
+        paths.append(folder / f"{number}.jsonl")
+        paths[-1].write_text(text, encoding="utf-8")
+    return paths
+
+
 def refuse_places(logs, folder):
     """Refuses words by which a log would be lost."""
     if folder is None:

@@ -1,11 +1,10 @@
-"""What commands over JSON values do, one after another, and what follows of it for the answers of
+"""What commands over JSON values do, by the plain model, and what follows of it for the answers of
 epx. A module of the test of contrib/texts, and no tool itself."""
 
 import decimal
 import json
 
-from logs import accesses
-from trials import conflict
+from fuzzing.model import CommittedMap, Instance, command_on, conflict, touched_keys, written_keys
 
 
 def plain(value):
@@ -28,34 +27,39 @@ def rows_of(text):
     return [plain(parsed(line)) for line in text.decode().splitlines()]
 
 
+def operations(texts):
+    """Operations as the model does them, over values that can be compared."""
+    hold = lambda value: None if value is None else plain(value)
+    return [[name, key, *(more if name == "copy" else map(hold, more))]
+            for name, key, *more in map(parsed, texts)]  # fmt: skip
+
+
+def row(words, values=()):
+    """A row of words and numbers, and then of values that a store gives."""
+    return "list", (*map(plain, words), *(value or plain(None) for value in values))
+
+
+def reply_row(at, reply):
+    """The row of a reply that the model gives."""
+    kind, end = reply
+    if kind == "abort":
+        return row(["reply", *at, kind, end])
+    start, (_, values) = row(["reply", *at, kind]), row([], end)
+    return "list", (*start[1], ("list", values))
+
+
 class Store:
-    """Executes commands over a store of JSON values, one operation after another."""
+    """Executes commands over a store of JSON values, one after another."""
 
     def __init__(self, commands):
         self.store = {}
-        self.ops = {at: list(map(parsed, ops)) for at, (_, _, ops) in commands.items()}
+        self.ops = {at: operations(ops) for at, (_, _, ops) in commands.items()}
 
     def execute(self, at):
-        """The reply of a command as the end of a line, and the store before it."""
-        before, values = dict(self.store), []
-        for place, (name, key, *rest) in enumerate(self.ops[at]):
-            if name == "get":
-                values.append(self.store.get(key))
-            elif name == "put":
-                self.store[key] = rest[0]
-            elif name == "is" and plain(self.store.get(key)) != plain(rest[0]):
-                self.store = before
-                return ["abort", decimal.Decimal(place)], before
-            elif name == "del":
-                self.store.pop(key, None)
-            elif name == "copy":
-                self.set(rest[0], self.store.get(key))
-        return ["ok", values], before
-
-    def set(self, key, value):
-        self.store.pop(key, None)
-        if value is not None:
-            self.store[key] = value
+        """The reply of a command, and the store before it."""
+        before = self.store
+        reply, self.store = command_on(self.ops[at], before)
+        return reply, before
 
 
 def places_in(text, kind):
@@ -68,41 +72,30 @@ def wanted_report(text, kind, store, traces):
     lines, touched = [plain(parsed(line)) for line in text.decode().splitlines()], []
     others = [it for it in lines if it[1][0][1] not in (kind, "store")]
     for at in places_in(text, kind):
-        end, before = store.execute(at)
-        touched.append(plain(["reply", *map(decimal.Decimal, at), *end]))
-        for key, writes in accesses(store.ops[at]).items():
-            is_write = writes and end[0] == "ok"
+        reply, before = store.execute(at)
+        touched.append(reply_row(at, reply))
+        for key in touched_keys(store.ops[at]):
+            is_write = reply[0] == "ok" and key in written_keys(store.ops[at])
             values = [before.get(key)] + [store.store.get(key)] * is_write
-            row = ["write" if is_write else "read", *map(decimal.Decimal, at), *values]
-            traces[key].append(plain(row))
+            traces[key].append(row(["write" if is_write else "read", *at], values))
     at = 1 + sum(it[1][0][1] == "done" for it in others)
-    rows = sorted(store.store.items(), key=lambda row: row[0].encode())
-    return [*others[:at], *touched, *others[at:], *(plain(["store", *row]) for row in rows)]
+    rows = sorted(store.store.items(), key=lambda held: held[0].encode())
+    return [*others[:at], *touched, *others[at:], *(row(["store", key], [it]) for key, it in rows)]
 
 
 def wanted_levels(order, commands):
     """The level of each command, by a plain search of pairs that conflict."""
-    keys, found = {at: accesses(map(parsed, commands[at][2])) for at in order}, {}
+    ops, found = {at: operations(commands[at][2]) for at in order}, {}
     for at in order:
-        befores = [found[it] + 1 for it in found if conflict(keys[at], keys[it])]
-        found[at] = max([0, *befores])
-    return [plain(["level", *map(decimal.Decimal, (*at, level))]) for at, level in found.items()]
+        befores = [level + 1 for it, level in found.items() if conflict(ops[at], ops[it])]
+        found[at] = max(befores, default=0)
+    return [row(["level", *at, level]) for at, level in found.items()]
 
 
-def wanted_audit(order, commands):
+def wanted_audit(commands):
     """The least two ready commands that conflict and are not related."""
-    keys = {at: accesses(map(parsed, commands[at][2])) for at in order}
-    reached = {}
-    for at in order:
-        reached[at], stack = set(), [at]
-        while stack:
-            for other in commands[stack.pop()][1]:
-                if other in commands and other not in reached[at]:
-                    reached[at].add(other)
-                    stack.append(other)
-    for at in sorted(order):
-        for other in sorted(order):
-            is_related = other in reached[at] or at in reached[other]
-            if at < other and conflict(keys[at], keys[other]) and not is_related:
-                return json.dumps(["uncovered", *at, *other], separators=(",", ":")) + "\n"
-    return '["covered"]\n'
+    pairs = CommittedMap(
+        Instance(at, seq, set(deps), operations(ops)) for at, (seq, deps, ops) in commands.items()
+    ).uncovered_pairs()
+    found = ["uncovered", *pairs[0][0], *pairs[0][1]] if pairs else ["covered"]
+    return json.dumps(found, separators=(",", ":")) + "\n"

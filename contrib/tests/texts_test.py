@@ -16,10 +16,11 @@ import texts_back
 import texts_refusals
 from command_line import TOP, counted
 from fuzzing.clusters import cluster
+from fuzzing.model import conflict
 from logs import accesses
 from texts_oracle import Store, parsed, places_in, plain, rows_of, wanted_audit, wanted_levels
 from texts_oracle import wanted_report
-from trials import conflict, write_logs
+from trials import write_logs
 
 
 def load_tool():
@@ -83,9 +84,9 @@ def commands_of(rng, keys, value, most, longest, is_covered):
         deps = set(rng.sample(places, min(len(places), rng.choice((0, 1, 1, 2)))))
         deps |= {(rng.randrange(4), rng.randrange(12)) for _ in range(rng.random() < 0.1)}
         if is_covered:
-            own = accesses(map(json.loads, ops))
+            own = list(map(json.loads, ops))
             for other, (_, _, others) in commands.items():
-                if conflict(own, accesses(map(json.loads, others))):
+                if conflict(own, list(map(json.loads, others))):
                     deps.add(other)
         commands[place] = rng.randint(0, 5), sorted(deps), ops
     return commands
@@ -338,7 +339,7 @@ def texts_hold(count, program, seed, folder):
     resumed = sides[0].ask(lambda side: ["resume", side.base, *side.paths])
     wanted = wanted_report(resumed, "reply", store, traces)
     count.compare("resume", seed, rows_of(back("resume", sides[1].base, *paths)), wanted)
-    compare_audit(count, seed, folder / "out", sides[1], wanted_audit(order, commands))
+    compare_audit(count, seed, folder / "out", sides[1], wanted_audit(commands))
 
 
 def compare_audit(count, seed, folder, side, wanted):

@@ -3,6 +3,7 @@
 import subprocess
 
 from command_line import TOP
+from logs import write_texts
 
 # Words that expand and texts both refuse, each with the status and what is said.
 WORDS_OF_BOTH = (
@@ -22,18 +23,9 @@ def raised(kind, call):
     raise AssertionError(f"no {kind.__name__} was raised")
 
 
-def conflict(own, other):
-    """Whether commands conflict that use these keys, each with whether it is written."""
-    return any(key in other and (writes or other[key]) for key, writes in own.items())
-
-
 def write_logs(folder, logs):
     """Writes logs of these lines, and returns their paths."""
-    folder.mkdir(parents=True)
-    paths = [folder / f"{number}.jsonl" for number in range(len(logs))]
-    for path, lines in zip(paths, logs):
-        path.write_text("".join([line + "\n" for line in lines]))
-    return paths
+    return write_texts(folder, ("".join(line + "\n" for line in lines) for lines in logs))
 
 
 def is_refused(tool, words, status, why, folder, text=b"", lines=1):

@@ -2,7 +2,7 @@
 
     tools/docs chart > docs/times.svg
 
-The rows are those of the first table of the page that `tools/bench times` printed. `tools/check`
+The rows are those of the first table of the page. `tools/check`
 compares the picture with the page.
 """
 
@@ -11,17 +11,15 @@ import sys
 
 from command_line import TOP, Words
 
-ROW = re.compile(r"\| ([\w-]+) \| run \| [\d.]+ \| (\d+) \| ([\d.]+) \|")
+ROW = re.compile(r"\| ([\w-]+) \| [^|]+ \| [\d.]+ \| ([\d.]+) \| ([\d.]+) \|")
 COLOURS = {"1": "#7a9cc6", "4": "#2f5d8a"}
 LEFT, HEIGHT, GAP, LONGEST = 100, 12, 8, 560
 
 
 def rows(page):
     """The rows of the page: for each shape of logs, the seconds by the number of workers."""
-    times = {}
-    for shape, workers, seconds in ROW.findall(page):
-        times.setdefault(shape, {})[workers] = float(seconds)
-    return times
+    found = ROW.findall(page)
+    return {shape: {"1": float(one), "4": float(four)} for shape, one, four in found}
 
 
 def text(x, y, words, anchor="start"):

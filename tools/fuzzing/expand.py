@@ -28,6 +28,7 @@ from fuzzing.clusters import cluster, operation, order_of_replica, with_pairs
 from fuzzing.lines import committed, name_of
 from fuzzing.model import execute, text_of
 from fuzzing.streams import Report
+from logs import write_texts
 from pairs import KINDS as MEANINGS
 from pairs import All
 
@@ -41,11 +42,7 @@ def is_all(word):
 
 def write_logs(folder, logs):
     """Writes logs of these rows, and returns their paths."""
-    folder.mkdir(parents=True)
-    paths = [folder / f"{number}.jsonl" for number in range(len(logs))]
-    for path, lines in zip(paths, logs):
-        path.write_text(text_of(lines))
-    return paths
+    return write_texts(folder, map(text_of, logs))
 
 
 def call_tool(case, tool, *words):
