@@ -10,7 +10,7 @@ def definitions(top):
     found = {}
     for path in sorted(top.glob("crates/*/specs/**/*.antt")):
         names = re.findall(form, path.read_text(), re.M)
-        if path.stem not in ("Lib", "inner"):
+        if path.stem not in ("Lib", "between", "inner"):
             found[path.relative_to(top).parts[1], path.stem] = set(names)
     return found
 
@@ -37,7 +37,7 @@ def used_definitions(top):
         exported = set(re.findall(r"\w+", " ".join(uses)))
         clauses = public_clauses(text, exported)
         words = {word for clause in clauses for word in re.findall(r"\w+", clause)}
-        uses = r"^\s*ghost use Rattle\.(\w+)\.specs\.(?:inner\.)?(\w+)\.\{([^}]*)\}"
+        uses = r"^\s*ghost use Rattle\.(\w+)\.specs\.(?:between\.|inner\.)?(\w+)\.\{([^}]*)\}"
         for crate, file, names in re.findall(uses, text, re.M):
             for name in words & set(re.findall(r"\w+", names)) & known.get((crate, file), set()):
                 yield crate, file, name

@@ -30,7 +30,7 @@ from documents.help_of_epx import (
 )
 
 # The day of what this script says by itself.
-DAY = "2026-11-28"
+DAY = "2026-12-01"
 # What a status means; those of faults have the numbers of their faults behind this.
 STATUSES = {
     "0": "an answer; or help, or the version",

@@ -68,7 +68,7 @@ class Page:
 
     def line(self, line):
         """A line of the page as it has to be."""
-        if line.startswith("## "):
+        if re.match("###? ", line):
             self.enter(line)
         if not line.startswith("|"):
             self.is_table = False

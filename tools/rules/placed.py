@@ -1,30 +1,38 @@
-"""A file is in specs/inner/ exactly where no public contract and no file of specs/ outside uses
-it."""
+"""Each file of specs/ is in the folder of its kind: in specs/ itself where a call for users or a
+law rests on it, as tools/trusted finds; else in specs/between/ where a public contract leads to it;
+else in specs/inner/."""
 
 import re
+import subprocess
 
 from definitions import definitions, used_definitions
 
-FLAWS = [("crates/epx_merge/specs/Ranks.antt", "-- used by nothing")]
+FLAWS = [
+    ("crates/epx_merge/specs/Ranks.antt", "-- used by nothing"),
+    ("crates/epx_merge/specs/between/Ranks.antt", "-- used by nothing"),
+]
+
+
+def named_by_contracts(top, paths):
+    """The files that clauses of public functions, or files that these name, import."""
+    form = r"\bRattle\.(\w+)\.specs\.(?:between\.|inner\.)?(\w+)"
+    uses = {key: set(re.findall(form, path.read_text())) for key, path in paths.items()}
+    reached = {(crate, file) for crate, file, _ in used_definitions(top)}
+    while more := {used for key in reached for used in uses.get(key, set())} - reached:
+        reached |= more
+    return reached
 
 
 def find(top):
-    """Files of specs/inner/ that a public contract or a file outside uses, and files outside that
-    neither uses. A file of laws is used by the functions whose contracts it states."""
-    known, inner, uses = definitions(top), set(), {}
-    form = r"\bRattle\.(\w+)\.specs\.(?:inner\.)?(\w+)"
-    for path in sorted(top.glob("crates/*/specs/**/*.antt")):
-        crate = path.relative_to(top).parts[1]
-        if (crate, path.stem) in known:
-            uses[crate, path.stem] = set(re.findall(form, path.read_text()))
-            inner |= {(crate, path.stem)} if path.parent.name == "inner" else set()
-    reached = {(crate, file) for crate, file, _ in used_definitions(top)}
-    reached |= {key for key in known if key[1].endswith("Laws")}
-    while more := {used for key in reached for used in uses.get(key, set())} - reached:
-        reached |= more
-    for crate, file in sorted(known):
-        is_inner, is_reached = (crate, file) in inner, (crate, file) in reached
-        folder = top / "crates" / crate / "specs" / ("inner" if is_inner else "") / f"{file}.antt"
-        if is_inner == is_reached:
-            why = "used by a public contract" if is_inner else "private: inner/ is its place"
-            yield folder, 1, why
+    """Files of specs/ in the folder of another kind."""
+    known, words = definitions(top), [top / "tools/trusted", "--files"]
+    found = subprocess.run(words, capture_output=True, text=True, check=True).stdout.split()
+    paths = {(path.relative_to(top).parts[1], path.stem): path
+             for path in sorted(top.glob("crates/*/specs/**/*.antt"))}  # fmt: skip
+    named = named_by_contracts(top, paths)
+    for key in sorted(known):
+        path = paths[key]
+        is_believed = str(path.relative_to(top / "crates")) in found
+        kind = "specs" if is_believed else "between" if key in named else "inner"
+        if path.parent.name != kind:
+            yield path, 1, f"its place is the folder {kind}/"

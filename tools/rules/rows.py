@@ -17,7 +17,7 @@ def find(top):
     page = top / "docs/MODEL.md"
     known, crates = definitions(top), []
     for number, line in enumerate(page.read_text().split("\n"), 1):
-        if line.startswith("## "):
+        if re.match("###? ", line):
             crates = re.findall(r"crates/(\w+)/specs", line)
         row = re.match(r"\| ((?:`\w+`: .*?; )*`\w+`: [^|]*) \|", line)
         for part in row[1].split("; ") if row and crates else []:

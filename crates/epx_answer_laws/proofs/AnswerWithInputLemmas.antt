@@ -5,10 +5,10 @@ use Rattle.epx_types.proofs.Common.{cases_lt, IsRising, Instance, ids_of, max_lo
 use Rattle.epx_types.specs.declared.fault.Fault.{Fault}
 use Rattle.epx_types.specs.declared.fault.Fault.TheVariants.{TooManyLogs, LogTooLong, BadBase}
 use Rattle.epx_types.specs.declared.fault.Fault.TheVariants.{Memory}
-use Rattle.epx_merge.proofs.ExistenceLemmas.{answered_always, long_cases}
+use Rattle.epx_merge.proofs.ExistenceLemmas.{IsAccepted-or_refused, NoneTooLong-cases}
 use Rattle.epx_tool.specs.WithInput.{IsShort, AnswersWithInput}
-use Rattle.epx_tool.proofs.LogsWithInputLemmas.{last_too_long, first_too_long_with_input}
-use Rattle.epx_tool.proofs.LogsWithInputLemmas.{refusal_of_logs}
+use Rattle.epx_tool.proofs.LogsWithInputLemmas.{IsFirstTooLong-input, IsFirstTooLong-with_input}
+use Rattle.epx_tool.proofs.LogsWithInputLemmas.{IsRefusalWithInput-of_logs}
 
 module _ (IsBad : List ℕ → ℕ → Type 0) (Is : List ℕ → List Instance → List ℕ → Type 0)
     (input : List ℕ)
@@ -19,16 +19,16 @@ module _ (IsBad : List ℕ → ℕ → Type 0) (Is : List ℕ → List Instance 
   refusal_if_long long =
       elim (cases_lt max_logs (length logs)) [
         | inl many ↦ (Err TooManyLogs, (λ same. cc same), many)
-        | inr few ↦ elim (long_cases logs) [
+        | inr few ↦ elim (NoneTooLong-cases logs) [
           | inl none ↦ (
             Err (LogTooLong (length logs)),
             (λ same. cc same),
-            (omega (arith, few), last_too_long logs input none long),
+            (omega (arith, few), IsFirstTooLong-input logs input none long),
           )
           | inr first ↦ (
             Err (LogTooLong first.0),
             (λ same. cc same),
-            (omega (arith, few), first_too_long_with_input logs input first.0 first.1),
+            (omega (arith, few), IsFirstTooLong-with_input logs input first.0 first.1),
           )
         ]
       ]
@@ -36,7 +36,7 @@ module _ (IsBad : List ℕ → ℕ → Type 0) (Is : List ℕ → List Instance 
   answer_if_short : IsShort input → (a : Result (List ℕ) Fault) × (a ≢ Err Memory)
       × AnswersWithInput IsBad Is input logs a
   answer_if_short short =
-      elim (answered_always logs) [
+      elim (IsAccepted-or_refused logs) [
         | inl accepted ↦ elim text_of_map [
           | inl each ↦ let text = each accepted.0 accepted.1.committed.rising in
               (Ok text.0, (λ same. cc same), (short, (accepted.0, accepted.1, text.1)))
@@ -49,13 +49,13 @@ module _ (IsBad : List ℕ → ℕ → Type 0) (Is : List ℕ → List Instance 
         | inr refused ↦ (
           Err refused.0,
           (λ same. refused.1 (cc same)),
-          refusal_of_logs logs input IsBad refused.0 short refused.2,
+          IsRefusalWithInput-of_logs logs input IsBad refused.0 short refused.2,
         )
       ]
 
-  pub answer_with_input_exists : (a : Result (List ℕ) Fault) × (a ≢ Err Memory)
+  pub AnswersWithInput-exists : (a : Result (List ℕ) Fault) × (a ≢ Err Memory)
       × AnswersWithInput IsBad Is input logs a
-  answer_with_input_exists =
+  AnswersWithInput-exists =
       elim (cases_lt max_log_bytes (length input)) [
         | inl long ↦ refusal_if_long long
         | inr short ↦ answer_if_short (omega (arith, short))

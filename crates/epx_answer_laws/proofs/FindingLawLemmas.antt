@@ -2,8 +2,8 @@
 -- lawful.
 use Rattle.std.proofs.Common.{◌≡◌, ◌≢◌, ◌↔◌, ℕ, Bool, true, List, subst, inl, inr}
 use Rattle.epx_types.proofs.Common.{Instance, IsCovered}
-use Rattle.epx_audit.proofs.UniquePairLemmas.{uncovered_not_covered}
-use Rattle.epx_merge.proofs.UniquenessLemmas.{accepted_unique}
+use Rattle.epx_audit.proofs.UniquePairLemmas.{IsCovered-not_if_uncovered}
+use Rattle.epx_merge.proofs.UniquenessLemmas.{IsAccepted-is_unique}
 use Rattle.epx_report.specs.ViewLines.{covered_line, lawful_line}
 use Rattle.epx_tool.specs.AuditText.{IsAuditText}
 use Rattle.epx_answer_laws.specs.FindingLaws.{AuditFindsNotCovered, CheckFindsNotLawful}
@@ -27,17 +27,17 @@ covered_line-from_covered : (m : List Instance) (text : List ℕ) → IsAuditTex
     → text ≡ covered_line
 covered_line-from_covered m text (inl a) covered = a.1
 covered_line-from_covered m text (inr a) covered =
-    absurd (uncovered_not_covered m a.0 a.1 a.2.uncovered covered)
+    absurd (IsCovered-not_if_uncovered m a.0 a.1 a.2.uncovered covered)
 
-pub audit_finds_not_covered : AuditFindsNotCovered
-audit_finds_not_covered logs m accepted found text said =
-    let same = accepted_unique logs said.0 m said.1 accepted in
+pub AuditFindsNotCovered-holds : AuditFindsNotCovered
+AuditFindsNotCovered-holds logs m accepted found text said =
+    let same = IsAccepted-is_unique logs said.0 m said.1 accepted in
     found_iff_not_good (IsAuditText m) covered_line (covered-from_text m)
     (covered_line-from_covered m) found text
     (subst (λ (n : List Instance). IsAuditText n text) same said.2.0) said.2.1
 
-pub check_finds_not_lawful : CheckFindsNotLawful
-check_finds_not_lawful = record {
+pub CheckFindsNotLawful-holds : CheckFindsNotLawful
+CheckFindsNotLawful-holds = record {
   order = λ list logs ids m is accepted found text said. found_iff_not_good (IsVerdict m ids)
       lawful_line (lawful-from_verdict m ids) (lawful_line-from_lawful m ids) found text
       (verdict-of_logs IsVerdict list ids is logs m accepted text

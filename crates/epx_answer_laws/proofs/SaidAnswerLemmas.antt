@@ -6,15 +6,15 @@ use Rattle.epx_types.proofs.Common.{Contents, Instance, IsLawfulPrefix, IsRising
 use Rattle.epx_types.proofs.Common.{length-append}
 use Rattle.epx_types.specs.declared.id.Id.{Id}
 use Rattle.epx_types.specs.declared.reply.Reply.{Reply}
-use Rattle.epx_merge.proofs.UniquenessLemmas.{accepted_unique}
-use Rattle.epx_ranking.proofs.PrefixLemmas.{prefix_has_no_fault}
+use Rattle.epx_merge.proofs.UniquenessLemmas.{IsAccepted-is_unique}
+use Rattle.epx_ranking.proofs.PrefixLemmas.{IsPrefixFault-not_lawful}
 use Rattle.epx_report.specs.ReportReadings.{replied_ids}
 use Rattle.epx_report.specs.ViewLines.{lawful_line}
 use Rattle.epx_answer_laws.specs.CheckLaws.{LawfulTextMeansRight}
 use Rattle.epx_tool.specs.CheckAnswers.{IsVerifyText}
 use Rattle.epx_tool.specs.Verdicts.{IsSaidVerdict}
-use Rattle.epx_tool.proofs.VerdictLemmas.{lawful_prefix-from_verdict, prefix_verdict_exists}
-use Rattle.epx_tool.proofs.VerdictLemmas.{prefix_verdict_is_unique}
+use Rattle.epx_tool.proofs.VerdictLemmas.{lawful_prefix-from_verdict, IsPrefixVerdict-exists}
+use Rattle.epx_tool.proofs.VerdictLemmas.{IsPrefixVerdict-is_unique}
 use Rattle.epx_verify.specs.Differences.{differences_text}
 use Rattle.epx_verify.specs.ListExecutions.{replay_text}
 use Rattle.epx_verify.specs.SaidTexts.{IsBadSaid, IsSaid}
@@ -26,13 +26,13 @@ use Rattle.epx_verify.specs.VerifyLaws.{TextSaysOneThing}
 abbrev pub IsReplayOf : List Instance → List Id → List ℕ → Type 0
 IsReplayOf m ids text = text ≡ replay_text m ids
 
-pub replay_exists : (m : List Instance) (ids : List Id) → IsRising (ids_of m)
+pub IsReplayOf-exists : (m : List Instance) (ids : List Id) → IsRising (ids_of m)
     → (text : List ℕ) × IsReplayOf m ids text
-replay_exists m ids rising = (replay_text m ids, refl)
+IsReplayOf-exists m ids rising = (replay_text m ids, refl)
 
-pub replay_is_unique : (m : List Instance) (ids : List Id) (text other : List ℕ)
+pub IsReplayOf-is_unique : (m : List Instance) (ids : List Id) (text other : List ℕ)
     → IsReplayOf m ids text → IsReplayOf m ids other → text ≡ other
-replay_is_unique m ids text other p q = p ∙ sym q
+IsReplayOf-is_unique m ids text other p q = p ∙ sym q
 
 -- ---- verdicts on what a replica said
 
@@ -42,7 +42,7 @@ module _ (m : List Instance) (replies : List (Id × Reply)) (stored : Contents) 
 
   said_verdict_exists : IsRising (ids_of m) → (text : List ℕ) × IsSaidVerdict m replies stored text
   said_verdict_exists rising =
-      let v = prefix_verdict_exists m ids rising in elim v.1 [
+      let v = IsPrefixVerdict-exists m ids rising in elim v.1 [
         | inl good ↦ (lawful_line ++ differences_text m replies stored, inl (good.0, refl))
         | inr bad ↦ (v.0, inr bad)
       ]
@@ -51,20 +51,21 @@ module _ (m : List Instance) (replies : List (Id × Reply)) (stored : Contents) 
       → IsSaidVerdict m replies stored other → text ≡ other
   said_verdict_is_unique text other (inl p) (inl q) = p.1 ∙ sym q.1
   said_verdict_is_unique text other (inl p) (inr q) =
-      absurd (prefix_has_no_fault m ids q.0 q.1 p.0 q.2)
+      absurd (IsPrefixFault-not_lawful m ids q.0 q.1 p.0 q.2)
   said_verdict_is_unique text other (inr p) (inl q) =
-      absurd (prefix_has_no_fault m ids p.0 p.1 q.0 p.2)
+      absurd (IsPrefixFault-not_lawful m ids p.0 p.1 q.0 p.2)
   said_verdict_is_unique text other (inr p) (inr q) =
-      prefix_verdict_is_unique m ids text other (inr p) (inr q)
+      IsPrefixVerdict-is_unique m ids text other (inr p) (inr q)
 
-pub no_bad_said : SaidIsNoBadSaid → (said : List ℕ) (m : List Instance) (text : List ℕ) (line : ℕ)
+pub IsBadSaid-not_if_verified : SaidIsNoBadSaid
+    → (said : List ℕ) (m : List Instance) (text : List ℕ) (line : ℕ)
     → IsVerifyText said m text → ¬ IsBadSaid said line
-no_bad_said good said m text line p = good said p.0 p.1 line p.2
+IsBadSaid-not_if_verified good said m text line p = good said p.0 p.1 line p.2
 
-pub verdict_or_bad_said : SaidOrBadSaid → (said : List ℕ)
+pub IsVerifyText-or_bad_said : SaidOrBadSaid → (said : List ℕ)
     → ((m : List Instance) → IsRising (ids_of m) → (text : List ℕ) × IsVerifyText said m text)
     ⊎ ((line : ℕ) × IsBadSaid said line)
-verdict_or_bad_said read said = elim (read said) [
+IsVerifyText-or_bad_said read said = elim (read said) [
   | inl is ↦ inl (λ m rising. let v = said_verdict_exists m is.0 is.1 rising in
       (v.0, (is.0, is.1, is.2, v.1)))
   | inr bad ↦ inr bad
@@ -81,9 +82,9 @@ module _ (one : TextSaysOneThing) (said : List ℕ) where
       subst (λ (s : Contents). Q replies s) same.1
       (subst (λ (rs : List (Id × Reply)). Q rs p.1) same.0 p.3)
 
-  pub one_verdict_on_said : (m : List Instance) (text other : List ℕ)
+  pub IsVerifyText-is_unique : (m : List Instance) (text other : List ℕ)
       → IsVerifyText said m text → IsVerifyText said m other → text ≡ other
-  one_verdict_on_said m text other p q =
+  IsVerifyText-is_unique m text other p q =
       said_verdict_is_unique m q.0 q.1 text other (verdict_on m q.0 q.1 q.2 text p) q.3
 
 -- ---- that of a lawful list alone
@@ -101,14 +102,14 @@ alone m replies stored (inl good) =
     (good.0, none_after lawful_line (differences_text m replies stored) good.1)
 alone m replies stored (inr bad) =
     let ids = replied_ids replies in
-    absurd (prefix_has_no_fault m ids bad.0 bad.1 (lawful_prefix-from_verdict m ids (inr bad))
+    absurd (IsPrefixFault-not_lawful m ids bad.0 bad.1 (lawful_prefix-from_verdict m ids (inr bad))
     bad.2)
 
-pub lawful_text_means_right : TextSaysOneThing → NoDifferenceIfRight → LawfulTextMeansRight
-lawful_text_means_right one right said logs replies stored m short is accepted = (
+pub LawfulTextMeansRight-holds : TextSaysOneThing → NoDifferenceIfRight → LawfulTextMeansRight
+LawfulTextMeansRight-holds one right said logs replies stored m short is accepted = (
   λ h.
       let text = subst (λ (n : List Instance). IsVerifyText said n lawful_line)
-      (accepted_unique logs h.1.0 m h.1.1 accepted) h.1.2 in
+      (IsAccepted-is_unique logs h.1.0 m h.1.1 accepted) h.1.2 in
       let found = alone m replies stored
       (verdict_on one said m replies stored is lawful_line text) in
       (found.0, (right m replies stored).0 found.1),

@@ -134,9 +134,9 @@ module _ (logs other : List (List ℕ)) (has : HaveLinesOf logs other) where
       Contains-nil q.0 (subst (λ bad. Contains bad q.0) none q.1))
 
   -- they commit all that the others commit
-  pub commit_all : (m n : List Instance) → IsAccepted other m → IsAccepted logs n
+  pub Contains-same_lines : (m n : List Instance) → IsAccepted other m → IsAccepted logs n
       → (e : Instance) → Contains m e → Contains n e
-  commit_all m n accepted more e h =
+  Contains-same_lines m n accepted more e h =
       let p = accepted.committed.given e h in
       let q = instance_of_line p.0 p.1 in
       subst (Contains n) (q.2 ∙ p.2) (more.committed.whole q.0 q.1)
@@ -174,9 +174,9 @@ module _ (logs other : List (List ℕ)) (has : HaveLinesOf logs other)
         subst (Contains m) q.2 (by.whole q.0 q.1);
   }
 
-  pub accepted_alike : FitLimits other → (m : List Instance) → IsAccepted logs m
+  pub IsAccepted-same_lines : FitLimits other → (m : List Instance) → IsAccepted logs m
       → IsAccepted other m
-  accepted_alike fit m accepted = record {
+  IsAccepted-same_lines fit m accepted = record {
     whole = (fit, none_bad logs other has accepted.whole.1);
     small = few accepted.small;
     agree = agree accepted.agree;

@@ -19,9 +19,9 @@ use Rattle.epx_lines.specs.Text.{data_of_value}
 use Rattle.epx_lines.proofs.WrittenPartLemmas.{IsWritableValue-from_range}
 use Rattle.epx_report.specs.ReportLines.{array_of, data_of_number, line_of}
 use Rattle.epx_report.specs.ReportReadings.{FitsNumbers, FitsOptional}
-use Rattle.epx_report.proofs.BaseLemmas.{base_says_one_thing}
-use Rattle.epx_report.proofs.BaseRangeLemmas.{FitsContents, empty_fits}
-use Rattle.epx_report.proofs.ExecutionRangeLemmas.{execute_fits}
+use Rattle.epx_report.proofs.BaseLemmas.{BaseSaysOneThing-holds}
+use Rattle.epx_report.proofs.BaseRangeLemmas.{FitsContents, FitsContents-empty}
+use Rattle.epx_report.proofs.ExecutionRangeLemmas.{FitsExecution-execute}
 use Rattle.epx_report.proofs.LineFeedLemmas.{lines_of-unbroken}
 use Rattle.epx_report.proofs.LineRangeLemmas.{FitsCommand, FitsInstance}
 use Rattle.epx_report.proofs.WrittenDataLemmas.{IsPlain, IsWritable-unsigned, IsWritable-of_integer}
@@ -34,9 +34,10 @@ use Rattle.epx_trace.specs.TraceLines.{read_data, touch_line, write_data}
 use Rattle.epx_trace.specs.TraceTexts.{command_of, ordered_commands}
 use Rattle.epx_answer_laws.specs.TraceReportLaws.{LastWriteLineIsTheStoreLine, value_after_line}
 use Rattle.epx_answer_laws.specs.TraceReportLaws.{written_of}
-use Rattle.epx_tool.proofs.ReportRangeLemmas.{accepted_fit, command_fits, each_holds}
-use Rattle.epx_tool.proofs.ResumableAnswersLemmas.{answer_is_base}
-use Rattle.epx_answer_laws.proofs.TraceReportLemmas.{trace_ends_in_the_final}
+use Rattle.epx_tool.proofs.ReportRangeLemmas.{FitsInstance-accepted, FitsCommand-instance_of}
+use Rattle.epx_tool.proofs.ReportRangeLemmas.{AllByRecursion-each}
+use Rattle.epx_tool.proofs.ResumableAnswersLemmas.{AnswerIsBase-holds}
+use Rattle.epx_answer_laws.proofs.TraceReportLemmas.{execute-final_of_trace}
 
 -- ---- the lines of a trace are read as they were written
 
@@ -141,7 +142,7 @@ found_fits c k h = go (contents.get c k) (λ v e. (h k v e).1)
 
 after_fits : (ops : List Op) (c : Contents) → FitsCommand ops → FitsContents c
     → FitsContents (command_on ops c).after
-after_fits ops c f h = (execute_fits (ops ∷ []) c (f, tt) h).final
+after_fits ops c f h = (FitsExecution-execute (ops ∷ []) c (f, tt) h).final
 
 touch_fits : (p : IdCommand) (c : Contents) (k : List ℕ) → FitsIdCommand p → FitsContents c
     → FitsTouch (touch_of p c k)
@@ -171,32 +172,33 @@ ordered_fit : (m : List Instance) → ((e : Instance) → Contains m e → FitsI
     → AllByRecursion FitsIdCommand (map (command_of m) ids)
 unfolding FitsIdCommand
 ordered_fit m fits ids ready =
-    each_holds FitsIdCommand (map (command_of m) ids) (λ p c.
+    AllByRecursion-each FitsIdCommand (map (command_of m) ids) (λ p c.
     let x = Contains-from_map (command_of m) ids p c in
     let e = Contains-from_map (λ (e : Instance). e.id) m x.0 (ready x.0 x.1).committed in
     let id = subst FitsNumbers e.2 (fits e.0 e.1).id in
-    subst FitsIdCommand x.2 (id, command_fits m fits x.0))
+    subst FitsIdCommand x.2 (id, FitsCommand-instance_of m fits x.0))
 
 -- ---- the law
 
-pub last_write_line_is_the_store_line : LastWriteLineIsTheStoreLine
-last_write_line_is_the_store_line logs key reads report trace answered traced done stored base =
+pub LastWriteLineIsTheStoreLine-holds : LastWriteLineIsTheStoreLine
+LastWriteLineIsTheStoreLine-holds logs key reads report trace answered traced done stored base =
     let m = traced.0 in
     let t = traced.2 in
     let k = key.text.bytes in
-    let b = answer_is_base logs report answered m traced.1 in
+    let b = AnswerIsBase-holds logs report answered m traced.1 in
     let left = λ (l : List Instance).
     (execute (commands_in l (ranked_ids b.order)) contents.empty).final in
-    let one = base_says_one_thing report done b.now stored (left (remaining [] m)) base b.base in
+    let one = BaseSaysOneThing-holds report done b.now stored (left (remaining [] m)) base b.base in
     let whole = remaining-nil m in
     let ordered = subst (λ (l : List Instance). IsExecutionOrder l b.order) whole b.ordered in
     let ready = (IsExecutionOrder-IsLawful m t.order t.ordered).only in
-    let commands = ordered_fit m (accepted_fit logs m traced.1) (ranked_ids t.order) ready in
+    let commands =
+    ordered_fit m (FitsInstance-accepted logs m traced.1) (ranked_ids t.order) ready in
     let touches = trace_of (ordered_commands m t.order) contents.empty k in
     let touches_fit =
-    trace_fits (ordered_commands m t.order) contents.empty k commands empty_fits in
+    trace_fits (ordered_commands m t.order) contents.empty k commands FitsContents-empty in
     ap (λ (s : Contents). contents.get s k) one.1
     ∙ ap (λ (l : List Instance). contents.get (left l) k) whole
-    ∙ trace_ends_in_the_final m k reads trace b.order ordered t
+    ∙ execute-final_of_trace m k reads trace b.order ordered t
     ∙ sym (lines_leave reads touches touches_fit None)
     ∙ ap (λ text. fold value_after_line None (lines_of text)) (sym t.printed)

@@ -9,7 +9,7 @@ use Rattle.epx_types.specs.declared.op.Op.{Op}
 use Rattle.epx_trace.specs.Traces.{IdCommand, trace_of}
 use Rattle.epx_trace.specs.TraceLaws.{value_left}
 use Rattle.epx_trace.specs.TraceTexts.{IsTraceText, command_of, ordered_commands}
-use Rattle.epx_trace.proofs.TraceLemmas.{last_write_is_stored}
+use Rattle.epx_trace.proofs.TraceLemmas.{LastWriteIsStored-holds}
 use Rattle.epx_answer_laws.specs.TraceReportLaws.{TraceEndsInTheStore}
 
 -- a trace executes the commands of the report
@@ -19,19 +19,19 @@ commands_traced m [] = refl
 commands_traced m (x ∷ ids) =
     ap (λ (os : List (List Op)). ops_or_empty (instance_of m x) ∷ os) (commands_traced m ids)
 
-pub trace_ends_in_the_final : (m : List Instance) (key : List ℕ) (reads : Bool) (text : List ℕ)
+pub execute-final_of_trace : (m : List Instance) (key : List ℕ) (reads : Bool) (text : List ℕ)
     (order : List Ranked) → IsExecutionOrder m order → (t : IsTraceText m key reads text)
     → contents.get (execute (commands_in m (ranked_ids order)) contents.empty).final key
     ≡ fold value_left None (trace_of (ordered_commands m t.order) contents.empty key)
-trace_ends_in_the_final m key reads text order ordered t =
+execute-final_of_trace m key reads text order ordered t =
     let same = IsExecutionOrder-unique m order t.order ordered t.ordered in
     let left = λ (os : List (List Op)). contents.get (execute os contents.empty).final key in
     ap (λ o. left (commands_in m (ranked_ids o))) same
     ∙ ap left (sym (commands_traced m (ranked_ids t.order)))
-    ∙ last_write_is_stored (ordered_commands m t.order) contents.empty key
+    ∙ LastWriteIsStored-holds (ordered_commands m t.order) contents.empty key
     ∙ ap (λ v. fold value_left v (trace_of (ordered_commands m t.order) contents.empty key))
     (contents.get-empty {X = ℤ} key_cmp key)
 
-pub trace_ends_in_the_store : TraceEndsInTheStore
-trace_ends_in_the_store m key reads report text p t =
-    trace_ends_in_the_final m key reads text p.order p.ordered t
+pub TraceEndsInTheStore-holds : TraceEndsInTheStore
+TraceEndsInTheStore-holds m key reads report text p t =
+    execute-final_of_trace m key reads text p.order p.ordered t

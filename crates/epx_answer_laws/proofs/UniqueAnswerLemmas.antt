@@ -6,36 +6,39 @@ use Rattle.epx_types.proofs.Common.{Instance, execute, IsExecutionOrder-unique, 
 use Rattle.epx_types.proofs.Common.{ranked_ids, commands_in, AreLevels-unique, IsWaitingList-unique}
 use Rattle.epx_types.specs.declared.fault.Fault.{Fault}
 use Rattle.epx_types.specs.declared.fault.Fault.TheVariants.{Memory}
-use Rattle.epx_merge.proofs.UniquenessLemmas.{accepted_unique, accepted_not_refused, refusal_unique}
+use Rattle.epx_merge.proofs.UniquenessLemmas.{IsAccepted-is_unique, IsRefusal-of_accepted}
+use Rattle.epx_merge.proofs.UniquenessLemmas.{IsRefusal-is_unique}
 use Rattle.epx_tool.specs.Report.{IsReport, report_text}
 use Rattle.epx_views.specs.OrderText.{IsOrderText, order_text}
 use Rattle.epx_views.specs.LevelText.{IsLevelText, level_text}
 use Rattle.epx_tool.specs.AuditText.{IsAuditText}
 use Rattle.epx_report.specs.ViewLines.{uncovered_line}
-use Rattle.epx_picture.proofs.UniquePictureLemmas.{picture_is_unique, picture_around_is_unique}
+use Rattle.epx_picture.proofs.UniquePictureLemmas.{PictureIsUnique-holds}
+use Rattle.epx_picture.proofs.UniquePictureLemmas.{PictureAroundIsUnique-holds}
 use Rattle.epx_neighbours.specs.UncoveredTextLaws.{UncoveredTextIsUnique}
-use Rattle.epx_audit.proofs.UniquePairLemmas.{uncovered_not_covered, least_uncovered_is_unique}
-use Rattle.epx_compare.proofs.ComparisonAnswerLemmas.{compares_unique}
+use Rattle.epx_audit.proofs.UniquePairLemmas.{IsCovered-not_if_uncovered}
+use Rattle.epx_audit.proofs.UniquePairLemmas.{IsLeastUncovered-is_unique}
+use Rattle.epx_compare.proofs.ComparisonAnswerLemmas.{Compares-is_unique}
 use Rattle.epx_names.specs.declared.task.Task.{Task}
 use Rattle.epx_names.specs.declared.task.Task.TheVariants.{Run, Order, Levels, Graph, Resume}
 use Rattle.epx_names.specs.declared.task.Task.TheVariants.{Audit, Check, CheckPrefix, Compare}
 use Rattle.epx_names.specs.declared.task.Task.TheVariants.{Linear, Replay, Verify}
 use Rattle.epx_names.specs.declared.task.Task.TheVariants.{Blockers, Why, Path, Trace}
 use Rattle.epx_names.specs.declared.task.Task.TheVariants.{AuditAll, Around}
-use Rattle.epx_why.proofs.UniqueTextLemmas.{why_text_is_unique, path_text_is_unique}
-use Rattle.epx_blockers.proofs.BlockerTextLemmas.{blockers_text_is_unique}
-use Rattle.epx_trace.proofs.TraceLemmas.{trace_text_is_unique}
+use Rattle.epx_why.proofs.UniqueTextLemmas.{WhyTextIsUnique-holds, PathTextIsUnique-holds}
+use Rattle.epx_blockers.proofs.BlockerTextLemmas.{BlockersTextIsUnique-holds}
+use Rattle.epx_trace.proofs.TraceLemmas.{TraceTextIsUnique-holds}
 use Rattle.epx_tool.specs.Answer.{Answers}
 use Rattle.epx_tool.specs.TaskAnswers.{AnswersLogs}
 use Rattle.epx_tool.specs.TaskTexts.{IsTaskText}
 use Rattle.epx_tool.specs.Verdicts.{IsPrefixVerdict, IsVerdict}
 use Rattle.epx_verify.specs.VerifyLaws.{TextSaysOneThing}
-use Rattle.epx_tool.proofs.CheckLemmas.{one_text}
-use Rattle.epx_answer_laws.proofs.ResumptionLemmas.{resumed_one}
-use Rattle.epx_answer_laws.proofs.HistoryAnswerLemmas.{one_text_of_history}
-use Rattle.epx_answer_laws.proofs.SaidAnswerLemmas.{IsReplayOf, one_verdict_on_said}
-use Rattle.epx_answer_laws.proofs.SaidAnswerLemmas.{replay_is_unique}
-use Rattle.epx_tool.proofs.VerdictLemmas.{prefix_verdict_is_unique, verdict_is_unique}
+use Rattle.epx_tool.proofs.CheckLemmas.{IsTextBy-is_unique}
+use Rattle.epx_answer_laws.proofs.ResumptionLemmas.{IsResumedText-is_unique}
+use Rattle.epx_answer_laws.proofs.HistoryAnswerLemmas.{IsHistoryCheckText-is_unique}
+use Rattle.epx_answer_laws.proofs.SaidAnswerLemmas.{IsReplayOf, IsVerifyText-is_unique}
+use Rattle.epx_answer_laws.proofs.SaidAnswerLemmas.{IsReplayOf-is_unique}
+use Rattle.epx_tool.proofs.VerdictLemmas.{IsPrefixVerdict-is_unique, IsVerdict-is_unique}
 
 pub IsReport-unique : (m : List Instance) (text other : List ℕ) → IsReport m text
     → IsReport m other → text ≡ other
@@ -67,11 +70,11 @@ pub IsAuditText-unique : (m : List Instance) (text other : List ℕ) → IsAudit
     → IsAuditText m other → text ≡ other
 IsAuditText-unique m text other (inl p) (inl q) = p.1 ∙ sym q.1
 IsAuditText-unique m text other (inl p) (inr q) =
-    absurd (uncovered_not_covered m q.0 q.1 q.2.uncovered p.0)
+    absurd (IsCovered-not_if_uncovered m q.0 q.1 q.2.uncovered p.0)
 IsAuditText-unique m text other (inr p) (inl q) =
-    absurd (uncovered_not_covered m p.0 p.1 p.2.uncovered q.0)
+    absurd (IsCovered-not_if_uncovered m p.0 p.1 p.2.uncovered q.0)
 IsAuditText-unique m text other (inr p) (inr q) =
-    let same = least_uncovered_is_unique m p.0 p.1 q.0 q.1 p.2 q.2 in
+    let same = IsLeastUncovered-is_unique m p.0 p.1 q.0 q.1 p.2 q.2 in
     p.3 ∙ ap₂ uncovered_line same.0 same.1 ∙ sym q.3
 
 -- a text of a replica says one thing, and uncovered pairs have one text, which are laws of
@@ -82,23 +85,23 @@ pub IsTaskText-unique : TextSaysOneThing → UncoveredTextIsUnique → (task : T
 IsTaskText-unique one pairs Run input = IsReport-unique
 IsTaskText-unique one pairs Order input = IsOrderText-unique
 IsTaskText-unique one pairs Levels input = IsLevelText-unique
-IsTaskText-unique one pairs Blockers input = blockers_text_is_unique
-IsTaskText-unique one pairs Graph input = picture_is_unique
-IsTaskText-unique one pairs (Around x steps) input = λ m. picture_around_is_unique m x steps
+IsTaskText-unique one pairs Blockers input = BlockersTextIsUnique-holds
+IsTaskText-unique one pairs Graph input = PictureIsUnique-holds
+IsTaskText-unique one pairs (Around x steps) input = λ m. PictureAroundIsUnique-holds m x steps
 IsTaskText-unique one pairs Audit input = IsAuditText-unique
 IsTaskText-unique one pairs AuditAll input = pairs
-IsTaskText-unique one pairs Resume base = resumed_one base
-IsTaskText-unique one pairs Check list = one_text IsVerdict list verdict_is_unique
+IsTaskText-unique one pairs Resume base = IsResumedText-is_unique base
+IsTaskText-unique one pairs Check list = IsTextBy-is_unique IsVerdict list IsVerdict-is_unique
 IsTaskText-unique one pairs CheckPrefix list =
-    one_text IsPrefixVerdict list prefix_verdict_is_unique
-IsTaskText-unique one pairs Replay list = one_text IsReplayOf list replay_is_unique
-IsTaskText-unique one pairs Verify said = one_verdict_on_said one said
-IsTaskText-unique one pairs (Linear skew) history = one_text_of_history skew history
+    IsTextBy-is_unique IsPrefixVerdict list IsPrefixVerdict-is_unique
+IsTaskText-unique one pairs Replay list = IsTextBy-is_unique IsReplayOf list IsReplayOf-is_unique
+IsTaskText-unique one pairs Verify said = IsVerifyText-is_unique one said
+IsTaskText-unique one pairs (Linear skew) history = IsHistoryCheckText-is_unique skew history
 IsTaskText-unique one pairs Compare input = λ m text other none. absurd none
-IsTaskText-unique one pairs (Why x) input = λ m. why_text_is_unique m x
-IsTaskText-unique one pairs (Path x y) input = λ m. path_text_is_unique m x y
+IsTaskText-unique one pairs (Why x) input = λ m. WhyTextIsUnique-holds m x
+IsTaskText-unique one pairs (Path x y) input = λ m. PathTextIsUnique-holds m x y
 IsTaskText-unique one pairs (Trace key reads) input =
-    λ m. trace_text_is_unique m key.text.bytes reads
+    λ m. TraceTextIsUnique-holds m key.text.bytes reads
 
 -- if each committed map has at most one text, logs have at most one answer, except for out of
 -- memory
@@ -107,18 +110,18 @@ module _ (Is : List Instance → List ℕ → Type 0)
   pub Answers-unique : (logs : List (List ℕ)) (a b : Result (List ℕ) Fault) → a ≢ Err Memory
       → b ≢ Err Memory → Answers Is logs a → Answers Is logs b → a ≡ b
   Answers-unique logs (Ok text) (Ok other) s t p q =
-      let same = accepted_unique logs p.0 q.0 p.1 q.1 in
+      let same = IsAccepted-is_unique logs p.0 q.0 p.1 q.1 in
       ap Ok (one q.0 text other (subst (λ m. Is m text) same p.2) q.2)
   Answers-unique logs (Ok text) (Err fault) s t p q =
-      absurd (t (ap Err (accepted_not_refused logs p.0 fault p.1 q)))
+      absurd (t (ap Err (IsRefusal-of_accepted logs p.0 fault p.1 q)))
   Answers-unique logs (Err fault) (Ok text) s t p q =
-      absurd (s (ap Err (accepted_not_refused logs q.0 fault q.1 p)))
+      absurd (s (ap Err (IsRefusal-of_accepted logs q.0 fault q.1 p)))
   Answers-unique logs (Err fault) (Err other) s t p q =
-      ap Err (refusal_unique logs fault other (λ e. s (ap Err e)) (λ e. t (ap Err e)) p q)
+      ap Err (IsRefusal-is_unique logs fault other (λ e. s (ap Err e)) (λ e. t (ap Err e)) p q)
 
 pub AnswersLogs-unique : TextSaysOneThing → UncoveredTextIsUnique → (task : Task)
     (logs : List (List ℕ)) (a b : Result (List ℕ) Fault) → a ≢ Err Memory → b ≢ Err Memory
     → AnswersLogs task logs a → AnswersLogs task logs b → a ≡ b
-AnswersLogs-unique one pairs Compare = compares_unique
+AnswersLogs-unique one pairs Compare = Compares-is_unique
 AnswersLogs-unique one pairs task =
     Answers-unique (IsTaskText task []) (IsTaskText-unique one pairs task [])

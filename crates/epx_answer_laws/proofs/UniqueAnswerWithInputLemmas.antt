@@ -8,10 +8,10 @@ use Rattle.epx_types.specs.declared.fault.Fault.TheVariants.{TooManyInstances, D
 use Rattle.epx_types.specs.declared.fault.Fault.TheVariants.{BadBase, Memory, Write}
 use Rattle.epx_merge.specs.Refusals.{IsFirstTooLong, IsRefusal}
 use Rattle.epx_merge.specs.Acceptance.{IsAccepted}
-use Rattle.epx_merge.proofs.UniquenessLemmas.{accepted_unique, accepted_not_refused}
-use Rattle.epx_merge.proofs.UniquenessLemmas.{refusal_unique, same_long}
+use Rattle.epx_merge.proofs.UniquenessLemmas.{IsAccepted-is_unique, IsRefusal-of_accepted}
+use Rattle.epx_merge.proofs.UniquenessLemmas.{IsRefusal-is_unique, IsFirstTooLong-is_unique}
 use Rattle.epx_tool.specs.WithInput.{IsShort, IsRefusalWithInput, AnswersWithInput}
-use Rattle.epx_tool.proofs.LogsWithInputLemmas.{first_too_long_before}
+use Rattle.epx_tool.proofs.LogsWithInputLemmas.{IsFirstTooLong-without_input}
 
 module _ (IsBad : List ℕ → ℕ → Type 0) (input : List ℕ) (logs : List (List ℕ)) where
   -- with a short input, a refusal is that of the logs, or a bad line of the input
@@ -25,7 +25,7 @@ module _ (IsBad : List ℕ → ℕ → Type 0) (input : List ℕ) (logs : List (
   short_refusal short Memory h = inl h
   short_refusal short TooManyLogs h = inl h
   short_refusal short (LogTooLong log) h =
-      inl (h.0, first_too_long_before logs input log short h.1)
+      inl (h.0, IsFirstTooLong-without_input logs input log short h.1)
   short_refusal short (BadLine place why) h = inl h.1
   short_refusal short TooManyInstances h = inl h.1
   short_refusal short (Disagree id first second) h = inl h.1
@@ -54,11 +54,11 @@ module _ (IsBad : List ℕ → ℕ → Type 0) (input : List ℕ) (logs : List (
   module _ (bad_one : (line other : ℕ) → IsBad input line → IsBad input other → line ≡ other) where
     short_unique : (f g : Fault) → f ≢ Memory → g ≢ Memory → IsShortRefusal f → IsShortRefusal g
         → f ≡ g
-    short_unique f g nf ng (inl a) (inl b) = refusal_unique logs f g nf ng a b
+    short_unique f g nf ng (inl a) (inl b) = IsRefusal-is_unique logs f g nf ng a b
     short_unique f g nf ng (inl a) (inr b) =
-        absurd (nf (accepted_not_refused logs b.2.0 f b.2.1 a))
+        absurd (nf (IsRefusal-of_accepted logs b.2.0 f b.2.1 a))
     short_unique f g nf ng (inr a) (inl b) =
-        absurd (ng (accepted_not_refused logs a.2.0 g a.2.1 b))
+        absurd (ng (IsRefusal-of_accepted logs a.2.0 g a.2.1 b))
     short_unique f g nf ng (inr a) (inr b) = a.1 ∙ ap BadBase (bad_one a.0 b.0 a.3 b.3) ∙ sym b.1
 
     long_unique : (f g : Fault) → IsLongRefusal f → IsLongRefusal g → f ≡ g
@@ -66,11 +66,12 @@ module _ (IsBad : List ℕ → ℕ → Type 0) (input : List ℕ) (logs : List (
     long_unique f g (inl a) (inr b) = absurd (omega (arith, a.1, b.2))
     long_unique f g (inr a) (inl b) = absurd (omega (arith, b.1, a.2))
     long_unique f g (inr a) (inr b) =
-        a.1 ∙ ap LogTooLong (same_long (logs ++ input ∷ []) a.0 b.0 a.3 b.3) ∙ sym b.1
+        a.1 ∙ ap LogTooLong (IsFirstTooLong-is_unique (logs ++ input ∷ []) a.0 b.0 a.3 b.3)
+        ∙ sym b.1
 
-    pub refusal_with_input_unique : (f g : Fault) → f ≢ Memory → g ≢ Memory
+    pub IsRefusalWithInput-is_unique : (f g : Fault) → f ≢ Memory → g ≢ Memory
         → IsRefusalWithInput IsBad input logs f → IsRefusalWithInput IsBad input logs g → f ≡ g
-    refusal_with_input_unique f g nf ng a b =
+    IsRefusalWithInput-is_unique f g nf ng a b =
         elim (cases_lt max_log_bytes (length input)) [
           | inl l ↦ let long : ¬ IsShort input = λ s. omega (arith, l, s) in
               long_unique f g (long_refusal long f nf a) (long_refusal long g ng b)
@@ -85,13 +86,13 @@ module _ (IsBad : List ℕ → ℕ → Type 0) (input : List ℕ) (logs : List (
         → ¬ IsBad input line) where
       answered_not_refused : (text : List ℕ) (f : Fault) → f ≢ Memory
           → AnswersWithInput IsBad Is input logs (Ok text) → ¬ IsShortRefusal f
-      answered_not_refused text f nf p (inl r) = nf (accepted_not_refused logs p.1.0 f p.1.1 r)
+      answered_not_refused text f nf p (inl r) = nf (IsRefusal-of_accepted logs p.1.0 f p.1.1 r)
       answered_not_refused text f nf p (inr r) = apart p.1.0 text r.0 p.1.2 r.3
 
       pub AnswersWithInput-unique : (a b : Result (List ℕ) Fault) → a ≢ Err Memory → b ≢ Err Memory
           → AnswersWithInput IsBad Is input logs a → AnswersWithInput IsBad Is input logs b → a ≡ b
       AnswersWithInput-unique (Ok text) (Ok other) s t p q =
-          let same = accepted_unique logs p.1.0 q.1.0 p.1.1 q.1.1 in
+          let same = IsAccepted-is_unique logs p.1.0 q.1.0 p.1.1 q.1.1 in
           ap Ok (one q.1.0 text other (subst (λ (m : List Instance). Is input m text) same p.1.2)
           q.1.2)
       AnswersWithInput-unique (Ok text) (Err g) s t p q = let ng : g ≢ Memory =
@@ -99,4 +100,4 @@ module _ (IsBad : List ℕ → ℕ → Type 0) (input : List ℕ) (logs : List (
       AnswersWithInput-unique (Err f) (Ok text) s t p q = let nf : f ≢ Memory =
           λ e. s (ap Err e) in absurd (answered_not_refused text f nf q (short_refusal q.0 f p))
       AnswersWithInput-unique (Err f) (Err g) s t p q =
-          ap Err (refusal_with_input_unique f g (λ e. s (ap Err e)) (λ e. t (ap Err e)) p q)
+          ap Err (IsRefusalWithInput-is_unique f g (λ e. s (ap Err e)) (λ e. t (ap Err e)) p q)

@@ -7,7 +7,7 @@ use Rattle.epx_types.proofs.Common.{Contains-append_cases, accesses_of, touched_
 use Rattle.epx_types.proofs.Common.{Contains-nil, Contains-map, Contains-from_map, Contains-filter}
 use Rattle.epx_types.proofs.Common.{Contains-from_filter, passes-from_filter}
 use Rattle.epx_types.specs.declared.op.Op.{Op}
-use Rattle.epx_apply.specs.KeyTables.{touched_in, written_in}
+use Rattle.epx_apply.specs.between.KeyTables.{touched_in, written_in}
 
 -- ---- touched keys
 

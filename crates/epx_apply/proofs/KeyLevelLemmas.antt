@@ -9,7 +9,7 @@ use Rattle.epx_types.proofs.Common.{Contains-cons_cases}
 use Rattle.epx_types.specs.declared.op.Op.{Op}
 use Rattle.epx_apply.specs.declared.key_table.KeyLevels.{KeyLevels}
 use Rattle.epx_apply.specs.declared.key_table.TableAccess.{TableAccess}
-use Rattle.epx_apply.specs.KeyTables.{no_levels, key_levels_at, IsLevelAbove}
+use Rattle.epx_apply.specs.between.KeyTables.{no_levels, key_levels_at, IsLevelAbove}
 use Rattle.epx_apply.specs.inner.LevelTables.{level_for, raise}
 
 -- ---- one more command
@@ -70,27 +70,27 @@ module _ (key_levels : List KeyLevels) where
       omega arith
 
   -- it is at least the level for each access
-  pub fold_above : (m : ℕ) (accesses : List TableAccess) (a : TableAccess) → Contains accesses a
+  pub fold-above : (m : ℕ) (accesses : List TableAccess) (a : TableAccess) → Contains accesses a
       → level_for key_levels a ≤ fold (λ level a. max level (level_for key_levels a)) m accesses
-  fold_above m [] a h = absurd (Contains-nil a h)
-  fold_above m (b ∷ accesses) a h =
+  fold-above m [] a h = absurd (Contains-nil a h)
+  fold-above m (b ∷ accesses) a h =
       elim (Contains-cons_cases b accesses a h) [
         | inl same ↦
             let rest = fold_from (max m (level_for key_levels b)) accesses in
             let at : level_for key_levels b ≡ level_for key_levels a =
             ap (level_for key_levels) same in
             omega arith
-        | inr later ↦ fold_above (max m (level_for key_levels b)) accesses a later
+        | inr later ↦ fold-above (max m (level_for key_levels b)) accesses a later
       ]
 
   -- it is the level for one of them, or the initial level
-  pub fold_reached : (m : ℕ) (accesses : List TableAccess)
+  pub fold-reached : (m : ℕ) (accesses : List TableAccess)
       → (fold (λ level a. max level (level_for key_levels a)) m accesses ≡ m)
       ⊎ ((a : TableAccess) × Contains accesses a
       × (fold (λ level a. max level (level_for key_levels a)) m accesses ≡ level_for key_levels a))
-  fold_reached m [] = inl refl
-  fold_reached m (b ∷ accesses) =
-      elim (fold_reached (max m (level_for key_levels b)) accesses) [
+  fold-reached m [] = inl refl
+  fold-reached m (b ∷ accesses) =
+      elim (fold-reached (max m (level_for key_levels b)) accesses) [
         | inl first ↦ elim (cases_lt m (level_for key_levels b)) [
           | inl low ↦ inr (b, Contains-head b accesses, omega arith)
           | inr high ↦ inl (omega arith)
@@ -101,14 +101,14 @@ module _ (key_levels : List KeyLevels) where
 -- ---- raising the levels for one access after another
 
 module _ (n : ℕ) where
-  pub length_raised : (accesses : List TableAccess) (key_levels : List KeyLevels)
+  pub length-raised : (accesses : List TableAccess) (key_levels : List KeyLevels)
       → length (fold (raise n) key_levels accesses) ≡ length key_levels
-  length_raised [] key_levels = refl
-  length_raised (a ∷ accesses) key_levels =
-      length_raised accesses (raise n key_levels a) ∙ length-set key_levels a.key _
+  length-raised [] key_levels = refl
+  length-raised (a ∷ accesses) key_levels =
+      length-raised accesses (raise n key_levels a) ∙ length-set key_levels a.key _
 
   -- the new `touchers` of a key
-  pub touchers_raised : (accesses : List TableAccess) (key_levels : List KeyLevels) (x : ℕ)
+  pub touchers-raised : (accesses : List TableAccess) (key_levels : List KeyLevels) (x : ℕ)
       → x < length key_levels →
       (((w : Bool) × Contains accesses (record { key = x; writes = w }))
       × ((key_levels_at (fold (raise n) key_levels accesses) x).touchers
@@ -116,10 +116,10 @@ module _ (n : ℕ) where
       ⊎ (((w : Bool) → ¬ Contains accesses (record { key = x; writes = w }))
       × ((key_levels_at (fold (raise n) key_levels accesses) x).touchers
       ≡ (key_levels_at key_levels x).touchers))
-  touchers_raised [] key_levels x low =
+  touchers-raised [] key_levels x low =
       inr (λ w h. Contains-nil (record { key = x; writes = w }) h, refl)
-  touchers_raised (a ∷ accesses) key_levels x low =
-      let rest = touchers_raised accesses (raise n key_levels a) x (omega (
+  touchers-raised (a ∷ accesses) key_levels x low =
+      let rest = touchers-raised accesses (raise n key_levels a) x (omega (
         arith,
         low,
         length-set key_levels a.key (record {
@@ -169,7 +169,7 @@ module _ (n : ℕ) where
       ]
 
   -- the new `writers` of a key
-  pub writers_raised : (accesses : List TableAccess) (key_levels : List KeyLevels) (x : ℕ)
+  pub writers-raised : (accesses : List TableAccess) (key_levels : List KeyLevels) (x : ℕ)
       → x < length key_levels →
       (Contains accesses (record { key = x; writes = true })
       × ((key_levels_at (fold (raise n) key_levels accesses) x).writers
@@ -177,10 +177,10 @@ module _ (n : ℕ) where
       ⊎ ((¬ Contains accesses (record { key = x; writes = true }))
       × ((key_levels_at (fold (raise n) key_levels accesses) x).writers
       ≡ (key_levels_at key_levels x).writers))
-  writers_raised [] key_levels x low =
+  writers-raised [] key_levels x low =
       inr (λ h. Contains-nil (record { key = x; writes = true }) h, refl)
-  writers_raised (a ∷ accesses) key_levels x low =
-      let rest = writers_raised accesses (raise n key_levels a) x (omega (
+  writers-raised (a ∷ accesses) key_levels x low =
+      let rest = writers-raised accesses (raise n key_levels a) x (omega (
         arith,
         low,
         length-set key_levels a.key (record {

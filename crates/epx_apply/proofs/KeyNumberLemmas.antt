@@ -9,8 +9,8 @@ use Rattle.epx_types.specs.declared.op.Op.{Op}
 use Rattle.epx_types.proofs.lists.ListPositionLemmas.{slice_get-map}
 use Rattle.epx_apply.specs.declared.key_table.TableAccess.{TableAccess}
 use Rattle.epx_apply.specs.declared.key_table.KeyLevels.{KeyLevels}
-use Rattle.epx_apply.specs.KeyTables.{key_at, no_levels, IsKeyTableOf}
-use Rattle.epx_apply.proofs.KeyTableLemmas.{grow, access_known}
+use Rattle.epx_apply.specs.between.KeyTables.{key_at, no_levels, IsKeyTableOf}
+use Rattle.epx_apply.proofs.KeyTableLemmas.{IsKeyTableOf-add_key, IsKeyTableOf-access}
 
 abbrev pub texts_of : List (Bor (List ℕ)) → List (List ℕ)
 texts_of ks = map (λ k. k.now) ks
@@ -18,11 +18,11 @@ texts_of ks = map (λ k. k.now) ks
 abbrev pub same_text : Bor (List ℕ) → Bor (List ℕ) → Bool
 same_text j k = bytes_eq j.now k.now
 
-pub not_is : (b r : Bool) → not b ≡ r → b ≡ not r
-not_is true true e = absurd (true≢false (sym e))
-not_is true false e = refl
-not_is false true e = refl
-not_is false false e = absurd (true≢false e)
+pub not-flip : (b r : Bool) → not b ≡ r → b ≡ not r
+not-flip true true e = absurd (true≢false (sym e))
+not-flip true false e = refl
+not-flip false true e = refl
+not-flip false false e = absurd (true≢false e)
 
 -- a key that equals no key of the set is not in it
 absent : (k : Bor (List ℕ)) (ks : List (Bor (List ℕ))) → list_any (same_text k) ks ≡ false
@@ -56,21 +56,21 @@ module _ (done : List (List Op × ℕ)) (current : List (List ℕ × Bool))
       (slice_get-map (λ (j : Bor (List ℕ)). j.now) ks' number stored.0 stored.1) in
       (read.0, read.1 ∙ sym ((bytes_eq-Decides k.now stored.0.now).0 stored.2) ∙ text)
 
-  pub current_new : list_any (same_text k) ks ≡ false
+  pub IsKeyTableOf-new_key : list_any (same_text k) ks ≡ false
       → IsKeyTableOf done (current ++ (key, w) ∷ [])
       (record {
         keys = texts_of ks';
         key_levels = key_levels ++ no_levels ∷ [];
         accesses = accesses ++ record { key = number; writes = w } ∷ [];
       })
-  current_new none =
+  IsKeyTableOf-new_key none =
       let pushed : texts_of ks' ≡ texts_of ks ++ k.now ∷ [] =
       ap texts_of (keys ∙ ap (λ b. if b then ks else ks ++ k ∷ []) none)
       ∙ map-append (λ (j : Bor (List ℕ)). j.now) ks (k ∷ []) in
-      let grown = grow done current
+      let grown = IsKeyTableOf-add_key done current
       (record { keys = texts_of ks; key_levels = key_levels; accesses = accesses }) is k.now
       (absent k ks none) in
-      access_known done current
+      IsKeyTableOf-access done current
       (record {
         keys = texts_of ks';
         key_levels = key_levels ++ no_levels ∷ [];
@@ -80,16 +80,16 @@ module _ (done : List (List Op × ℕ)) (current : List (List ℕ × Bool))
       (record { keys = qs; key_levels = key_levels ++ no_levels ∷ []; accesses = accesses }))
       (sym pushed) grown) number key w at.0 at.1
 
-  pub current_known : list_any (same_text k) ks ≡ true
+  pub IsKeyTableOf-known_key : list_any (same_text k) ks ≡ true
       → IsKeyTableOf done (current ++ (key, w) ∷ [])
       (record {
         keys = texts_of ks';
         key_levels = key_levels;
         accesses = accesses ++ record { key = number; writes = w } ∷ [];
       })
-  current_known found =
+  IsKeyTableOf-known_key found =
       let kept : ks' ≡ ks = keys ∙ ap (λ b. if b then ks else ks ++ k ∷ []) found in
-      access_known done current
+      IsKeyTableOf-access done current
       (record { keys = texts_of ks'; key_levels = key_levels; accesses = accesses })
       (subst (λ qs. IsKeyTableOf done current
       (record { keys = texts_of qs; key_levels = key_levels; accesses = accesses })) (sym kept)

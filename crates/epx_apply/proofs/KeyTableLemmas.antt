@@ -12,25 +12,27 @@ use Rattle.epx_types.proofs.Common.{Contains-from_rising_keys, accesses_of, touc
 use Rattle.epx_types.specs.declared.op.Op.{Op}
 use Rattle.epx_apply.specs.declared.key_table.KeyLevels.{KeyLevels}
 use Rattle.epx_apply.specs.declared.key_table.TableAccess.{TableAccess}
-use Rattle.epx_apply.specs.KeyTables.{Table, no_levels, key_levels_at, key_at, touched_in}
-use Rattle.epx_apply.specs.KeyTables.{written_in, IsLevelAbove, IsKeyTableOf, IsLeastAbove}
-use Rattle.epx_apply.specs.KeyTables.{CollectsCommand, NotesCommand}
+use Rattle.epx_apply.specs.between.KeyTables.{KeyTableView, no_levels, key_levels_at, key_at}
+use Rattle.epx_apply.specs.between.KeyTables.{touched_in}
+use Rattle.epx_apply.specs.between.KeyTables.{written_in, IsLevelAbove, IsKeyTableOf, IsLeastAbove}
+use Rattle.epx_apply.specs.between.KeyTables.{CollectsCommand, NotesCommand}
 use Rattle.epx_apply.specs.inner.LevelTables.{AddsAccesses, level_for, raise, IsLevelTableOf}
 use Rattle.epx_apply.specs.inner.LevelTables.{AddsCommand}
 use Rattle.epx_apply.proofs.AccessLemmas.{current-from_touched, touched-from_accesses}
 use Rattle.epx_apply.proofs.AccessLemmas.{current-from_written, written-from_accesses}
 use Rattle.epx_apply.proofs.AccessLemmas.{touched-from_written}
-use Rattle.epx_apply.proofs.KeyLevelLemmas.{IsLevelAbove-raised, IsLevelAbove-kept, fold_above}
-use Rattle.epx_apply.proofs.KeyLevelLemmas.{fold_reached, length_raised, touchers_raised}
-use Rattle.epx_apply.proofs.KeyLevelLemmas.{writers_raised}
+use Rattle.epx_apply.proofs.KeyLevelLemmas.{IsLevelAbove-raised, IsLevelAbove-kept, fold-above}
+use Rattle.epx_apply.proofs.KeyLevelLemmas.{fold-reached, length-raised, touchers-raised}
+use Rattle.epx_apply.proofs.KeyLevelLemmas.{writers-raised}
 
 -- ---- adding a key
 
-pub AddsAccesses-nil : (t : Table) → AddsAccesses [] t t
+pub AddsAccesses-nil : (t : KeyTableView) → AddsAccesses [] t t
 AddsAccesses-nil t done current is = let P : List (List ℕ × Bool)
     → Type 0 = λ l. IsKeyTableOf done l t in subst P (sym (append-nil current)) is
 
-pub AddsAccesses-append : (xs ys : List (List ℕ × Bool)) (a b c : Table) → AddsAccesses xs a b
+pub AddsAccesses-append : (xs ys : List (List ℕ × Bool)) (a b c : KeyTableView)
+    → AddsAccesses xs a b
     → AddsAccesses ys b c → AddsAccesses (xs ++ ys) a c
 AddsAccesses-append xs ys a b c first second done current is =
     let P : List (List ℕ × Bool) → Type 0 = λ l. IsKeyTableOf done l c in
@@ -40,17 +42,18 @@ AddsAccesses-append xs ys a b c first second done current is =
 abbrev current_at : List (List ℕ) → TableAccess → List ℕ × Bool
 current_at keys a = (key_at keys a.key, a.writes)
 
-module _ (done : List (List Op × ℕ)) (current : List (List ℕ × Bool)) (t : Table)
+module _ (done : List (List Op × ℕ)) (current : List (List ℕ × Bool)) (t : KeyTableView)
     (is : IsKeyTableOf done current t) where
   -- a key that is in the table
-  pub access_known : (x : ℕ) (k : List ℕ) (w : Bool) → x < length t.keys → key_at t.keys x ≡ k
+  pub IsKeyTableOf-access : (x : ℕ) (k : List ℕ) (w : Bool) → x < length t.keys
+      → key_at t.keys x ≡ k
       → IsKeyTableOf done (current ++ (k, w) ∷ [])
       (record {
         keys = t.keys;
         key_levels = t.key_levels;
         accesses = t.accesses ++ record { key = x; writes = w } ∷ [];
       })
-  access_known x k w low at = record {
+  IsKeyTableOf-access x k w low at = record {
     known = is.known;
     no_repeats = is.no_repeats;
     key_levels = is.key_levels;
@@ -65,14 +68,14 @@ module _ (done : List (List Op × ℕ)) (current : List (List ℕ × Bool)) (t :
   }
 
   -- a key that is new to the table
-  pub grow : (k : List ℕ) → ¬ Contains t.keys k
+  pub IsKeyTableOf-add_key : (k : List ℕ) → ¬ Contains t.keys k
       → IsKeyTableOf done current
       (record {
         keys = t.keys ++ k ∷ [];
         key_levels = t.key_levels ++ no_levels ∷ [];
         accesses = t.accesses;
       })
-  grow k fresh = record {
+  IsKeyTableOf-add_key k fresh = record {
     known = λ ops l q c h. Contains-append_left t.keys (k ∷ []) q (is.known ops l q c h);
     no_repeats = no_repeats;
     key_levels = length_push t.key_levels no_levels ∙ ap (λ n. n + 1) is.key_levels
@@ -170,7 +173,7 @@ module _ (done : List (List Op × ℕ)) (current : List (List ℕ × Bool)) (t :
 
 -- ---- adding a command
 
-module _ (done : List (List Op × ℕ)) (ops : List Op) (t : Table)
+module _ (done : List (List Op × ℕ)) (ops : List Op) (t : KeyTableView)
     (is : IsKeyTableOf done (flat_map accesses_of ops) t) where
   level : ℕ
   level = fold (λ level a. max level (level_for t.key_levels a)) 0 t.accesses
@@ -236,7 +239,7 @@ module _ (done : List (List Op × ℕ)) (ops : List Op) (t : Table)
             let low = above_written a.0 a.1 earlier l d
             (subst (Contains (written_in earlier)) (sym a.2)
             (Contains-from_rising_keys (flat_map written_by earlier) k w)) in
-            omega (arith, fold_above t.key_levels 0 t.accesses a.0 a.1)
+            omega (arith, fold-above t.key_levels 0 t.accesses a.0 a.1)
         | inr (r, w) ↦
             let a = access_of k true
             (current-from_written ops k
@@ -244,7 +247,7 @@ module _ (done : List (List Op × ℕ)) (ops : List Op) (t : Table)
             let low = above_touched a.0 a.1 a.3 earlier l d
             (subst (Contains (touched_in earlier)) (sym a.2)
             (Contains-from_rising_keys (flat_map touched_by earlier) k r)) in
-            omega (arith, fold_above t.key_levels 0 t.accesses a.0 a.1)
+            omega (arith, fold-above t.key_levels 0 t.accesses a.0 a.1)
       ]
 
   -- the level for an access is 0 or one above a command that conflicts
@@ -304,11 +307,11 @@ module _ (done : List (List Op × ℕ)) (ops : List Op) (t : Table)
             ]
       ]
 
-  pub next : IsLeastAbove done ops
+  pub IsLeastAbove-fold : IsLeastAbove done ops
       (fold (λ level a. max level (level_for t.key_levels a)) 0 t.accesses)
-  next = record {
+  IsLeastAbove-fold = record {
     above = above;
-    reached = elim (fold_reached t.key_levels 0 t.accesses) [
+    reached = elim (fold-reached t.key_levels 0 t.accesses) [
       | inl none ↦ inl none
       | inr (a, c, e) ↦ elim (level_reached a c) [
         | inl none ↦ inl (e ∙ none)
@@ -318,11 +321,11 @@ module _ (done : List (List Op × ℕ)) (ops : List Op) (t : Table)
   }
 
   -- the command is done, with any number
-  pub noted : (number : ℕ) (key_levels : List KeyLevels)
+  pub IsKeyTableOf-noted : (number : ℕ) (key_levels : List KeyLevels)
       → key_levels ≡ fold (raise (number + 1)) t.key_levels t.accesses
       → IsKeyTableOf (done ++ (ops, number) ∷ []) []
       (record { keys = t.keys; key_levels = key_levels; accesses = [] })
-  noted number key_levels are_levels_above = record {
+  IsKeyTableOf-noted number key_levels are_levels_above = record {
     known = λ o l k c h. elim (Contains-push_cases done (ops, number) (o, l) c) [
       | inl old ↦ is.known o l k old h
       | inr new ↦
@@ -332,7 +335,7 @@ module _ (done : List (List Op × ℕ)) (ops : List Op) (t : Table)
           subst (Contains t.keys) a.2 (Contains-get_or t.keys a.0.key [] (is.within a.0 a.1))
     ];
     no_repeats = is.no_repeats;
-    key_levels = ap length are_levels_above ∙ length_raised (number + 1) t.accesses t.key_levels
+    key_levels = ap length are_levels_above ∙ length-raised (number + 1) t.accesses t.key_levels
         ∙ is.key_levels;
     touchers = touchers;
     writers = writers;
@@ -347,7 +350,7 @@ module _ (done : List (List Op × ℕ)) (ops : List Op) (t : Table)
         let at : (key_levels_at key_levels x).touchers
         ≡ (key_levels_at (fold (raise (number + 1)) t.key_levels t.accesses) x).touchers =
         ap (λ (bs : List KeyLevels). (key_levels_at bs x).touchers) are_levels_above in
-        elim (touchers_raised (number + 1) t.accesses t.key_levels x
+        elim (touchers-raised (number + 1) t.accesses t.key_levels x
         (omega (arith, is.key_levels))) [
           | inl ((w, c), e) ↦
               let now : (key_levels_at key_levels x).touchers
@@ -376,7 +379,7 @@ module _ (done : List (List Op × ℕ)) (ops : List Op) (t : Table)
         let at : (key_levels_at key_levels x).writers
         ≡ (key_levels_at (fold (raise (number + 1)) t.key_levels t.accesses) x).writers =
         ap (λ (bs : List KeyLevels). (key_levels_at bs x).writers) are_levels_above in
-        elim (writers_raised (number + 1) t.accesses t.key_levels x
+        elim (writers-raised (number + 1) t.accesses t.key_levels x
         (omega (arith, is.key_levels))) [
           | inl (c, e) ↦
               let now : (key_levels_at key_levels x).writers
@@ -399,20 +402,21 @@ module _ (done : List (List Op × ℕ)) (ops : List Op) (t : Table)
 
 -- ---- levels, which are below the number of commands
 
-pub none_small : (t : Table) → IsKeyTableOf [] [] t → IsLevelTableOf [] t
-none_small t is = record { small = λ ops l c. absurd (Contains-nil (ops, l) c); table = is }
+pub IsLevelTableOf-nil : (t : KeyTableView) → IsKeyTableOf [] [] t → IsLevelTableOf [] t
+IsLevelTableOf-nil t is = record { small = λ ops l c. absurd (Contains-nil (ops, l) c); table = is }
 
-pub level_small : (done : List (List Op × ℕ)) (ops : List Op) (t : Table) (level : ℕ)
+pub IsLeastAbove-within : (done : List (List Op × ℕ)) (ops : List Op) (t : KeyTableView) (level : ℕ)
     → IsLevelTableOf done t → IsLeastAbove done ops level → level ≤ length done
-level_small done ops t level is next =
+IsLeastAbove-within done ops t level is next =
     elim next.reached [
       | inl none ↦ omega arith
       | inr (o, l, d, meets, e) ↦ let low = is.small o l d in omega arith
     ]
 
-pub added_by : (ops : List Op) (level : ℕ) (a b c : Table) → CollectsCommand ops level a b
+pub AddsCommand-from_parts : (ops : List Op) (level : ℕ) (a b c : KeyTableView)
+    → CollectsCommand ops level a b
     → NotesCommand level b c → AddsCommand ops level a c
-added_by ops level a b c collects notes done is =
+AddsCommand-from_parts ops level a b c collects notes done is =
     let found = collects done is.table in (
       found.0,
       record {
@@ -421,7 +425,7 @@ added_by ops level a b c collects notes done is =
           | inr new ↦ let same : level ≡ l = ap (λ (e : List Op × ℕ). e.1) new in
               omega (
                 arith,
-                level_small done ops a level is found.0,
+                IsLeastAbove-within done ops a level is found.0,
                 length_push done (ops, level),
               )
         ];
@@ -431,11 +435,12 @@ added_by ops level a b c collects notes done is =
 
 -- ---- adding the keys of a command, operation by operation
 
-pub adds_more_accesses : (ops : List Op) (i : ℕ) (op : Op) (a b c : Table) → i < length ops
+pub AddsAccesses-take_more : (ops : List Op) (i : ℕ) (op : Op) (a b c : KeyTableView)
+    → i < length ops
     → op ≡ get_or ops i op → AddsAccesses (flat_map accesses_of (take i ops)) a b
     → AddsAccesses (accesses_of op) b c
     → AddsAccesses (flat_map accesses_of (take (i + 1) ops)) a c
-adds_more_accesses ops i op a b c within is_op first second =
+AddsAccesses-take_more ops i op a b c within is_op first second =
     let more : flat_map accesses_of (take (i + 1) ops)
     ≡ flat_map accesses_of (take i ops) ++ accesses_of op =
     ap (flat_map accesses_of)
@@ -445,17 +450,17 @@ adds_more_accesses ops i op a b c within is_op first second =
     (AddsAccesses-append (flat_map accesses_of (take i ops)) (accesses_of op) a b c first
     second)
 
-pub adds_all_accesses : (ops : List Op) (i : ℕ) (a b : Table) → length ops ≤ i
+pub IsKeyTableOf-all_accesses : (ops : List Op) (i : ℕ) (a b : KeyTableView) → length ops ≤ i
     → AddsAccesses (flat_map accesses_of (take i ops)) a b → (done : List (List Op × ℕ))
     → IsKeyTableOf done [] a → IsKeyTableOf done (flat_map accesses_of ops) b
-adds_all_accesses ops i a b past adds_access done is =
+IsKeyTableOf-all_accesses ops i a b past adds_access done is =
     subst (λ (l : List Op). IsKeyTableOf done (flat_map accesses_of l) b) (take_all i ops past)
     (adds_access done [] is)
 
 -- each number of a key has levels
-pub keys_within : (done : List (List Op × ℕ)) (current : List (List ℕ × Bool)) (t : Table)
+pub keys-within : (done : List (List Op × ℕ)) (current : List (List ℕ × Bool)) (t : KeyTableView)
     → IsKeyTableOf done current t → All (λ a. a.key < length t.key_levels) t.accesses
-keys_within done current t is k d low =
+keys-within done current t is k d low =
     omega (
       arith,
       is.within (get_or t.accesses k d) (Contains-get_or t.accesses k d low),

@@ -27,17 +27,17 @@ module _ (commands : List (List Op)) (c : Contents) (effects : List Effect)
   their_writes = ap writes_in are ∙ flat_map-map (λ e. e.writes) (effect_over c) commands
 
   -- no two of them write the same key
-  pub no_key_twice : HasDistinctKeys (writes_in effects)
-  no_key_twice = subst (λ (ws : List Write). HasDistinctKeys ws) (sym their_writes)
+  pub HasDistinctKeys-effects : HasDistinctKeys (writes_in effects)
+  HasDistinctKeys-effects = subst (λ (ws : List Write). HasDistinctKeys ws) (sym their_writes)
       (distinct_keys-none_conflict commands apart c)
 
   -- merging their writes yields the contents after them
-  pub merged : (after : Contents) → after ≡ apply_writes (writes_in effects) c
+  pub final-merged : (after : Contents) → after ≡ apply_writes (writes_in effects) c
       → after ≡ (execute commands c).final
-  merged after put = put ∙ ap (λ ws. apply_writes ws c) their_writes
+  final-merged after put = put ∙ ap (λ ws. apply_writes ws c) their_writes
       ∙ sym (final-none_conflict commands apart c)
 
   -- their replies are those of executing them one after another
-  pub replied : replies_in effects ≡ (execute commands c).replies
-  replied = ap replies_in are ∙ map-map (λ e. e.reply) (effect_over c) commands
+  pub replies_in-execute : replies_in effects ≡ (execute commands c).replies
+  replies_in-execute = ap replies_in are ∙ map-map (λ e. e.reply) (effect_over c) commands
       ∙ sym (replies-none_conflict commands apart c)

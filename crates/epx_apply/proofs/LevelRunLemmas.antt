@@ -97,11 +97,11 @@ module _ (commands : List (List Op)) (levels : List ℕ) (opening : Contents) wh
         (ap (map (λ i. slice_index_or after i d)) (sym named) ∙ now)
         ∙ sym on.0
 
-    pub one_level_more : (next : ℕ) → next ≡ suc level → (after : List Reply)
+    pub IsRunUpTo-step : (next : ℕ) → next ≡ suc level → (after : List Reply)
         → after ≡ put_replies members (execute (commands_at commands members) work).replies at
         → (left : Contents) → left ≡ (execute (commands_at commands members) work).final
         → IsRunUpTo commands levels opening next left after
-    one_level_more next follows after put left stored =
+    IsRunUpTo-step next follows after put left stored =
         subst (λ (n : ℕ). IsRunUpTo commands levels opening n left after) (sym follows) (record {
           whole = ap length put ∙ length-put_replies members
               (execute (commands_at commands members) work).replies at ∙ done.whole;

@@ -27,9 +27,9 @@ module _ (positions positions' : List ℕ) (effects effects' : List Effect) (i :
   pub its_position-within : i < length at
   its_position-within = All-head (λ k. k < length at) i positions' here.within
 
-  pub one_more_put : (after : List Reply) → after ≡ set at i e.reply
+  pub ArePutUpTo-step : (after : List Reply) → after ≡ set at i e.reply
       → ArePutUpTo positions' effects' after all
-  one_more_put after put = record {
+  ArePutUpTo-step after put = record {
     len = omega (arith, here.len);
     within = All-weaker (λ k. k < length at) (λ k. k < length after)
         (λ k l. omega (arith, l, ap length put, length-set at i e.reply)) positions'

@@ -1,2 +1,2 @@
-pub mod KeyTables
+pub mod between
 pub mod inner

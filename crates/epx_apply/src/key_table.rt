@@ -3,7 +3,7 @@
 ghost use Rattle.std.specs.Prelude.{◌≡◌, ◌<◌, ◌^◌, ◌+◌, ℕ, List, [], ◌∷◌, length, max, flat_map};
 ghost use Rattle.std.specs.Prelude.{fold, All, IfOk, OnOk};
 ghost use Rattle.epx_types.specs.declared.op.Op.{Op};
-ghost use Rattle.epx_apply.specs.KeyTables.{IsKeyTableOf, CollectsCommand, NotesCommand};
+ghost use Rattle.epx_apply.specs.between.KeyTables.{IsKeyTableOf, CollectsCommand, NotesCommand};
 ghost use Rattle.epx_apply.specs.inner.LevelTables.{IsLevelTableOf, AddsAccesses, AddsCommand};
 ghost use Rattle.epx_apply.specs.inner.LevelTables.{level_for, raise};
 ghost use Rattle.epx_types.specs.CommandKeys.{accesses_of};
@@ -43,9 +43,9 @@ pub struct KeyTable<'a> {
 
 impl<'a> Model for KeyTable<'a> {
     ghost use Rattle.std.specs.Prelude.{map};
-    ghost use Rattle.epx_apply.specs.KeyTables.{Table};
+    ghost use Rattle.epx_apply.specs.between.KeyTables.{KeyTableView};
 
-    ghost Value = { Table };
+    ghost Value = { KeyTableView };
 
     ghost view = { λ t. record {
       keys = map (λ k. k.now) t.keys.keys;

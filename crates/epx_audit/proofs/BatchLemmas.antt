@@ -3,19 +3,19 @@ use Rattle.std.proofs.Common.{◌≡◌, inl, inr, ℕ, ◌<◌, List, Bool, len
 use Rattle.std.proofs.Common.{arith}
 use Rattle.epx_types.proofs.Common.{cases_Bool, false≢true}
 use Rattle.epx_graph.proofs.Common.{DependencyGraph, edges_of}
-use Rattle.epx_components.specs.Partitions.{ComponentParts, IsPartitionOf, number_for}
+use Rattle.epx_components.specs.between.Partitions.{ComponentParts, IsPartitionOf, number_for}
 use Rattle.epx_audit.specs.declared.batch.SourceBatch.{SourceBatch}
 use Rattle.epx_audit.specs.declared.doubtful_touches.DoubtfulTouch.{DoubtfulTouch}
 use Rattle.epx_audit.specs.inner.Batches.{IsBatch, IsWhole, IsReadyApart}
 use Rattle.epx_audit.specs.inner.DoubtfulKeys.{IsRelatedOrFree}
-use Rattle.epx_components.specs.ReadyMarks.{is_marked}
+use Rattle.epx_components.specs.between.ReadyMarks.{is_marked}
 use Rattle.epx_audit.specs.inner.SourceBits.{has_bit, HasAlone}
 
 module _ (g : DependencyGraph) (p : ComponentParts) (touches : List DoubtfulTouch)
     (sources : List ℕ)
     (words : SourceBatch) (ready : List Bool) (is : IsBatch g p touches sources words) where
-  pub batch_whole : IsPartitionOf g p → length ready ≡ length g.ids → IsWhole p ready words
-  batch_whole partition same = record {
+  pub IsWhole-batch : IsPartitionOf g p → length ready ≡ length g.ids → IsWhole p ready words
+  IsWhole-batch partition same = record {
     counted = partition.is.counted;
     components = (is.whole.0, is.whole.1);
     nodes = (omega (arith, is.whole.2, is.nodes), omega (arith, same, is.nodes));
@@ -27,9 +27,9 @@ module _ (g : DependencyGraph) (p : ComponentParts) (touches : List DoubtfulTouc
     IsOwn = HasAlone b (get_or words.sharing.items k 0) (number_for p words.reached.items k)
         (number_for p words.reaching.items k)
 
-    pub apart_by_bits : IsTrue (is_marked ready k) → IsOwn
+    pub IsReadyApart-by_bits : IsTrue (is_marked ready k) → IsOwn
         → IsReadyApart (edges_of g) ready (get_or sources b 0) k
-    apart_by_bits is_ready own =
+    IsReadyApart-by_bits is_ready own =
         let lk : k < length g.ids = omega (arith, below, is.nodes) in
         record {
           is_ready = is_ready;
@@ -39,9 +39,9 @@ module _ (g : DependencyGraph) (p : ComponentParts) (touches : List DoubtfulTouc
           );
         }
 
-    pub related_or_free_by_bits : ¬ IsOwn
+    pub IsRelatedOrFree-by_bits : ¬ IsOwn
         → IsRelatedOrFree (edges_of g) ready touches (get_or sources b 0) k
-    related_or_free_by_bits none is_ready share =
+    IsRelatedOrFree-by_bits none is_ready share =
         let lk : k < length g.ids = omega (arith, below, is.nodes) in
         elim (cases_Bool (has_bit b (number_for p words.reached.items k))) [
           | inl has ↦ inl ((is.reached b k within lk).0 has)

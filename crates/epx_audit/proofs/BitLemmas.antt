@@ -9,48 +9,49 @@ use Rattle.std.proofs.lemmas.Nat.Bits.{bit_at-lt, bit_at-zero, bit_at_or, bit_at
 use Rattle.std.specs.Int.{bit_not}
 use Rattle.epx_audit.specs.inner.SourceBits.{has_bit}
 
-pub bit_one : (b w : ℕ) → IsTrue (has_bit b w) ↔ (bit_at w b ≡ 1)
-bit_one b w = grind (arith, tests)
+pub has_bit-bit_at : (b w : ℕ) → IsTrue (has_bit b w) ↔ (bit_at w b ≡ 1)
+has_bit-bit_at b w = grind (arith, tests)
 
-pub bit_none : (b w : ℕ) → has_bit b w ≡ false → bit_at w b ≡ 0
-bit_none b w none = elim (cases_lt 0 (bit_at w b)) [
+pub bit_at-none : (b w : ℕ) → has_bit b w ≡ false → bit_at w b ≡ 0
+bit_at-none b w none = elim (cases_lt 0 (bit_at w b)) [
   | inl some ↦ absurd
-      (false≢true (sym none ∙ (bit_one b w).1 (omega (arith, some, bit_at-lt w b))))
+      (false≢true (sym none ∙ (has_bit-bit_at b w).1 (omega (arith, some, bit_at-lt w b))))
   | inr not ↦ omega arith
 ]
 
-pub no_bit : (b : ℕ) → ¬ IsTrue (has_bit b 0)
-no_bit b h = omega (arith, (bit_one b 0).0 h, bit_at-zero b)
+pub has_bit-zero : (b : ℕ) → ¬ IsTrue (has_bit b 0)
+has_bit-zero b h = omega (arith, (has_bit-bit_at b 0).0 h, bit_at-zero b)
 
-pub or_bit : (b v w : ℕ) → IsTrue (has_bit b (bit_or v w))
+pub has_bit-or : (b v w : ℕ) → IsTrue (has_bit b (bit_or v w))
     ↔ (IsTrue (has_bit b v) ⊎ IsTrue (has_bit b w))
-or_bit b v w = (
+has_bit-or b v w = (
   λ h. elim (cases_Bool (has_bit b v)) [
     | inl has ↦ inl has
     | inr lacks ↦ inr
-        ((bit_one b w).1
-        (omega (arith, (bit_one b (bit_or v w)).0 h, bit_at_or v w b, bit_none b v lacks)))
+        ((has_bit-bit_at b w).1
+        (omega
+        (arith, (has_bit-bit_at b (bit_or v w)).0 h, bit_at_or v w b, bit_at-none b v lacks)))
   ],
-  λ h. (bit_one b (bit_or v w)).1 (elim h [
-    | inl first ↦ omega (arith, (bit_one b v).0 first, bit_at_or v w b, bit_at-lt w b)
-    | inr second ↦ omega (arith, (bit_one b w).0 second, bit_at_or v w b, bit_at-lt v b)
+  λ h. (has_bit-bit_at b (bit_or v w)).1 (elim h [
+    | inl first ↦ omega (arith, (has_bit-bit_at b v).0 first, bit_at_or v w b, bit_at-lt w b)
+    | inr second ↦ omega (arith, (has_bit-bit_at b w).0 second, bit_at_or v w b, bit_at-lt v b)
   ]),
 )
 
 -- after bits are added to one word
-pub or_at : (words : List ℕ) (k v : ℕ) → k < length words → (b c : ℕ)
+pub has_bit-set_or : (words : List ℕ) (k v : ℕ) → k < length words → (b c : ℕ)
     → IsTrue (has_bit b (get_or (set words k (bit_or (get_or words k 0) v)) c 0))
     ↔ (IsTrue (has_bit b (get_or words c 0)) ⊎ ((k ≡ c) × IsTrue (has_bit b v)))
-or_at words k v l b c = elim (cases_eq c k) [
+has_bit-set_or words k v l b c = elim (cases_eq c k) [
   | inl same ↦
       let is : get_or new c 0 ≡ bit_or (get_or words k 0) v =
       ap (λ c. get_or new c 0) same ∙ get_or-set_same words k more 0 l in (
-        λ h. elim ((or_bit b (get_or words k 0) v).0 (subst (λ w. IsTrue (has_bit b w)) is h)) [
+        λ h. elim ((has_bit-or b (get_or words k 0) v).0 (subst (λ w. IsTrue (has_bit b w)) is h)) [
           | inl was ↦ inl (subst (λ c. IsTrue (has_bit b (get_or words c 0))) (sym same) was)
           | inr now ↦ inr (sym same, now)
         ],
         λ h. subst (λ w. IsTrue (has_bit b w)) (sym is)
-            ((or_bit b (get_or words k 0) v).1 (elim h [
+            ((has_bit-or b (get_or words k 0) v).1 (elim h [
               | inl was ↦ inl (subst (λ c. IsTrue (has_bit b (get_or words c 0))) same was)
               | inr now ↦ inr now.1
             ])),
@@ -74,43 +75,45 @@ or_at words k v l b c = elim (cases_eq c k) [
 abbrev pub bits_of : ℕ → List ℕ → List Bool
 bits_of b words = map (has_bit b) words
 
-pub bits_at : (b : ℕ) (words : List ℕ) (c : ℕ)
+pub bits_of-get_or : (b : ℕ) (words : List ℕ) (c : ℕ)
     → get_or (bits_of b words) c false ≡ has_bit b (get_or words c 0)
-bits_at b words c = elim (cases_lt c (length words)) [
+bits_of-get_or b words c = elim (cases_lt c (length words)) [
   | inl within ↦ get_or-map (has_bit b) words c 0 false within
   | inr past ↦
       let none : has_bit b 0 ≡ false = elim (cases_Bool (has_bit b 0))
-      [ inl has ↦ absurd (no_bit b has) | inr lacks ↦ lacks ] in
+      [ inl has ↦ absurd (has_bit-zero b has) | inr lacks ↦ lacks ] in
       get_or_past (bits_of b words) c false (omega (arith, past, length-map words (has_bit b)))
       ∙ sym (ap (has_bit b) (get_or_past words c 0 (omega (arith, past))) ∙ none)
 ]
 
 bit_zero : (b w : ℕ) → ¬ IsTrue (has_bit b w) → bit_at w b ≡ 0
 bit_zero b w not = elim (cases_Bool (has_bit b w))
-    [ inl has ↦ absurd (not has) | inr lacks ↦ bit_none b w lacks ]
+    [ inl has ↦ absurd (not has) | inr lacks ↦ bit_at-none b w lacks ]
 
 -- the bits of s that are in neither r nor t
-pub candidate_bits : (s r t b : ℕ) → b < 64 → bit_or r t < 2 ^ 64
+pub has_bit-candidates : (s r t b : ℕ) → b < 64 → bit_or r t < 2 ^ 64
     → IsTrue (has_bit b (bit_and s (bit_not w64 (bit_or r t))))
     ↔ (IsTrue (has_bit b s) × (¬ IsTrue (has_bit b r)) × (¬ IsTrue (has_bit b t)))
-candidate_bits s r t b l fits =
+has_bit-candidates s r t b l fits =
     let rest = bit_not w64 (bit_or r t) in
     let joined = bit_at_and s rest b in
     let turned = bit_at_not w64 (bit_or r t) b fits l in
     let either = bit_at_or r t b in (
       λ h.
-          let one = (bit_one b (bit_and s rest)).0 h in (
-            (bit_one b s).1 (omega (arith, one, joined, bit_at-lt s b)),
-            (λ hr. omega (arith, one, joined, turned, either, (bit_one b r).0 hr, bit_at-lt t b)),
-            (λ ht. omega (arith, one, joined, turned, either, (bit_one b t).0 ht, bit_at-lt r b)),
+          let one = (has_bit-bit_at b (bit_and s rest)).0 h in (
+            (has_bit-bit_at b s).1 (omega (arith, one, joined, bit_at-lt s b)),
+            (λ hr. omega
+                (arith, one, joined, turned, either, (has_bit-bit_at b r).0 hr, bit_at-lt t b)),
+            (λ ht. omega
+                (arith, one, joined, turned, either, (has_bit-bit_at b t).0 ht, bit_at-lt r b)),
           ),
-      λ h. (bit_one b (bit_and s rest)).1
+      λ h. (has_bit-bit_at b (bit_and s rest)).1
           (omega (
             arith,
             joined,
             turned,
             either,
-            (bit_one b s).0 h.0,
+            (has_bit-bit_at b s).0 h.0,
             bit_zero b r h.1,
             bit_zero b t h.2,
           )),

@@ -5,24 +5,25 @@ use Rattle.std.proofs.Common.{arith}
 use Rattle.epx_types.proofs.Common.{DefaultHasher, get_or_default, slice_get_within, IsRising}
 use Rattle.epx_types.proofs.Common.{Instance, Ranked, IsExecutionOrder, Reaches, Contains-slice_get}
 use Rattle.epx_types.proofs.Common.{position_of-found}
-use Rattle.epx_graph.proofs.Common.{DependencyGraph, edges_of, IsGraphOf, committed_count}
-use Rattle.epx_graph.proofs.Common.{node_reaches}
+use Rattle.epx_graph.proofs.Common.{DependencyGraph, edges_of, IsGraphOf, committed-count}
+use Rattle.epx_graph.proofs.Common.{NodeReaches-iff}
 use Rattle.epx_audit.specs.declared.doubtful_touches.DoubtfulTouch.{DoubtfulTouch}
 use Rattle.epx_audit.specs.declared.touches.KeyUse.{KeyUse}
 use Rattle.epx_audit.specs.inner.RelatedTouches.{AreAllRelated}
 use Rattle.epx_audit.specs.inner.DoubtfulKeys.{doubtful_touch, ShareKey, HoldAllConflicts}
-use Rattle.epx_components.specs.ReadyMarks.{AreReadyMarks}
+use Rattle.epx_components.specs.between.ReadyMarks.{AreReadyMarks}
 use Rattle.epx_audit.specs.inner.Touches.{touch, hash_of, hashed_touches, HoldTouches}
 use Rattle.epx_audit.specs.inner.ReachIndexes.{AreOrderNodes}
-use Rattle.epx_audit.proofs.HashLemmas.{contains_or_not}
-use Rattle.epx_audit.proofs.QuickAuditLemmas.{HasPosition, position_of_ready, related}
-use Rattle.epx_components.proofs.ReadyMarkLemmas.{ready_from_mark}
-use Rattle.epx_components.proofs.ReadyRankLemmas.{node_of_place}
-use Rattle.epx_audit.proofs.TouchLemmas.{touch_of_touched, touch_of_written}
+use Rattle.epx_audit.proofs.HashLemmas.{Contains-or_not}
+use Rattle.epx_audit.proofs.QuickAuditLemmas.{HasPosition, HasPosition-from_ready}
+use Rattle.epx_audit.proofs.QuickAuditLemmas.{Reaches-from_touches}
+use Rattle.epx_components.proofs.ReadyMarkLemmas.{IsReady-from_mark}
+use Rattle.epx_components.proofs.ReadyRankLemmas.{slice_get-node}
+use Rattle.epx_audit.proofs.TouchLemmas.{hashed_touches-touched, hashed_touches-written}
 
 module _ (m : List Instance) (g : DependencyGraph) (is : IsGraphOf m g) where
   within : (k : ℕ) (d : Instance) → slice_get m k ≡ Some d → k < g.committed
-  within k d at = omega (arith, slice_get_within m k d at, committed_count m g is)
+  within k d at = omega (arith, slice_get_within m k d at, committed-count m g is)
 
   -- an instance is at one position of the map
   one_place : (k j : ℕ) (d e : Instance) → slice_get m k ≡ Some d → slice_get m j ≡ Some e
@@ -34,10 +35,10 @@ module _ (m : List Instance) (g : DependencyGraph) (is : IsGraphOf m g) where
       cc both
 
   -- if all nodes write one key
-  pub hold_if_all_doubtful : (touches : List DoubtfulTouch)
+  pub HoldAllConflicts-if_all_doubtful : (touches : List DoubtfulTouch)
       → ((k : ℕ) → k < length m → Contains touches (record { key = 0; node = k; writes = true }))
       → (ready : List Bool) → HoldAllConflicts m (edges_of g) ready touches
-  hold_if_all_doubtful touches all ready k j d e above at to k_ready j_ready conflict =
+  HoldAllConflicts-if_all_doubtful touches all ready k j d e above at to k_ready j_ready conflict =
       inr (record {
         mine = record { key = 0; node = k; writes = true };
         other = record { key = 0; node = j; writes = true };
@@ -65,7 +66,7 @@ module _ (m : List Instance) (g : DependencyGraph) (is : IsGraphOf m g) where
     by_key d e s t differ k w v in_d in_e one =
         let mine = hold s.position d (touch start s.position k w) s.within s.at in_d in
         let other = hold t.position e (touch start t.position k v) t.within t.at in_e in
-        elim (contains_or_not hashes (hash_of start k)) [
+        elim (Contains-or_not hashes (hash_of start k)) [
           | inl there ↦
               let key : get_or hashes there.0 0 ≡ hash_of start k =
               get_or_default hashes there.0 0 _ there.1 ∙ there.2 in
@@ -77,19 +78,20 @@ module _ (m : List Instance) (g : DependencyGraph) (is : IsGraphOf m g) where
                 alike = refl;
                 writes = one;
               })
-          | inr certain ↦ inl (related m g is order orders nodes are start sure linked d e s t
+          | inr certain ↦ inl
+              (Reaches-from_touches m g is order orders nodes are start sure linked d e s t
               differ k w v (keeps _ mine certain) (keeps _ other certain) one)
         ]
 
-    pub hold_all_conflicts : (ready : List Bool) → AreReadyMarks g ready
+    pub HoldAllConflicts-doubtful : (ready : List Bool) → AreReadyMarks g ready
         → HoldAllConflicts m (edges_of g) ready doubtful
-    hold_all_conflicts ready marks k j d e above at to k_ready j_ready conflict =
-        let node_k = node_of_place m g is k d at (within k d at) in
-        let node_j = node_of_place m g is j e to (within j e to) in
-        let s = position_of_ready m g is order orders nodes are d (Contains-slice_get m k d at)
-        (ready_from_mark m g is ready marks k d.id node_k k_ready) in
-        let t = position_of_ready m g is order orders nodes are e (Contains-slice_get m j e to)
-        (ready_from_mark m g is ready marks j e.id node_j j_ready) in
+    HoldAllConflicts-doubtful ready marks k j d e above at to k_ready j_ready conflict =
+        let node_k = slice_get-node m g is k d at (within k d at) in
+        let node_j = slice_get-node m g is j e to (within j e to) in
+        let s = HasPosition-from_ready m g is order orders nodes are d (Contains-slice_get m k d at)
+        (IsReady-from_mark m g is ready marks k d.id node_k k_ready) in
+        let t = HasPosition-from_ready m g is order orders nodes are e (Contains-slice_get m j e to)
+        (IsReady-from_mark m g is ready marks j e.id node_j j_ready) in
         let position : get_or nodes s.position 0 ≡ k = one_place _ k d d s.at at refl in
         let position' : get_or nodes t.position 0 ≡ j = one_place _ j e e t.at to refl in
         let differ : d.id ≢ e.id = λ same. let one = one_place k j d e at to same in
@@ -99,18 +101,18 @@ module _ (m : List Instance) (g : DependencyGraph) (is : IsGraphOf m g) where
         ⊎ ShareKey doubtful (get_or nodes s.position 0) (get_or nodes t.position 0) =
         elim conflict.1 [
           | inl first ↦
-              let other = touch_of_touched start t.position e.ops key first.1 in
+              let other = hashed_touches-touched start t.position e.ops key first.1 in
               by_key d e s t differ key true other.0
-              (touch_of_written start s.position d.ops key first.0) other.1 (inl refl)
+              (hashed_touches-written start s.position d.ops key first.0) other.1 (inl refl)
           | inr second ↦
-              let other = touch_of_touched start s.position d.ops key second.0 in
+              let other = hashed_touches-touched start s.position d.ops key second.0 in
               by_key d e s t differ key other.0 true other.1
-              (touch_of_written start t.position e.ops key second.1) (inr refl)
+              (hashed_touches-written start t.position e.ops key second.1) (inr refl)
         ] in
         elim either [
           | inl related ↦ inl (elim related [
-            | inl there ↦ inl ((node_reaches m g is k j d.id e.id node_k node_j).1 there)
-            | inr back ↦ inr ((node_reaches m g is j k e.id d.id node_j node_k).1 back)
+            | inl there ↦ inl ((NodeReaches-iff m g is k j d.id e.id node_k node_j).1 there)
+            | inr back ↦ inr ((NodeReaches-iff m g is j k e.id d.id node_j node_k).1 back)
           ])
           | inr share ↦ inr (subst₂ (ShareKey doubtful) position position' share)
         ]

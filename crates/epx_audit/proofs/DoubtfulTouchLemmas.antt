@@ -30,20 +30,20 @@ HoldFound nodes touches hashes found n = (i key : ℕ) → i < n → key < lengt
 
 module _ (touches : List KeyUse) (hashes : List ℕ) where
   -- a touch of a key by its number
-  pub touch_at_index : (t : KeyUse) (h : Contains touches t) → touch_at touches h.0 ≡ t
-  touch_at_index t h = get_or_default touches h.0 _ t h.1 ∙ h.2
+  pub touch_at-index : (t : KeyUse) (h : Contains touches t) → touch_at touches h.0 ≡ t
+  touch_at-index t h = get_or_default touches h.0 _ t h.1 ∙ h.2
 
   module _ (sure : List KeyUse) (n : ℕ) where
-    pub other_touches_more : n < length touches → AreSome touches sure
+    pub AreSome-push : n < length touches → AreSome touches sure
         → AreSome touches (sure ++ touch_at touches n ∷ [])
-    other_touches_more l old t h = elim (Contains-push_cases sure (touch_at touches n) t h) [
+    AreSome-push l old t h = elim (Contains-push_cases sure (touch_at touches n) t h) [
       | inl was ↦ old t was
       | inr now ↦ subst (Contains touches) now (Contains-get_or touches n _ l)
     ]
 
-    pub hold_more : HoldOthers touches hashes sure n
+    pub HoldOthers-push : HoldOthers touches hashes sure n
         → HoldOthers touches hashes (sure ++ touch_at touches n ∷ []) (n + 1)
-    hold_more old i l none = elim (cases_lt i n) [
+    HoldOthers-push old i l none = elim (cases_lt i n) [
       | inl past ↦ Contains-append_left sure (touch_at touches n ∷ []) (touch_at touches i)
           (old i past none)
       | inr here ↦
@@ -52,9 +52,10 @@ module _ (touches : List KeyUse) (hashes : List ℕ) where
           (Contains-push sure (touch_at touches n))
     ]
 
-    pub hold_same : Contains hashes (touch_at touches n).hash → HoldOthers touches hashes sure n
+    pub HoldOthers-skip : Contains hashes (touch_at touches n).hash
+        → HoldOthers touches hashes sure n
         → HoldOthers touches hashes sure (n + 1)
-    hold_same some old i l none = elim (cases_lt i n) [
+    HoldOthers-skip some old i l none = elim (cases_lt i n) [
       | inl past ↦ old i past none
       | inr here ↦
           let same : n ≡ i = omega arith in
@@ -62,10 +63,11 @@ module _ (touches : List KeyUse) (hashes : List ℕ) where
     ]
 
   module _ (nodes : List ℕ) (found : List DoubtfulTouch) (n : ℕ) where
-    pub found_more : (key : ℕ) → (touch_at touches n).position < length nodes → key < length hashes
+    pub AreFound-push : (key : ℕ) → (touch_at touches n).position < length nodes
+        → key < length hashes
         → AreFound nodes hashes found
         → AreFound nodes hashes (found ++ doubtful_touch nodes key (touch_at touches n) ∷ [])
-    found_more key placed l old t h =
+    AreFound-push key placed l old t h =
         elim (Contains-push_cases found (doubtful_touch nodes key (touch_at touches n)) t h) [
           | inl was ↦ old t was
           | inr now ↦ subst (λ (t : DoubtfulTouch). Contains nodes t.node
@@ -73,12 +75,12 @@ module _ (touches : List KeyUse) (hashes : List ℕ) where
               now (Contains-get_or nodes (touch_at touches n).position 0 placed, l)
         ]
 
-    pub all_more : (key : ℕ)
+    pub HoldFound-push : (key : ℕ)
         → ((other : ℕ) → other < length hashes → get_or hashes other 0 ≡ (touch_at touches n).hash
         → key ≡ other) → HoldFound nodes touches hashes found n
         → HoldFound nodes touches hashes
         (found ++ doubtful_touch nodes key (touch_at touches n) ∷ []) (n + 1)
-    all_more key one old i other l within is = elim (cases_lt i n) [
+    HoldFound-push key one old i other l within is = elim (cases_lt i n) [
       | inl past ↦ Contains-append_left found (doubtful_touch nodes key (touch_at touches n) ∷ [])
           _ (old i other past within is)
       | inr here ↦
@@ -95,9 +97,9 @@ module _ (touches : List KeyUse) (hashes : List ℕ) where
           (Contains-push found (doubtful_touch nodes key (touch_at touches n))))
     ]
 
-    pub all_same : ¬ Contains hashes (touch_at touches n).hash
+    pub HoldFound-skip : ¬ Contains hashes (touch_at touches n).hash
         → HoldFound nodes touches hashes found n → HoldFound nodes touches hashes found (n + 1)
-    all_same none old i other l within is = elim (cases_lt i n) [
+    HoldFound-skip none old i other l within is = elim (cases_lt i n) [
       | inl past ↦ old i other past within is
       | inr here ↦
           let same : i ≡ n = omega arith in
@@ -111,9 +113,10 @@ abbrev pub writes_the_only_key : ℕ → DoubtfulTouch
 writes_the_only_key node = record { key = 0; node = node; writes = true }
 
 module _ (touches : List DoubtfulTouch) (n : ℕ) where
-  pub all_doubtful_more : ((k : ℕ) → k < n → Contains touches (writes_the_only_key k)) → (k : ℕ)
+  pub writes_the_only_key-push : ((k : ℕ) → k < n → Contains touches (writes_the_only_key k))
+      → (k : ℕ)
       → k < n + 1 → Contains (touches ++ writes_the_only_key n ∷ []) (writes_the_only_key k)
-  all_doubtful_more old k l = elim (cases_lt k n) [
+  writes_the_only_key-push old k l = elim (cases_lt k n) [
     | inl past ↦ Contains-append_left touches (writes_the_only_key n ∷ []) (writes_the_only_key k)
         (old k past)
     | inr here ↦
@@ -122,9 +125,9 @@ module _ (touches : List DoubtfulTouch) (n : ℕ) where
         (Contains-push touches (writes_the_only_key n))
   ]
 
-  pub all_doubtful_in_range : AreInRange n 1 touches
+  pub AreInRange-push : AreInRange n 1 touches
       → AreInRange (n + 1) 1 (touches ++ writes_the_only_key n ∷ [])
-  all_doubtful_in_range old t h = elim (Contains-push_cases touches (writes_the_only_key n) t h) [
+  AreInRange-push old t h = elim (Contains-push_cases touches (writes_the_only_key n) t h) [
     | inl was ↦ let o = old t was in (omega (arith, o.0), o.1)
     | inr now ↦ subst (λ (t : DoubtfulTouch). (t.node < n + 1) × (t.key < 1)) now
         (omega arith, omega arith)

@@ -1,20 +1,21 @@
 -- A committed map is covered, or it has a least uncovered pair.
 use Rattle.std.proofs.Common.{◌≡◌, ◌⊎◌, List, Contains, refl, sym, subst, inl, inr}
 use Rattle.epx_types.proofs.Common.{Below, UpTo, Instance, ids_of, Conflict, IsCovered, IsReady}
-use Rattle.epx_types.proofs.Common.{Conflict-symm, id_cmp_total, id_cmp-IsAntisymmetric}
-use Rattle.epx_types.proofs.Common.{some_or_none, least_or_none, Conflict-cases, ready_or_waits}
-use Rattle.epx_types.proofs.Common.{IsReady-not_waiting, both_cases, not_cases, Reaches-cases}
-use Rattle.epx_types.proofs.Common.{below_asymm, below_cases, Contains-Id_cases, Id-cases}
+use Rattle.epx_types.proofs.Common.{Conflict-symm, id_cmp-IsTotalOrder, id_cmp-IsAntisymmetric}
+use Rattle.epx_types.proofs.Common.{Contains-some_or_none, IsLeastOf-or_none, Conflict-cases}
+use Rattle.epx_types.proofs.Common.{IsReady-or_waits}
+use Rattle.epx_types.proofs.Common.{IsReady-not_waiting, both-cases, negation-cases, Reaches-cases}
+use Rattle.epx_types.proofs.Common.{is_lt-asymm, is_lt-cases, Contains-Id_cases, Id-cases}
 use Rattle.epx_types.specs.declared.id.Id.{Id}
 use Rattle.epx_audit.specs.Uncovered.{IsUncovered, IsLeastUncovered}
 
 Below-cases : (x y : Id) → Below x y ⊎ (¬ Below x y)
-Below-cases x y = elim (below_cases id_cmp_total id_cmp-IsAntisymmetric x y) [
+Below-cases x y = elim (is_lt-cases id_cmp-IsTotalOrder id_cmp-IsAntisymmetric x y) [
   | inl lower ↦ inl lower
   | inr (inl same) ↦ inr
-      (λ lower. below_asymm id_cmp_total x y lower
+      (λ lower. is_lt-asymm id_cmp-IsTotalOrder x y lower
       (subst (λ z. Below z x) same (subst (Below x) (sym same) lower)))
-  | inr (inr higher) ↦ inr (λ lower. below_asymm id_cmp_total x y lower higher)
+  | inr (inr higher) ↦ inr (λ lower. is_lt-asymm id_cmp-IsTotalOrder x y lower higher)
 ]
 
 module _ (m : List Instance) where
@@ -22,7 +23,7 @@ module _ (m : List Instance) where
 
   IsReady-cases : (x : Id) → IsReady m x ⊎ (¬ IsReady m x)
   IsReady-cases x = elim (Contains-Id_cases (ids_of m) x) [
-    | inl committed ↦ elim (ready_or_waits m x committed) [
+    | inl committed ↦ elim (IsReady-or_waits m x committed) [
       | inl ready ↦ inl ready
       | inr waits ↦ inr (λ ready. IsReady-not_waiting m x waits.0 ready waits.1)
     ]
@@ -34,7 +35,8 @@ module _ (m : List Instance) where
       → ((d : Instance) × Contains m d × (d.id ≡ x) × P d)
       ⊎ (¬ ((d : Instance) × Contains m d × (d.id ≡ x) × P d))
   of_name P decide x =
-      elim (some_or_none (λ d. (d.id ≡ x) × P d) (λ d. both_cases (Id-cases d.id x) (decide d)) m) [
+      elim (Contains-some_or_none (λ d. (d.id ≡ x) × P d)
+      (λ d. both-cases (Id-cases d.id x) (decide d)) m) [
         | inl found ↦ inl (found.0, found.1, found.2.0, found.2.1)
         | inr none ↦ inr (λ h. none h.0 h.1 (h.2, h.3))
       ]
@@ -53,9 +55,9 @@ module _ (m : List Instance) where
 
   IsUncovered-cases : (x y : Id) → IsUncovered m x y ⊎ (¬ IsUncovered m x y)
   IsUncovered-cases x y =
-      elim (both_cases (both_cases (IsReady-cases x) (IsReady-cases y))
-      (both_cases (Conflicting-cases x y)
-      (both_cases (not_cases (Reaches-cases m x y)) (not_cases (Reaches-cases m y x))))) [
+      elim (both-cases (both-cases (IsReady-cases x) (IsReady-cases y))
+      (both-cases (Conflicting-cases x y)
+      (both-cases (negation-cases (Reaches-cases m x y)) (negation-cases (Reaches-cases m y x))))) [
         | inl found ↦ inl (record { ready = found.0; conflict = found.1.0; apart = found.1.1 })
         | inr none ↦ inr (λ h. none (h.ready, (h.conflict, h.apart)))
       ]
@@ -66,13 +68,13 @@ module _ (m : List Instance) where
   IsPairOf x y = Below x y × IsUncovered m x y
 
   IsPairOf-cases : (x y : Id) → IsPairOf x y ⊎ (¬ IsPairOf x y)
-  IsPairOf-cases x y = both_cases (Below-cases x y) (IsUncovered-cases x y)
+  IsPairOf-cases x y = both-cases (Below-cases x y) (IsUncovered-cases x y)
 
   abbrev BeginsPair : Id → Type 0
   BeginsPair x = (y : Id) × Contains (ids_of m) y × IsPairOf x y
 
   BeginsPair-cases : (x : Id) → BeginsPair x ⊎ (¬ BeginsPair x)
-  BeginsPair-cases x = elim (some_or_none (IsPairOf x) (IsPairOf-cases x) (ids_of m)) [
+  BeginsPair-cases x = elim (Contains-some_or_none (IsPairOf x) (IsPairOf-cases x) (ids_of m)) [
     | inl found ↦ inl found
     | inr none ↦ inr (λ h. none h.0 h.1 h.2)
   ]
@@ -86,7 +88,7 @@ module _ (m : List Instance) where
         | inl there ↦ inl there
         | inr not_there ↦ elim (Reaches-cases m e.id d.id) [
           | inl back ↦ inr back
-          | inr not_back ↦ elim (below_cases id_cmp_total id_cmp-IsAntisymmetric d.id e.id) [
+          | inr not_back ↦ elim (is_lt-cases id_cmp-IsTotalOrder id_cmp-IsAntisymmetric d.id e.id) [
             | inl lower ↦ absurd (none d.id d_ready.committed (begins d.id e.id (
               lower,
               record {
@@ -111,7 +113,7 @@ module _ (m : List Instance) where
   least_pair : (x : Id) → BeginsPair x
       → ((v : Id) → Contains (ids_of m) v → BeginsPair v → UpTo x v)
       → (y : Id) × IsLeastUncovered m x y
-  least_pair x begun lowest = elim (least_or_none (IsPairOf x) (IsPairOf-cases x) (ids_of m)) [
+  least_pair x begun lowest = elim (IsLeastOf-or_none (IsPairOf x) (IsPairOf-cases x) (ids_of m)) [
     | inl found ↦ (
       found.0,
       record {
@@ -131,8 +133,8 @@ module _ (m : List Instance) where
     | inr none ↦ absurd (none begun.0 begun.1 begun.2)
   ]
 
-  pub covered_or_not : IsCovered m ⊎ ((x y : Id) × IsLeastUncovered m x y)
-  covered_or_not = elim (least_or_none BeginsPair BeginsPair-cases (ids_of m)) [
+  pub IsCovered-or_uncovered : IsCovered m ⊎ ((x y : Id) × IsLeastUncovered m x y)
+  IsCovered-or_uncovered = elim (IsLeastOf-or_none BeginsPair BeginsPair-cases (ids_of m)) [
     | inl found ↦ let second = least_pair found.0 found.1.0 found.1.1 in
         inr (found.0, second.0, second.1)
     | inr none ↦ inl (covered_without_pairs none)

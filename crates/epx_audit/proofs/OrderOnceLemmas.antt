@@ -31,9 +31,9 @@ module _ (m : List Instance) (order : List Ranked) (nodes : List ℕ)
       (slice_get-map (λ (r : Ranked). r.id) order q s.0 s.1) ids
 
   -- positions of one node are equal
-  pub nodes_once : (p q : ℕ) → p < length nodes → q < length nodes
+  pub get_or-nodes_once : (p q : ℕ) → p < length nodes → q < length nodes
       → get_or nodes p 0 ≡ get_or nodes q 0 → p ≡ q
-  nodes_once p q p_in q_in same = elim (cases_lt p q) [
+  get_or-nodes_once p q p_in q_in same = elim (cases_lt p q) [
     | inl below ↦ absurd (distinct p q below q_in same)
     | inr above ↦ elim (cases_lt q p) [
       | inl below ↦ absurd (distinct q p below p_in (sym same))

@@ -7,30 +7,33 @@ use Rattle.epx_types.proofs.Common.{get_or-set_same, get_or-set_other, length_pu
 use Rattle.epx_types.proofs.Common.{get_or_from_slice_get, slice_get_within, Instance, Ranked}
 use Rattle.epx_types.proofs.Common.{slice_get-from_Contains, All-push, get_or_read}
 use Rattle.epx_types.proofs.Common.{All-nil, Contains-get_or}
-use Rattle.epx_graph.proofs.Common.{DependencyGraph, edges_of, IsGraphOf, NodeReaches, node_reaches}
-use Rattle.epx_components.specs.ReadyMarks.{is_marked}
+use Rattle.epx_graph.proofs.Common.{DependencyGraph, edges_of, IsGraphOf, NodeReaches}
+use Rattle.epx_graph.proofs.Common.{NodeReaches-iff}
+use Rattle.epx_components.specs.between.ReadyMarks.{is_marked}
 use Rattle.epx_audit.specs.declared.pair_marks.LeftPair.{LeftPair}
-use Rattle.epx_audit.specs.RelatedPairs.{AreRelatedMarks}
+use Rattle.epx_audit.specs.between.RelatedPairs.{AreRelatedMarks}
 use Rattle.epx_audit.specs.inner.PairMarks.{pair_at, IsExact, AreExactMarks, IsLeftPair}
 use Rattle.epx_audit.specs.inner.PairMarks.{AreExactBut, left_at}
-use Rattle.epx_components.specs.Partitions.{ComponentParts, IsPartitionOf, component_of, number_for}
-use Rattle.epx_components.proofs.PartitionLemmas.{component_below}
+use Rattle.epx_components.specs.between.Partitions.{ComponentParts, IsPartitionOf, component_of}
+use Rattle.epx_components.specs.between.Partitions.{number_for}
+use Rattle.epx_components.proofs.PartitionLemmas.{component_of-within}
 use Rattle.epx_audit.specs.inner.Batches.{AreReachedBy}
 use Rattle.epx_audit.specs.inner.SourceBits.{has_bit}
 use Rattle.epx_audit.specs.inner.ReachIndexes.{AreOrderNodes}
-use Rattle.epx_audit.proofs.OrderNodeLemmas.{node}
+use Rattle.epx_audit.proofs.OrderNodeLemmas.{slice_get-order_node}
 
 -- exact marks of nodes are exact for the instances
-pub related_from_exact : (m : List Instance) (g : DependencyGraph) → IsGraphOf m g
+pub AreRelatedMarks-from_exact : (m : List Instance) (g : DependencyGraph) → IsGraphOf m g
     → (order : List Ranked) (nodes : List ℕ) → AreOrderNodes m order nodes
     → (pairs : List (ℕ × ℕ)) (marks : List Bool) → AreExactMarks (edges_of g) nodes pairs marks
     → AreRelatedMarks m order pairs marks
-related_from_exact m g is order nodes are pairs marks exact = record {
+AreRelatedMarks-from_exact m g is order nodes are pairs marks exact = record {
   each_pair = exact.each_pair;
   exact = λ i p q r s at at_p at_q.
       let own : pair_at pairs i ≡ (p, q) = get_or_from_slice_get pairs i (p, q) _ at in
-      let paths = node_reaches m g is (get_or nodes p 0) (get_or nodes q 0) r.id s.id
-      (node m order nodes are g is p r at_p) (node m order nodes are g is q s at_q) in
+      let paths = NodeReaches-iff m g is (get_or nodes p 0) (get_or nodes q 0) r.id s.id
+      (slice_get-order_node m order nodes are g is p r at_p)
+      (slice_get-order_node m order nodes are g is q s at_q) in
       let mark = subst (λ (pair : ℕ × ℕ). IsTrue (is_marked marks i)
       ↔ NodeReaches (edges_of g) (get_or nodes pair.0 0) (get_or nodes pair.1 0)) own
       (exact.exact i (slice_get_within pairs i _ at)) in
@@ -39,18 +42,18 @@ related_from_exact m g is order nodes are pairs marks exact = record {
 
 module _ (edges : ℕ → List ℕ) (nodes : List ℕ) (pairs : List (ℕ × ℕ)) where
   -- one more mark
-  pub exact_before : (marks : List Bool) (b : Bool) (i : ℕ) → i < length marks
+  pub IsExact-push : (marks : List Bool) (b : Bool) (i : ℕ) → i < length marks
       → IsExact edges nodes pairs marks i → IsExact edges nodes pairs (marks ++ b ∷ []) i
-  exact_before marks b i l old =
+  IsExact-push marks b i l old =
       let same : is_marked marks i ≡ is_marked (marks ++ b ∷ []) i =
       sym (get_or_append_left marks (b ∷ []) false i l) in
       subst (λ b. IsTrue b ↔ NodeReaches edges (get_or nodes (pair_at pairs i).0 0)
       (get_or nodes (pair_at pairs i).1 0)) same old
 
-  pub exact_last : (marks : List Bool) (b : Bool) (i : ℕ) → length marks ≡ i
+  pub IsExact-last : (marks : List Bool) (b : Bool) (i : ℕ) → length marks ≡ i
       → (IsTrue b ↔ NodeReaches edges (get_or nodes (pair_at pairs i).0 0)
       (get_or nodes (pair_at pairs i).1 0)) → IsExact edges nodes pairs (marks ++ b ∷ []) i
-  exact_last marks b i last own =
+  IsExact-last marks b i last own =
       let same : b ≡ is_marked (marks ++ b ∷ []) i = sym (get_or_push marks b false i last) in
       subst (λ b. IsTrue b ↔ NodeReaches edges (get_or nodes (pair_at pairs i).0 0)
       (get_or nodes (pair_at pairs i).1 0)) same own
@@ -62,38 +65,38 @@ module _ (edges : ℕ → List ℕ) (nodes : List ℕ) (pairs : List (ℕ × ℕ
     pub exact : (i : ℕ) → i < n → IsExact edges nodes pairs marks i
         ⊎ ((o : LeftPair) × Contains left o × (o.index ≡ i))
 
-  pub below_more : (left more : List LeftPair) (marks : List Bool) (b : Bool) (n : ℕ)
+  pub AreExactBelow-push : (left more : List LeftPair) (marks : List Bool) (b : Bool) (n : ℕ)
       → AreExactBelow left marks n → ((o : LeftPair) → Contains left o → Contains more o)
       → ((o : LeftPair) → Contains more o → Contains left o ⊎ IsLeftPair nodes pairs o)
       → ((IsTrue b ↔ NodeReaches edges (get_or nodes (pair_at pairs n).0 0)
       (get_or nodes (pair_at pairs n).1 0))
       ⊎ ((o : LeftPair) × Contains more o × (o.index ≡ n)))
       → AreExactBelow more (marks ++ b ∷ []) (n + 1)
-  below_more left more marks b n old keeps new here = record {
+  AreExactBelow-push left more marks b n old keeps new here = record {
     len = length_push marks b ∙ ap (λ n. n + 1) old.len;
     each_left = λ o h. elim (new o h) [ inl was ↦ old.each_left o was | inr is ↦ is ];
     exact = λ i below. elim (cases_lt i n) [
       | inl past ↦ elim (old.exact i past) [
-        | inl exact ↦ inl (exact_before marks b i (omega (arith, past, old.len)) exact)
+        | inl exact ↦ inl (IsExact-push marks b i (omega (arith, past, old.len)) exact)
         | inr other ↦ inr (other.0, keeps other.0 other.1, other.2)
       ]
       | inr last ↦
           let is : n ≡ i = omega arith in
           elim here [
             | inl own ↦ inl (subst (λ i. IsExact edges nodes pairs (marks ++ b ∷ []) i) is
-                (exact_last marks b n old.len own))
+                (IsExact-last marks b n old.len own))
             | inr other ↦ inr (other.0, other.1, other.2 ∙ is)
           ]
     ];
   }
 
   -- after the last pair, with the same pairs left in some order
-  pub but_from_below : (left sorted : List LeftPair) (marks : List Bool) (n : ℕ)
+  pub AreExactBut-from_below : (left sorted : List LeftPair) (marks : List Bool) (n : ℕ)
       → n ≡ length pairs → AreExactBelow left marks n
       → ((o : LeftPair) → Contains left o → Contains sorted o)
       → ((o : LeftPair) → Contains sorted o → Contains left o)
       → AreExactBut edges nodes pairs sorted marks
-  but_from_below left sorted marks n end below there back = record {
+  AreExactBut-from_below left sorted marks n end below there back = record {
     each_pair = below.len ∙ end;
     each_left = λ o h. below.each_left o (back o h);
     exact = λ i l. elim (below.exact i (omega (arith, l, end))) [
@@ -110,8 +113,8 @@ module _ (edges : ℕ → List ℕ) (nodes : List ℕ) (pairs : List (ℕ × ℕ
         × (o.index ≡ i))
 
   module _ (left : List LeftPair) (marks : List Bool) where
-    pub from_first : AreExactBut edges nodes pairs left marks → AreExactFrom left marks 0
-    from_first but = record {
+    pub AreExactFrom-first : AreExactBut edges nodes pairs left marks → AreExactFrom left marks 0
+    AreExactFrom-first but = record {
       each_pair = but.each_pair;
       exact = λ i l. elim (but.exact i l) [
         | inl exact ↦ inl exact
@@ -121,12 +124,12 @@ module _ (edges : ℕ → List ℕ) (nodes : List ℕ) (pairs : List (ℕ × ℕ
       ];
     }
 
-    pub from_next : (n : ℕ) (o : LeftPair) (b : Bool) → slice_get left n ≡ Some o
+    pub AreExactFrom-next : (n : ℕ) (o : LeftPair) (b : Bool) → slice_get left n ≡ Some o
         → o.index < length marks
         → (IsTrue b ↔ NodeReaches edges (get_or nodes (pair_at pairs o.index).0 0)
         (get_or nodes (pair_at pairs o.index).1 0)) → AreExactFrom left marks n
         → AreExactFrom left (set marks o.index b) (n + 1)
-    from_next n o b at within own old = record {
+    AreExactFrom-next n o b at within own old = record {
       each_pair = length-set marks o.index b ∙ old.each_pair;
       exact = λ i l. elim (cases_eq i o.index) [
         | inl here ↦ inl (here_exact i here)
@@ -155,9 +158,9 @@ module _ (edges : ℕ → List ℕ) (nodes : List ℕ) (pairs : List (ℕ × ℕ
           (get_or nodes (pair_at pairs o.index).1 0))
           (sym (get_or-set_same marks o.index b false within)) own)
 
-    pub from_last : (n : ℕ) → length left ≤ n → AreExactFrom left marks n
+    pub AreExactMarks-from_last : (n : ℕ) → length left ≤ n → AreExactFrom left marks n
         → AreExactMarks edges nodes pairs marks
-    from_last n past from = record {
+    AreExactMarks-from_last n past from = record {
       each_pair = from.each_pair;
       exact = λ i l. elim (from.exact i l) [
         | inl exact ↦ exact
@@ -172,19 +175,20 @@ pub record AreNextSources (left : List LeftPair) (start : ℕ) (sources : List �
   pub in_range : (n : ℕ) → ((o : LeftPair) → Contains left o → o.from < n)
       → All (λ k. k < n) sources
 
-pub next_first : (left : List LeftPair) (start : ℕ) → start < length left
+pub AreNextSources-first : (left : List LeftPair) (start : ℕ) → start < length left
     → AreNextSources left start ([] ++ (left_at left start).from ∷ [])
-next_first left start l = record {
+AreNextSources-first left start l = record {
   few = omega arith;
   first = (omega arith, refl);
   in_range = λ n each. All-push (λ k. k < n) [] (left_at left start).from (All-nil (λ k. k < n))
       (each (left_at left start) (Contains-get_or left start _ l));
 }
 
-pub next_more : (left : List LeftPair) (start : ℕ) (sources : List ℕ) (i : ℕ) → i < length left
+pub AreNextSources-push : (left : List LeftPair) (start : ℕ) (sources : List ℕ) (i : ℕ)
+    → i < length left
     → length sources < 64 → AreNextSources left start sources
     → AreNextSources left start (sources ++ (left_at left i).from ∷ [])
-next_more left start sources i l few old = record {
+AreNextSources-push left start sources i l few old = record {
   few = omega (arith, length_push sources (left_at left i).from, few);
   first = (
     omega (arith, length_push sources (left_at left i).from),
@@ -207,12 +211,13 @@ pub record IsPassFor (g : DependencyGraph) (p : ComponentParts) (sources reached
   pub pass : IsPass g p sources reached
   pub at : (bit < length sources) × (get_or sources bit 0 ≡ node)
 
-pub pass_same : (g : DependencyGraph) (p : ComponentParts)
+pub IsPassFor-same : (g : DependencyGraph) (p : ComponentParts)
     (sources reached now_sources now_reached : List ℕ) (bit now_bit node : ℕ)
     → now_sources ≡ sources → now_reached ≡ reached → now_bit ≡ bit → IsPass g p sources reached
     → (bit < length sources) × (get_or sources bit 0 ≡ node)
     → IsPassFor g p now_sources now_reached now_bit node
-pass_same g p sources reached now_sources now_reached bit now_bit node same_sources same_reached
+IsPassFor-same g p sources reached now_sources now_reached bit now_bit node same_sources
+    same_reached
     same_bit pass at = record {
       pass = subst₂ (IsPass g p) (sym same_sources) (sym same_reached) pass;
       at = subst₂ (λ (xs : List ℕ) (b : ℕ). (b < length xs) × (get_or xs b 0 ≡ node))
@@ -228,22 +233,23 @@ module _ (g : DependencyGraph) (p : ComponentParts) (is : IsPartitionOf g p)
       get_or_read p.component o.to own (omega (arith, within, is.each_node)) read 0
 
   -- the component has a word
-  pub word_within : own < length reached
-  word_within = omega (
+  pub reached-within : own < length reached
+  reached-within = omega (
     arith,
     own_component,
-    component_below (edges_of g) p is.is o.to (omega (arith, within, is.each_node)),
+    component_of-within (edges_of g) p is.is o.to (omega (arith, within, is.each_node)),
     pass.pass.words (omega (arith, pass.at.0)),
   )
 
   -- the bit of the word is exact for the pair
-  pub bit_exact : (nodes : List ℕ) (pairs : List (ℕ × ℕ)) → IsLeftPair nodes pairs o → (word : ℕ)
+  pub has_bit-exact : (nodes : List ℕ) (pairs : List (ℕ × ℕ)) → IsLeftPair nodes pairs o
+      → (word : ℕ)
       → word ≡ get_or reached own word → (b : Bool) → b ≡ has_bit bit word
       → IsTrue b ↔ NodeReaches (edges_of g) (get_or nodes (pair_at pairs o.index).0 0)
       (get_or nodes (pair_at pairs o.index).1 0)
-  bit_exact nodes pairs left word word_read b is_bit =
+  has_bit-exact nodes pairs left word word_read b is_bit =
       let at : word ≡ number_for p reached o.to =
-      get_or_read reached own word word_within word_read 0
+      get_or_read reached own word reached-within word_read 0
       ∙ ap (λ c. get_or reached c 0) own_component in
       let exact = pass.pass.bits bit o.to pass.at.0 within in
       let from : get_or sources bit 0 ≡ get_or nodes (pair_at pairs o.index).0 0 =

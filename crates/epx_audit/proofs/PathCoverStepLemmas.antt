@@ -6,7 +6,8 @@ use Rattle.std.proofs.Common.{get_or, set, Contains, refl, sym, subst, subst₂,
 use Rattle.epx_types.proofs.Common.{cases_eq, cases_lt, get_or-set_other, get_or-set_same}
 use Rattle.epx_types.proofs.Common.{get_or_default, Contains-get_or}
 use Rattle.epx_graph.proofs.Common.{NodeReaches}
-use Rattle.epx_components.proofs.NodePathLemmas.{reaches_edge, reaches_itself, reaches_on}
+use Rattle.epx_components.proofs.NodePathLemmas.{NodeReaches-edge, NodeReaches-itself}
+use Rattle.epx_components.proofs.NodePathLemmas.{NodeReaches-trans}
 use Rattle.epx_audit.specs.declared.path_cover.PathMember.{PathMember}
 use Rattle.epx_audit.specs.inner.PathCovers.{AddsTo, AreCovered, AreJoined, ArePositions, AreTails}
 use Rattle.epx_audit.specs.inner.PathCovers.{CoverLists, IsInRow, IsMemberEntry, IsNextComponent}
@@ -36,9 +37,9 @@ some_same : (a b : ℕ) → Some a ≡ Some b → a ≡ b
 some_same a b h = cc
 
 -- what a slice of a whole vector was changed to is what the vector has
-pub tails_written : (xs ys : List ℕ) (n : ℕ) → length xs ≡ length ys → n ≡ length ys
+pub take-written : (xs ys : List ℕ) (n : ℕ) → length xs ≡ length ys → n ≡ length ys
     → take n (xs ++ drop (length xs) ys) ≡ xs
-tails_written xs ys n same all =
+take-written xs ys n same all =
     let none : drop (length xs) ys ≡ [] =
     nil_from_length (drop (length xs) ys) (omega (arith, length-drop (length xs) ys)) in
     ap (λ zs. take n (xs ++ zs)) none ∙ (ap (take n) (append-nil xs)
@@ -71,11 +72,12 @@ module _ (edges : ℕ → List ℕ) (nodes : List ℕ) (old new : CoverLists) (e
         (omega (arith, s.before p i is.1 is.2 is.3.1, s.within)) in
         let at : get_or old.row_positions j 0 ≡ e = entry.1.3 in
         let to : NodeReaches edges (get_or nodes (length old.members) 0) (get_or nodes q 0) =
-        reaches_on edges _ (get_or nodes p 0) _ (s.joined p is.1 is.2).0
-        (subst (NodeReaches edges (get_or nodes p 0)) (sym node) (reaches_edge edges _ t edge)) in (
+        NodeReaches-trans edges _ (get_or nodes p 0) _ (s.joined p is.1 is.2).0
+        (subst (NodeReaches edges (get_or nodes p 0)) (sym node)
+        (NodeReaches-edge edges _ t edge)) in (
           subst (λ x. x < length old.members) at r.0,
           subst (λ x. (member_at old.members x).path ≡ path) at (r.1 ∙ entry.1.2),
-          reaches_on edges _ (get_or nodes q 0) _ to
+          NodeReaches-trans edges _ (get_or nodes q 0) _ to
               (subst (λ x. NodeReaches edges (get_or nodes q 0) (get_or nodes x 0)) at r.2),
         )
   ]
@@ -114,7 +116,7 @@ module _ (edges : ℕ → List ℕ) (nodes : List ℕ) (old new : CoverLists) (e
       omega (arith, is.1, s.more, s.next.whole),
       ap (λ x. (member_at new.members x).path) is.1 ∙ (ap (λ (m : PathMember). m.path) first_at
           ∙ sym is.0),
-      reaches_itself edges _ _ (ap (λ x. get_or nodes x 0) (sym is.1)),
+      NodeReaches-itself edges _ _ (ap (λ x. get_or nodes x 0) (sym is.1)),
     )
   ]
 
@@ -137,7 +139,7 @@ module _ (edges : ℕ → List ℕ) (nodes : List ℕ) (old new : CoverLists) (e
         let tail : NodeReaches edges (get_or nodes (get_or tails member.path 0) 0)
         (get_or nodes p 0) = subst (λ x. NodeReaches edges (get_or nodes (get_or tails x 0) 0)
         (get_or nodes p 0)) same (s.last p below) in
-        reaches_on edges _ (get_or nodes (get_or tails member.path 0) 0) _ r.2 tail
+        NodeReaches-trans edges _ (get_or nodes (get_or tails member.path 0) 0) _ r.2 tail
   ]
 
   -- rows of earlier components are as before
@@ -192,8 +194,12 @@ module _ (edges : ℕ → List ℕ) (nodes : List ℕ) (old new : CoverLists) (e
       × NodeReaches edges (get_or nodes p 0) (get_or nodes (get_or new.row_positions i 0) 0)
   new_reached p i from below in_row =
       let at = new_in_row i in_row in
-      let r = row_reached _ _ (s.next.values i at.0 at.1) in
-      (r.0, r.1, reaches_on edges _ (get_or nodes (length old.members) 0) _ (up p from below) r.2)
+      let r = row_reached _ _ (s.next.values i at.0 at.1) in (
+        r.0,
+        r.1,
+        NodeReaches-trans edges _ (get_or nodes (length old.members) 0) _ (up p from below)
+            r.2,
+      )
 
   old_reached : (p i : ℕ) → p < length old.members → IsInRow (member_at old.members p) i
       → (get_or new.row_positions i 0 < length new.members)
@@ -256,8 +262,8 @@ module _ (edges : ℕ → List ℕ) (nodes : List ℕ) (old new : CoverLists) (e
       )
 
   -- the positions are covered with the component too
-  pub covered_next : AreCovered edges nodes new
-  covered_next = record {
+  pub AreCovered-next : AreCovered edges nodes new
+  AreCovered-next = record {
     entries = s.next.entries;
     rows = λ p below. elim (cases_lt p (length old.members)) [
       | inl earlier ↦
@@ -311,10 +317,10 @@ module _ (edges : ℕ → List ℕ) (nodes : List ℕ) (old new : CoverLists) (e
             let on : (member_at old.members p).path ≡ member.path =
             ap (λ (m : PathMember). m.path) (sym (old_at p p_in))
             ∙ (same ∙ ap (λ (m : PathMember). m.path) (new_at q own below)) in
-            reaches_on edges _ (get_or nodes (length old.members) 0) _ (up q own below)
+            NodeReaches-trans edges _ (get_or nodes (length old.members) 0) _ (up q own below)
             (path_reached p p_in on)
         | inr both ↦
-            reaches_on edges _ (get_or nodes (length old.members) 0) _ (up q own below)
+            NodeReaches-trans edges _ (get_or nodes (length old.members) 0) _ (up q own below)
             (down p both (omega (arith, order, below)))
       ]
     ];
@@ -397,8 +403,8 @@ module _ (edges : ℕ → List ℕ) (nodes : List ℕ) (old new : CoverLists) (e
   }
 
   -- the component is the last of its path
-  pub tails_next : AreTails edges nodes new new_tails
-  tails_next p below =
+  pub AreTails-next : AreTails edges nodes new new_tails
+  AreTails-next p below =
       let path = (member_at new.members p).path in
       let Q : List ℕ → Type 0 = λ ts. NodeReaches edges (get_or nodes (get_or ts path 0) 0)
       (get_or nodes p 0) in

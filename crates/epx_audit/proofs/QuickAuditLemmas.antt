@@ -7,13 +7,13 @@ use Rattle.epx_types.proofs.Common.{IsRising, Instance, IsCovered, Ranked, IsExe
 use Rattle.epx_types.proofs.Common.{ranked_ids, Reaches, IsReady, IsRising-same}
 use Rattle.epx_types.proofs.Common.{slice_get-from_Contains, slice_get-from_map, Contains-slice_get}
 use Rattle.epx_graph.proofs.Common.{DependencyGraph, edges_of, IsGraphOf, NodeReaches}
-use Rattle.epx_graph.proofs.Common.{committed_count, node_reaches}
+use Rattle.epx_graph.proofs.Common.{committed-count, NodeReaches-iff}
 use Rattle.epx_audit.specs.declared.touches.KeyUse.{KeyUse}
 use Rattle.epx_audit.specs.inner.RelatedTouches.{touch_at, AreAllRelated}
 use Rattle.epx_audit.specs.inner.Touches.{touch, HoldTouches}
 use Rattle.epx_audit.specs.inner.ReachIndexes.{AreOrderNodes}
-use Rattle.epx_components.proofs.ReadyRankLemmas.{node_of_place}
-use Rattle.epx_audit.proofs.TouchLemmas.{touch_of_touched, touch_of_written}
+use Rattle.epx_components.proofs.ReadyRankLemmas.{slice_get-node}
+use Rattle.epx_audit.proofs.TouchLemmas.{hashed_touches-touched, hashed_touches-written}
 
 module _ (m : List Instance) (g : DependencyGraph) (is : IsGraphOf m g) (order : List Ranked)
     (orders : IsExecutionOrder m order) (nodes : List ℕ) (are : AreOrderNodes m order nodes) where
@@ -24,8 +24,8 @@ module _ (m : List Instance) (g : DependencyGraph) (is : IsGraphOf m g) (order :
     pub at : slice_get m (get_or nodes position 0) ≡ Some d
     pub node : slice_get g.ids (get_or nodes position 0) ≡ Some d.id
 
-  pub position_of_ready : (d : Instance) → Contains m d → IsReady m d.id → HasPosition d
-  position_of_ready d in_d ready =
+  pub HasPosition-from_ready : (d : Instance) → Contains m d → IsReady m d.id → HasPosition d
+  HasPosition-from_ready d in_d ready =
       let p = slice_get-from_Contains (ranked_ids order) d.id (orders.whole d.id ready) in
       let r = slice_get-from_map (λ (r : Ranked). r.id) order p.0 d.id p.1 in
       let k = get_or nodes p.0 0 in
@@ -38,8 +38,8 @@ module _ (m : List Instance) (g : DependencyGraph) (is : IsGraphOf m g) (order :
         position = p.0;
         within = omega (arith, slice_get_within order p.0 r.0 r.1, are.whole);
         at = at;
-        node = node_of_place m g is k d at
-            (omega (arith, slice_get_within m k d at, committed_count m g is));
+        node = slice_get-node m g is k d at
+            (omega (arith, slice_get_within m k d at, committed-count m g is));
       }
 
   module _ (start : DefaultHasher) (touches : List KeyUse)
@@ -54,11 +54,12 @@ module _ (m : List Instance) (g : DependencyGraph) (is : IsGraphOf m g) (order :
     Reach p q = NodeReaches (edges_of g) (get_or nodes p 0) (get_or nodes q 0)
 
     -- touches of one key, of which one writes, are of related commands
-    pub related : (d e : Instance) (s : HasPosition d) (t : HasPosition e) → d.id ≢ e.id
+    pub Reaches-from_touches : (d e : Instance) (s : HasPosition d) (t : HasPosition e)
+        → d.id ≢ e.id
         → (k : List ℕ) (w v : Bool) → Contains touches (touch start s.position k w)
         → Contains touches (touch start t.position k v) → IsTrue w ⊎ IsTrue v
         → Reaches m d.id e.id ⊎ Reaches m e.id d.id
-    related d e s t differ k w v touched touched' one =
+    Reaches-from_touches d e s t differ k w v touched touched' one =
         let i = index_of (touch start s.position k w) touched in
         let j = index_of (touch start t.position k v) touched' in
         let place_i : (touch_at touches i.0).position ≡ s.position =
@@ -73,13 +74,13 @@ module _ (m : List Instance) (g : DependencyGraph) (is : IsGraphOf m g) (order :
           | inl below ↦
               let reach = linked i.0 j.0 below j.1 alike
               (elim one [ inl h ↦ inl (writes_i ∙ h) | inr h ↦ inr (writes_j ∙ h) ]) in
-              inr ((node_reaches m g is _ _ e.id d.id t.node s.node).0
+              inr ((NodeReaches-iff m g is _ _ e.id d.id t.node s.node).0
               (subst₂ Reach place_j place_i reach))
           | inr not_below ↦ elim (cases_lt j.0 i.0) [
             | inl above ↦
                 let reach = linked j.0 i.0 above i.1 (sym alike)
                 (elim one [ inl h ↦ inr (writes_i ∙ h) | inr h ↦ inl (writes_j ∙ h) ]) in
-                inl ((node_reaches m g is _ _ d.id e.id s.node t.node).0
+                inl ((NodeReaches-iff m g is _ _ d.id e.id s.node t.node).0
                 (subst₂ Reach place_i place_j reach))
             | inr not_above ↦
                 let same : i.0 ≡ j.0 = omega arith in
@@ -91,21 +92,22 @@ module _ (m : List Instance) (g : DependencyGraph) (is : IsGraphOf m g) (order :
           ]
         ]
 
-    pub covered_from_related : HoldTouches start m nodes (length nodes) touches → IsCovered m
-    covered_from_related hold d e in_d in_e differ d_ready e_ready conflict =
-        let s = position_of_ready d in_d d_ready in
-        let t = position_of_ready e in_e e_ready in
+    pub IsCovered-from_touches : HoldTouches start m nodes (length nodes) touches → IsCovered m
+    IsCovered-from_touches hold d e in_d in_e differ d_ready e_ready conflict =
+        let s = HasPosition-from_ready d in_d d_ready in
+        let t = HasPosition-from_ready e in_e e_ready in
         let k = conflict.0 in
         elim conflict.1 [
           | inl first ↦
-              let other = touch_of_touched start t.position e.ops k first.1 in
-              related d e s t differ k true other.0
+              let other = hashed_touches-touched start t.position e.ops k first.1 in
+              Reaches-from_touches d e s t differ k true other.0
               (hold s.position d _ s.within s.at
-              (touch_of_written start s.position d.ops k first.0))
+              (hashed_touches-written start s.position d.ops k first.0))
               (hold t.position e _ t.within t.at other.1) (inl refl)
           | inr second ↦
-              let other = touch_of_touched start s.position d.ops k second.0 in
-              related d e s t differ k other.0 true (hold s.position d _ s.within s.at other.1)
+              let other = hashed_touches-touched start s.position d.ops k second.0 in
+              Reaches-from_touches d e s t differ k other.0 true
+              (hold s.position d _ s.within s.at other.1)
               (hold t.position e _ t.within t.at
-              (touch_of_written start t.position e.ops k second.1)) (inr refl)
+              (hashed_touches-written start t.position e.ops k second.1)) (inr refl)
         ]

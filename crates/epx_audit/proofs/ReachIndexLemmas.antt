@@ -9,15 +9,15 @@ use Rattle.epx_audit.specs.declared.reach_index.Chain.{Chain}
 use Rattle.epx_audit.specs.declared.reach_index.ReachIndex.{ReachIndex}
 use Rattle.epx_audit.specs.inner.PathCovers.{IsPathCover}
 use Rattle.epx_audit.specs.inner.ReachIndexes.{IsChain, IsReachIndex}
-use Rattle.epx_components.proofs.NodePathLemmas.{reaches_itself, reaches_on}
+use Rattle.epx_components.proofs.NodePathLemmas.{NodeReaches-itself, NodeReaches-trans}
 
 -- the next position, if the chain's start reaches it and it reaches all positions from the low one
 -- on
-pub chain_next : (edges : ℕ → List ℕ) (nodes : List ℕ) (n : ℕ) (chain : Chain) → chain.start ≤ n
+pub IsChain-next : (edges : ℕ → List ℕ) (nodes : List ℕ) (n : ℕ) (chain : Chain) → chain.start ≤ n
     → NodeReaches edges (get_or nodes chain.start 0) (get_or nodes n 0)
     → ((q : ℕ) → chain.low ≤ q → q < n → NodeReaches edges (get_or nodes n 0) (get_or nodes q 0))
     → IsChain edges nodes (n + 1) chain
-chain_next edges nodes n chain l from down = record {
+IsChain-next edges nodes n chain l from down = record {
   start = λ some. (
     omega arith,
     subst (λ i. NodeReaches edges (get_or nodes chain.start 0) (get_or nodes i 0))
@@ -27,18 +27,18 @@ chain_next edges nodes n chain l from down = record {
     | inl past ↦ subst (λ i. NodeReaches edges (get_or nodes i 0) (get_or nodes q 0)) last
         (down q low past)
     | inr here ↦ let same : n + 1 - 1 ≡ q = omega arith in
-        reaches_itself edges _ _ (ap (λ i. get_or nodes i 0) same)
+        NodeReaches-itself edges _ _ (ap (λ i. get_or nodes i 0) same)
   ];
 } where
   last : n ≡ n + 1 - 1
   last = omega arith
 
 -- the next position, whose node reaches the node of the last one
-pub chain_on : (edges : ℕ → List ℕ) (nodes : List ℕ) (n : ℕ) (chain : Chain)
+pub NodeReaches-chain : (edges : ℕ → List ℕ) (nodes : List ℕ) (n : ℕ) (chain : Chain)
     → NodeReaches edges (get_or nodes n 0) (get_or nodes (n - 1) 0) → IsChain edges nodes n chain
     → (q : ℕ) → chain.low ≤ q → q < n → NodeReaches edges (get_or nodes n 0) (get_or nodes q 0)
-chain_on edges nodes n chain step is q low below =
-    reaches_on edges (get_or nodes n 0) (get_or nodes (n - 1) 0) (get_or nodes q 0) step
+NodeReaches-chain edges nodes n chain step is q low below =
+    NodeReaches-trans edges (get_or nodes n 0) (get_or nodes (n - 1) 0) (get_or nodes q 0) step
     (is.down q low below)
 
 -- what is after the first n positions
@@ -52,12 +52,12 @@ pub record AreChains (g : DependencyGraph) (nodes starts positions chain_start :
       → (q < n) × NodeReaches (edges_of g) k (get_or nodes q 0)
 
 -- the next position, whose chain is known
-pub chains_next : (g : DependencyGraph) (nodes starts positions chain_start : List ℕ) (n : ℕ)
+pub AreChains-next : (g : DependencyGraph) (nodes starts positions chain_start : List ℕ) (n : ℕ)
     (chain : Chain) → get_or nodes n 0 < length g.ids → IsChain (edges_of g) nodes (n + 1) chain
     → AreChains g nodes starts positions chain_start n
     → AreChains g nodes (starts ++ chain.start ∷ []) (set positions (get_or nodes n 0) n)
     (set chain_start (get_or nodes n 0) chain.low) (n + 1)
-chains_next g nodes starts positions chain_start n chain node_in is old = record {
+AreChains-next g nodes starts positions chain_start n chain node_in is old = record {
   each_place = omega (arith, length_push starts chain.start, old.each_place);
   each_node =
       (length-set positions _ _ ∙ old.each_node.0, length-set chain_start _ _ ∙ old.each_node.1);
@@ -111,11 +111,11 @@ chains_next g nodes starts positions chain_start n chain node_in is old = record
   at_last = omega arith
 
 -- after the last position
-pub chains_all : (g : DependencyGraph) (w : ReachIndex) (n : ℕ)
+pub IsReachIndex-from_chains : (g : DependencyGraph) (w : ReachIndex) (n : ℕ)
     → All (λ k. k < length g.ids) w.nodes.items → n ≡ length w.nodes.items
     → AreChains g w.nodes.items w.starts.items w.positions.items w.chain_start.items n
     → IfSome w.cover (IsPathCover g w.nodes.items) → IsReachIndex g w
-chains_all g w n in_range end chains cover = record {
+IsReachIndex-from_chains g w n in_range end chains cover = record {
   in_range = in_range;
   each_place = chains.each_place ∙ end;
   each_node = chains.each_node;

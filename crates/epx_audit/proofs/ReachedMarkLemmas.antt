@@ -3,10 +3,11 @@ use Rattle.std.proofs.Common.{◌≡◌, ℕ, ◌+◌, ◌<◌, ◌≤◌, ◌�
 use Rattle.std.proofs.Common.{length, get_or, refl, subst, ◌∙◌, ap, arith, Contains, IsTrue}
 use Rattle.epx_types.proofs.Common.{cases_lt, get_or_default, Contains-get_or}
 use Rattle.epx_graph.proofs.Common.{IsNodePath, NodeReaches}
-use Rattle.epx_components.specs.Partitions.{ComponentParts, IsPartition, component_of, node_at}
-use Rattle.epx_components.specs.Partitions.{mark_for}
-use Rattle.epx_components.proofs.NodePathLemmas.{reaches_edge, reaches_on}
-use Rattle.epx_components.proofs.PartitionLemmas.{node_below}
+use Rattle.epx_components.specs.between.Partitions.{ComponentParts, IsPartition, component_of}
+use Rattle.epx_components.specs.between.Partitions.{node_at}
+use Rattle.epx_components.specs.between.Partitions.{mark_for}
+use Rattle.epx_components.proofs.NodePathLemmas.{NodeReaches-edge, NodeReaches-trans}
+use Rattle.epx_components.proofs.PartitionLemmas.{node_at-within}
 
 -- the marks after the nodes of the order from n on
 pub record AreReached (edges : ℕ → List ℕ) (p : ComponentParts) (root : ℕ) (marks : List Bool)
@@ -19,29 +20,29 @@ pub record AreReached (edges : ℕ → List ℕ) (p : ComponentParts) (root : �
 
 module _ (edges : ℕ → List ℕ) (p : ComponentParts) (is : IsPartition edges p) (root : ℕ) where
   -- only the component of the root is marked
-  pub reached_from : (marks : List Bool) → root < length p.component
+  pub AreReached-from_root : (marks : List Bool) → root < length p.component
       → ((c : ℕ) → IsTrue (get_or marks c false) ↔ (component_of p root ≡ c))
       → AreReached edges p root marks (length p.order)
-  reached_from marks l own = record {
+  AreReached-from_root marks l own = record {
     reason = λ k lk h. is.joined root k l lk ((own (component_of p k)).0 h);
     itself = (own (component_of p root)).1 refl;
     edge = λ q j le lt. absurd (omega arith);
   }
 
   -- two lists of marks that agree
-  pub reached_same : (marks new : List Bool) (n : ℕ)
+  pub AreReached-same : (marks new : List Bool) (n : ℕ)
       → ((c : ℕ) → IsTrue (get_or new c false) ↔ IsTrue (get_or marks c false))
       → AreReached edges p root marks n → AreReached edges p root new n
-  reached_same marks new n same old = record {
+  AreReached-same marks new n same old = record {
     reason = λ k lk h. old.reason k lk ((same (component_of p k)).0 h);
     itself = (same (component_of p root)).1 old.itself;
     edge = λ q j le lt h was. (same (component_of p j)).1
         (old.edge q j le lt h ((same (component_of p (node_at p q))).0 was));
   }
 
-  pub reached_skip : (marks : List Bool) (n : ℕ) → ¬ IsTrue (mark_for p marks (node_at p n))
+  pub AreReached-skip : (marks : List Bool) (n : ℕ) → ¬ IsTrue (mark_for p marks (node_at p n))
       → AreReached edges p root marks (n + 1) → AreReached edges p root marks n
-  reached_skip marks n unmarked old = record {
+  AreReached-skip marks n unmarked old = record {
     reason = old.reason;
     itself = old.itself;
     edge = λ q j le lt h marked. elim (cases_lt n q) [
@@ -52,21 +53,22 @@ module _ (edges : ℕ → List ℕ) (p : ComponentParts) (is : IsPartition edges
     ];
   }
 
-  pub reached_step : (marks new : List Bool) (n : ℕ) → n < length p.order
+  pub AreReached-step : (marks new : List Bool) (n : ℕ) → n < length p.order
       → IsTrue (mark_for p marks (node_at p n))
       → ((c : ℕ) → IsTrue (get_or new c false)
       ↔ (IsTrue (get_or marks c false)
       ⊎ ((i : ℕ) × (i < length (edges (node_at p n)))
       × (get_or p.component (get_or (edges (node_at p n)) i 0) 0 ≡ c))))
       → AreReached edges p root marks (n + 1) → AreReached edges p root new n
-  reached_step marks new n l marked marks_new old = record {
+  AreReached-step marks new n l marked marks_new old = record {
     reason = λ k lk h. elim ((marks_new (component_of p k)).0 h) [
       | inl was ↦ old.reason k lk was
       | inr (i, below, same) ↦
           let j = get_or (edges b) i 0 in
           let h : Contains (edges b) j = Contains-get_or (edges b) i 0 below in
-          let to = reaches_on edges root b j (old.reason b lb marked) (reaches_edge edges b j h) in
-          reaches_on edges root j k to (is.joined j k (is.within b j h) lk same)
+          let to = NodeReaches-trans edges root b j (old.reason b lb marked)
+          (NodeReaches-edge edges b j h) in
+          NodeReaches-trans edges root j k to (is.joined j k (is.within b j h) lk same)
     ];
     itself = (marks_new (component_of p root)).1 (inl old.itself);
     edge = λ q j le lt h was. elim (cases_lt n q) [
@@ -85,7 +87,7 @@ module _ (edges : ℕ → List ℕ) (p : ComponentParts) (is : IsPartition edges
     b = node_at p n
 
     lb : b < length p.component
-    lb = node_below edges p is n l
+    lb = node_at-within edges p is n l
 
     -- the step marks no later node
     before : (q : ℕ) → n ≤ q → q < length p.order → IsTrue (mark_for p new (node_at p q))
@@ -111,8 +113,8 @@ module _ (edges : ℕ → List ℕ) (p : ComponentParts) (is : IsPartition edges
       let next = (rw at at (all.edge q.0 c (omega arith) q.1)) path.0 marked in
       path_reached marks all c j cs (is.within k c path.0) next path.1
 
-  pub reached_all : (marks : List Bool) → AreReached edges p root marks 0
+  pub mark_for-decides_reached : (marks : List Bool) → AreReached edges p root marks 0
       → root < length p.component → (k : ℕ) → k < length p.component
       → IsTrue (mark_for p marks k) ↔ NodeReaches edges root k
-  reached_all marks all l k lk =
+  mark_for-decides_reached marks all l k lk =
       (all.reason k lk, λ there. path_reached marks all root k there.0 l all.itself there.1)

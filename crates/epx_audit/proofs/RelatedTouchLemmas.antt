@@ -5,7 +5,7 @@ use Rattle.epx_types.proofs.Common.{cases_Bool, cases_lt, false≢true}
 use Rattle.epx_audit.specs.declared.touches.KeyUse.{KeyUse}
 use Rattle.epx_audit.specs.inner.RelatedTouches.{touch_at, TouchReaches, AreAllRelated}
 use Rattle.epx_audit.specs.inner.RelatedTouches.{IsRelatedBack, IsNextWriter}
-use Rattle.epx_components.proofs.NodePathLemmas.{reaches_on}
+use Rattle.epx_components.proofs.NodePathLemmas.{NodeReaches-trans}
 
 -- of the first n touches, last_writer is the last one that writes, or the first one of its hash
 pub record IsRelatedUpTo (edges : ℕ → List ℕ) (nodes : List ℕ) (touches : List KeyUse)
@@ -33,7 +33,7 @@ module _ (edges : ℕ → List ℕ) (nodes : List ℕ) (touches : List KeyUse) w
   Reach i j = TouchReaches edges nodes touches i j
 
   trans : (i j k : ℕ) → Reach i j → Reach j k → Reach i k
-  trans i j k = reaches_on edges _ _ _
+  trans i j k = NodeReaches-trans edges _ _ _
 
   -- the first n + 1 touches are linked if touch n reaches what it has to reach
   all_related_more : (n : ℕ) → AreAllRelated edges nodes touches n
@@ -132,11 +132,11 @@ module _ (edges : ℕ → List ℕ) (nodes : List ℕ) (touches : List KeyUse) w
       ]
     ]
 
-  pub related_by_next : (last_writer n next : ℕ) → hash last_writer ≤ hash n
+  pub IsRelatedUpTo-next : (last_writer n next : ℕ) → hash last_writer ≤ hash n
       → (hash last_writer ≡ hash n → IsRelatedBack edges nodes touches last_writer n)
       → IsNextWriter touches last_writer n next → IsRelatedUpTo edges nodes touches last_writer n
       → IsRelatedUpTo edges nodes touches next (n + 1)
-  related_by_next last_writer n next rises follows is old =
+  IsRelatedUpTo-next last_writer n next rises follows is old =
       elim (cases_lt (hash last_writer) (hash n)) [
         | inl more ↦ subst (λ i. IsRelatedUpTo edges nodes touches i (n + 1))
             (sym (is.moves (inr (λ same. omega (arith, more, same)))))

@@ -12,7 +12,8 @@ use Rattle.std.proofs.lemmas.List.{get_or-append_right}
 use Rattle.std.proofs.lemmas.List.Elements.{Contains-append_left}
 use Rattle.epx_audit.specs.declared.path_cover.PathMember.{PathMember}
 use Rattle.epx_audit.specs.inner.PathCovers.{AddsTo, AreNotedPaths, CoverLists, IsEntryAt}
-use Rattle.epx_audit.specs.inner.PathCovers.{IsMemberEntry, IsNextComponent, IsCoverRow, IsTargetEntry}
+use Rattle.epx_audit.specs.inner.PathCovers.{IsMemberEntry, IsNextComponent, IsCoverRow}
+use Rattle.epx_audit.specs.inner.PathCovers.{IsTargetEntry}
 use Rattle.epx_audit.specs.inner.PathCovers.{greatest_on}
 
 none_some : (x : Option ℕ) (e : ℕ) → x ≡ None → x ≡ Some e → ⊥
@@ -22,27 +23,28 @@ some_same : (a b : ℕ) → Some a ≡ Some b → a ≡ b
 some_same a b h = cc
 
 -- a position is noted on a path of the cover
-pub noted_within : (greatest : List (Option ℕ)) (path e : ℕ) → greatest_on greatest path ≡ Some e
+pub greatest_on-within : (greatest : List (Option ℕ)) (path e : ℕ)
+    → greatest_on greatest path ≡ Some e
     → path < length greatest
-noted_within greatest path e noted = elim (cases_lt path (length greatest)) [
+greatest_on-within greatest path e noted = elim (cases_lt path (length greatest)) [
   | inl below ↦ below
   | inr past ↦ absurd (none_some _ e (get_or_past greatest path None past) noted)
 ]
 
 -- the paths of a row are paths of the cover
-pub path_within : (greatest : List (Option ℕ)) (paths : List ℕ) (path : ℕ)
+pub AreNotedPaths-within : (greatest : List (Option ℕ)) (paths : List ℕ) (path : ℕ)
     → AreNotedPaths greatest paths → Contains paths path → path < length greatest
-path_within greatest paths path are in' =
+AreNotedPaths-within greatest paths path are in' =
     let is = are.only path in' in
-    noted_within greatest path is.0 is.1
+    greatest_on-within greatest path is.0 is.1
 
 -- what is added in two steps
-pub adds_more : (a b c : List (Option ℕ)) (First Second Added : ℕ → ℕ → Type 0)
+pub AddsTo-trans : (a b c : List (Option ℕ)) (First Second Added : ℕ → ℕ → Type 0)
     → AddsTo a b First → AddsTo b c Second
     → ((path e : ℕ) → First path e → Added path e)
     → ((path e : ℕ) → Second path e → Added path e)
     → ((path e : ℕ) → Added path e → First path e ⊎ Second path e) → AddsTo a c Added
-adds_more a b c First Second Added first second one two out = record {
+AddsTo-trans a b c First Second Added first second one two out = record {
   len = second.len ∙ first.len;
   only = λ path e is. elim (second.only path e is) [
     | inl old ↦ elim (first.only path e old) [
@@ -59,11 +61,11 @@ adds_more a b c First Second Added first second one two out = record {
 }
 
 -- a position is noted, unless a greater one is
-pub adds_set : (greatest : List (Option ℕ)) (path position value : ℕ) → path < length greatest
+pub AddsTo-set : (greatest : List (Option ℕ)) (path position value : ℕ) → path < length greatest
     → position ≤ value → (value ≡ position) ⊎ (greatest_on greatest path ≡ Some value)
     → ((e : ℕ) → greatest_on greatest path ≡ Some e → e ≤ value)
     → AddsTo greatest (set greatest path (Some value)) (λ x e. (x ≡ path) × (e ≡ position))
-adds_set greatest path position value within above choice below = record {
+AddsTo-set greatest path position value within above choice below = record {
   len = length-set greatest path (Some value);
   only = λ x e is. elim (cases_eq x path) [
     | inl same ↦
@@ -97,10 +99,10 @@ adds_set greatest path position value within above choice below = record {
   here = get_or-set_same greatest path (Some value) None within
 
 -- the paths of a row, after a position is noted on one of them
-pub paths_kept : (greatest : List (Option ℕ)) (paths : List ℕ) (path e value : ℕ)
+pub AreNotedPaths-set : (greatest : List (Option ℕ)) (paths : List ℕ) (path e value : ℕ)
     → AreNotedPaths greatest paths → greatest_on greatest path ≡ Some e
     → AreNotedPaths (set greatest path (Some value)) paths
-paths_kept greatest paths path e value are noted = record {
+AreNotedPaths-set greatest paths path e value are noted = record {
   all = λ x d is. elim (cases_eq x path) [
     | inl same ↦ subst (λ y. Contains paths y) (sym same) (are.all path e noted)
     | inr other ↦
@@ -110,7 +112,8 @@ paths_kept greatest paths path e value are noted = record {
     | inl same ↦ (
       value,
       ap (λ y. get_or (set greatest path (Some value)) y None) same
-          ∙ get_or-set_same greatest path (Some value) None (noted_within greatest path e noted),
+          ∙ get_or-set_same greatest path (Some value) None
+          (greatest_on-within greatest path e noted),
     )
     | inr other ↦
         let old = are.only x in' in
@@ -119,10 +122,10 @@ paths_kept greatest paths path e value are noted = record {
 }
 
 -- the noted paths of a row, after a position is noted on a path that is appended to them
-pub paths_push : (greatest : List (Option ℕ)) (paths : List ℕ) (path value : ℕ)
+pub AreNotedPaths-push : (greatest : List (Option ℕ)) (paths : List ℕ) (path value : ℕ)
     → AreNotedPaths greatest paths → path < length greatest
     → AreNotedPaths (set greatest path (Some value)) (paths ++ path ∷ [])
-paths_push greatest paths path value are within = record {
+AreNotedPaths-push greatest paths path value are within = record {
   all = λ x d is. elim (cases_eq x path) [
     | inl same ↦ subst (λ y. Contains (paths ++ path ∷ []) y) (sym same) (Contains-push paths path)
     | inr other ↦ Contains-append_left paths (path ∷ []) x
@@ -144,19 +147,20 @@ paths_push greatest paths path value are within = record {
 }
 
 -- the noted paths of a row may be listed in any order
-pub paths_sorted : (greatest : List (Option ℕ)) (paths sorted : List ℕ) → IsPermutation paths sorted
+pub AreNotedPaths-permutation : (greatest : List (Option ℕ)) (paths sorted : List ℕ)
+    → IsPermutation paths sorted
     → AreNotedPaths greatest paths → AreNotedPaths greatest sorted
-paths_sorted greatest paths sorted moves are = record {
+AreNotedPaths-permutation greatest paths sorted moves are = record {
   all = λ path e noted. Contains-permutation paths sorted path moves (are.all path e noted);
   only = λ path in'. are.only path
       (Contains-permutation sorted paths path (IsPermutation-sym paths sorted moves) in');
 }
 
 -- one path more is pushed
-pub row_push : (greatest : List (Option ℕ)) (paths positions : List ℕ) (path position : ℕ)
+pub IsCoverRow-push : (greatest : List (Option ℕ)) (paths positions : List ℕ) (path position : ℕ)
     → IsCoverRow greatest paths positions → greatest_on greatest path ≡ Some position
     → IsCoverRow greatest (paths ++ path ∷ []) (positions ++ position ∷ [])
-row_push greatest paths positions path position is noted = record {
+IsCoverRow-push greatest paths positions path position is noted = record {
   len = length_push positions position ∙ (ap (λ n. n + 1) is.len ∙ sym (length_push paths path));
   each = λ i below. elim (cases_lt i (length paths)) [
     | inl earlier ↦
@@ -171,13 +175,13 @@ row_push greatest paths positions path position is noted = record {
 }
 
 -- what is left after the position on one path more is cleared
-pub cleared_more : (greatest : List (Option ℕ)) (paths : List ℕ) (n : ℕ)
+pub greatest_on-clear : (greatest : List (Option ℕ)) (paths : List ℕ) (n : ℕ)
     → get_or paths n 0 < length greatest
     → ((x e : ℕ) → greatest_on greatest x ≡ Some e
     → (i : ℕ) × (n ≤ i) × (i < length paths) × (get_or paths i 0 ≡ x))
     → (x e : ℕ) → greatest_on (set greatest (get_or paths n 0) None) x ≡ Some e
     → (i : ℕ) × (n + 1 ≤ i) × (i < length paths) × (get_or paths i 0 ≡ x)
-cleared_more greatest paths n within left x e noted = elim (cases_eq x (get_or paths n 0)) [
+greatest_on-clear greatest paths n within left x e noted = elim (cases_eq x (get_or paths n 0)) [
   | inl same ↦ absurd (none_some _ e
       (ap (λ y. get_or (set greatest (get_or paths n 0) None) y None) same
       ∙ get_or-set_same greatest (get_or paths n 0) None None within) noted)
@@ -198,12 +202,12 @@ IsBetween paths positions start n path e = (i : ℕ) × (start ≤ i) × (i < n)
     × (get_or paths i 0 ≡ path) × (get_or positions i 0 ≡ e)
 
 -- one entry more
-pub adds_entry : (a b c : List (Option ℕ)) (paths positions : List ℕ) (start n : ℕ) → start ≤ n
+pub AddsTo-entry : (a b c : List (Option ℕ)) (paths positions : List ℕ) (start n : ℕ) → start ≤ n
     → AddsTo a b (IsBetween paths positions start n)
     → AddsTo b c (λ x e. (x ≡ get_or paths n 0) × (e ≡ get_or positions n 0))
     → AddsTo a c (IsBetween paths positions start (n + 1))
-adds_entry a b c paths positions start n from first second =
-    adds_more a b c (IsBetween paths positions start n)
+AddsTo-entry a b c paths positions start n from first second =
+    AddsTo-trans a b c (IsBetween paths positions start n)
     (λ x e. (x ≡ get_or paths n 0) × (e ≡ get_or positions n 0))
     (IsBetween paths positions start (n + 1)) first second
     (λ path e is. (is.0, is.1, omega (arith, is.2), is.3, is.4))
@@ -219,12 +223,12 @@ adds_entry a b c paths positions start n from first second =
     ])
 
 -- one target more
-pub adds_target : (a b d : List (Option ℕ)) (c : CoverLists) (positions targets : List ℕ) (n : ℕ)
+pub AddsTo-target : (a b d : List (Option ℕ)) (c : CoverLists) (positions targets : List ℕ) (n : ℕ)
     → AddsTo a b (IsTargetEntry c positions targets n)
     → AddsTo b d (IsEntryAt c (get_or positions (get_or targets n 0) 0))
     → AddsTo a d (IsTargetEntry c positions targets (n + 1))
-adds_target a b d c positions targets n first second =
-    adds_more a b d (IsTargetEntry c positions targets n)
+AddsTo-target a b d c positions targets n first second =
+    AddsTo-trans a b d (IsTargetEntry c positions targets n)
     (IsEntryAt c (get_or positions (get_or targets n 0) 0))
     (IsTargetEntry c positions targets (n + 1)) first second
     (λ path e is. (is.0, omega (arith, is.1), is.2))
@@ -237,14 +241,14 @@ adds_target a b d c positions targets n first second =
     ])
 
 -- one member more
-pub adds_member : (edges : ℕ → List ℕ) (nodes : List ℕ) (a b d : List (Option ℕ)) (c : CoverLists)
+pub AddsTo-member : (edges : ℕ → List ℕ) (nodes : List ℕ) (a b d : List (Option ℕ)) (c : CoverLists)
     (positions : List ℕ) (n : ℕ) → length c.members ≤ n
     → AddsTo a b (IsMemberEntry edges nodes c positions n)
     → AddsTo b d (IsTargetEntry c positions (edges (get_or nodes n 0))
     (length (edges (get_or nodes n 0))))
     → AddsTo a d (IsMemberEntry edges nodes c positions (n + 1))
-adds_member edges nodes a b d c positions n from first second =
-    adds_more a b d (IsMemberEntry edges nodes c positions n)
+AddsTo-member edges nodes a b d c positions n from first second =
+    AddsTo-trans a b d (IsMemberEntry edges nodes c positions n)
     (IsTargetEntry c positions (edges (get_or nodes n 0)) (length (edges (get_or nodes n 0))))
     (IsMemberEntry edges nodes c positions (n + 1)) first second
     (λ path e is. (is.0, is.1, omega (arith, is.2), is.3))
@@ -334,7 +338,8 @@ module _ (old : CoverLists) (end : ℕ) (greatest row : List (Option ℕ)) (tail
   }
 
   -- lists that equal the old ones with the component pushed have it as their next component
-  pub next_component : (members : List PathMember) (row_paths row_positions new_tails : List ℕ)
+  pub IsNextComponent-from_lists : (members : List PathMember)
+      (row_paths row_positions new_tails : List ℕ)
       → members ≡ old.members ++ replicate (end - length old.members) member
       → row_paths ≡ old.row_paths ++ paths → row_positions ≡ old.row_positions ++ added
       → new_tails ≡ set tails member.path (length old.members)
@@ -343,7 +348,7 @@ module _ (old : CoverLists) (end : ℕ) (greatest row : List (Option ℕ)) (tail
         row_paths = row_paths;
         row_positions = row_positions;
       }) end greatest tails new_tails member row
-  next_component members row_paths row_positions new_tails e f g h =
+  IsNextComponent-from_lists members row_paths row_positions new_tails e f g h =
       let all = old.members ++ replicate (end - length old.members) member in
       let written = subst (λ ts. IsNextComponent old (record {
         members = all;

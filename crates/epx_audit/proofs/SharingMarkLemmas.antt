@@ -9,32 +9,32 @@ use Rattle.epx_audit.specs.inner.Batches.{AreSharing}
 use Rattle.epx_audit.specs.inner.DoubtfulKeys.{AreInRange}
 use Rattle.epx_audit.specs.inner.SourceBits.{has_bit, AreSourceMarks, HasBitsOf}
 pub use Rattle.epx_audit.specs.inner.UnsettledNodes.{doubtful_at}
-use Rattle.epx_audit.proofs.BitLemmas.{or_at}
+use Rattle.epx_audit.proofs.BitLemmas.{has_bit-set_or}
 
 -- the sources of its key that matter to a touch: all if it writes, otherwise those that write
 abbrev pub word_of : List ℕ → List ℕ → DoubtfulTouch → ℕ
 word_of touching writing t = cond t.writes (get_or touching t.key 0) (get_or writing t.key 0)
 
-pub doubtful_at_index : (touches : List DoubtfulTouch) (t : DoubtfulTouch) (h : Contains touches t)
+pub doubtful_at-index : (touches : List DoubtfulTouch) (t : DoubtfulTouch) (h : Contains touches t)
     → doubtful_at touches h.0 ≡ t
-doubtful_at_index touches t h = get_or_default touches h.0 _ t h.1 ∙ h.2
+doubtful_at-index touches t h = get_or_default touches h.0 _ t h.1 ∙ h.2
 
 -- a touch that a loop reads
-pub touch_in_range : {touches read : List DoubtfulTouch} → read ≡ touches → (nodes keys n : ℕ)
+pub doubtful_at-in_range : {touches read : List DoubtfulTouch} → read ≡ touches → (nodes keys n : ℕ)
     → n < length read → AreInRange nodes keys touches
     → ((doubtful_at read n).node < nodes) × ((doubtful_at read n).key < keys)
-touch_in_range {touches} {read} same nodes keys n l in_range = in_range (doubtful_at read n)
+doubtful_at-in_range {touches} {read} same nodes keys n l in_range = in_range (doubtful_at read n)
     (subst (λ ts. Contains ts (doubtful_at read n)) same (Contains-get_or read n _ l))
 
 -- the bits of the other words stay, and the new bits are in the word
-pub had_bits : (words : List ℕ) (k v : ℕ) → k < length words → (c w : ℕ)
+pub HasBitsOf-kept : (words : List ℕ) (k v : ℕ) → k < length words → (c w : ℕ)
     → HasBitsOf w (get_or words c 0)
     → HasBitsOf w (get_or (set words k (bit_or (get_or words k 0) v)) c 0)
-had_bits words k v l c w old b h = (or_at words k v l b c).1 (inl (old b h))
+HasBitsOf-kept words k v l c w old b h = (has_bit-set_or words k v l b c).1 (inl (old b h))
 
-pub has_bits : (words : List ℕ) (k v : ℕ) → k < length words
+pub HasBitsOf-set : (words : List ℕ) (k v : ℕ) → k < length words
     → HasBitsOf v (get_or (set words k (bit_or (get_or words k 0) v)) k 0)
-has_bits words k v l b h = (or_at words k v l b k).1 (inr (refl, h))
+HasBitsOf-set words k v l b h = (has_bit-set_or words k v l b k).1 (inr (refl, h))
 
 -- the sources of the first n touches are in the words of their keys
 abbrev pub AreKeyed : List DoubtfulTouch → List ℕ → Bool → List ℕ → ℕ → Type 0
@@ -50,13 +50,13 @@ AreShared touches touching writing words n = (i : ℕ) → i < n
     (get_or words (doubtful_at touches i).node 0)
 
 module _ (touches : List DoubtfulTouch) (own : List ℕ) (only : Bool) (words : List ℕ) (n : ℕ) where
-  pub keyed_more : (doubtful_at touches n).key < length words → AreKeyed touches own only words n
+  pub AreKeyed-next : (doubtful_at touches n).key < length words → AreKeyed touches own only words n
       → AreKeyed touches own only
       (set words (doubtful_at touches n).key
       (bit_or (get_or words (doubtful_at touches n).key 0)
       (get_or own (doubtful_at touches n).node 0))) (n + 1)
-  keyed_more within old i l one = elim (cases_lt i n) [
-    | inl past ↦ had_bits words (doubtful_at touches n).key
+  AreKeyed-next within old i l one = elim (cases_lt i n) [
+    | inl past ↦ HasBitsOf-kept words (doubtful_at touches n).key
         (get_or own (doubtful_at touches n).node 0) within (doubtful_at touches i).key
         (get_or own (doubtful_at touches i).node 0) (old i past one)
     | inr here ↦
@@ -66,13 +66,13 @@ module _ (touches : List DoubtfulTouch) (own : List ℕ) (only : Bool) (words : 
         (get_or own (doubtful_at touches n).node 0)) in
         subst (λ i. HasBitsOf (get_or own (doubtful_at touches i).node 0)
         (get_or new (doubtful_at touches i).key 0)) same
-        (has_bits words (doubtful_at touches n).key (get_or own (doubtful_at touches n).node 0)
+        (HasBitsOf-set words (doubtful_at touches n).key (get_or own (doubtful_at touches n).node 0)
         within)
   ]
 
-  pub keyed_same : (doubtful_at touches n).writes ≡ false → only ≡ true
+  pub AreKeyed-skip : (doubtful_at touches n).writes ≡ false → only ≡ true
       → AreKeyed touches own only words n → AreKeyed touches own only words (n + 1)
-  keyed_same reads writers old i l one = elim (cases_lt i n) [
+  AreKeyed-skip reads writers old i l one = elim (cases_lt i n) [
     | inl past ↦ old i past one
     | inr here ↦
         let same : i ≡ n = omega arith in
@@ -85,14 +85,14 @@ module _ (touches : List DoubtfulTouch) (own : List ℕ) (only : Bool) (words : 
   ]
 
 module _ (touches : List DoubtfulTouch) (touching writing words : List ℕ) (n : ℕ) where
-  pub shared_more : (doubtful_at touches n).node < length words
+  pub AreShared-next : (doubtful_at touches n).node < length words
       → AreShared touches touching writing words n
       → AreShared touches touching writing
       (set words (doubtful_at touches n).node
       (bit_or (get_or words (doubtful_at touches n).node 0)
       (word_of touching writing (doubtful_at touches n)))) (n + 1)
-  shared_more within old i l = elim (cases_lt i n) [
-    | inl past ↦ had_bits words (doubtful_at touches n).node
+  AreShared-next within old i l = elim (cases_lt i n) [
+    | inl past ↦ HasBitsOf-kept words (doubtful_at touches n).node
         (word_of touching writing (doubtful_at touches n)) within (doubtful_at touches i).node
         (word_of touching writing (doubtful_at touches i)) (old i past)
     | inr here ↦
@@ -102,11 +102,12 @@ module _ (touches : List DoubtfulTouch) (touching writing words : List ℕ) (n :
         (word_of touching writing (doubtful_at touches n))) in
         subst (λ i. HasBitsOf (word_of touching writing (doubtful_at touches i))
         (get_or new (doubtful_at touches i).node 0)) same
-        (has_bits words (doubtful_at touches n).node
+        (HasBitsOf-set words (doubtful_at touches n).node
         (word_of touching writing (doubtful_at touches n)) within)
   ]
 
-pub all_sharing : (touches : List DoubtfulTouch) (sources own touching writing words : List ℕ)
+pub AreSharing-from_words : (touches : List DoubtfulTouch)
+    (sources own touching writing words : List ℕ)
     → AreSourceMarks sources own
     → ((t : DoubtfulTouch) → Contains touches t
     → HasBitsOf (get_or own t.node 0) (get_or touching t.key 0))
@@ -115,7 +116,8 @@ pub all_sharing : (touches : List DoubtfulTouch) (sources own touching writing w
     → ((t : DoubtfulTouch) → Contains touches t
     → HasBitsOf (word_of touching writing t) (get_or words t.node 0))
     → AreSharing touches sources words
-all_sharing touches sources own touching writing words marks all writers whole b j lb share =
+AreSharing-from_words touches sources own touching writing words marks all writers whole b j lb
+    share =
     let mine = share.mine in
     let other = share.other in
     let source : IsTrue (has_bit b (get_or own mine.node 0)) =

@@ -7,7 +7,7 @@ use Rattle.epx_types.proofs.Common.{All-from_get_or, Instance}
 use Rattle.epx_audit.specs.declared.doubtful_touches.DoubtfulTouch.{DoubtfulTouch}
 use Rattle.epx_audit.specs.inner.DoubtfulKeys.{HoldAllConflicts, HoldUnsettled}
 use Rattle.epx_audit.specs.inner.NodeConflicts.{IsSettled}
-use Rattle.epx_components.specs.ReadyMarks.{is_marked}
+use Rattle.epx_components.specs.between.ReadyMarks.{is_marked}
 use Rattle.epx_audit.specs.inner.Sources.{AreSources, AreSettled, IsFirstPair, IsLeastPair}
 
 module _ (m : List Instance) (edges : ℕ → List ℕ) (ready : List Bool)
@@ -15,10 +15,10 @@ module _ (m : List Instance) (edges : ℕ → List ℕ) (ready : List Bool)
     (are : AreSources ready unsettled sources) (hold : HoldAllConflicts m edges ready touches)
     (settled : HoldUnsettled edges touches unsettled) where
   -- a node that is none of the later sources
-  pub settled_below : (n : ℕ) → AreSettled m edges ready sources n → (k j : ℕ)
+  pub IsSettled-below : (n : ℕ) → AreSettled m edges ready sources n → (k j : ℕ)
       → ((i : ℕ) → i < length sources → get_or sources i 0 ≡ k → i < n) → k < j
       → IsSettled m edges ready k j
-  settled_below n done k j early above d e at to k_ready j_ready conflict =
+  IsSettled-below n done k j early above d e at to k_ready j_ready conflict =
       elim (hold k j d e above at to k_ready j_ready conflict) [
         | inl related ↦ related
         | inr share ↦ elim (settled k j share) [
@@ -33,9 +33,9 @@ module _ (m : List Instance) (edges : ℕ → List ℕ) (ready : List Bool)
       ]
 
   -- a node below a source
-  pub early_below : (n : ℕ) → n < length sources → (k : ℕ) → k < get_or sources n 0 → (i : ℕ)
+  pub sources-before : (n : ℕ) → n < length sources → (k : ℕ) → k < get_or sources n 0 → (i : ℕ)
       → i < length sources → get_or sources i 0 ≡ k → i < n
-  early_below n l k below i li is = elim (cases_lt i n) [
+  sources-before n l k below i li is = elim (cases_lt i n) [
     | inl early ↦ early
     | inr not ↦ elim (cases_lt n i) [
       | inl late ↦ absurd (omega (arith, are.rising n i late li, is, below))
@@ -46,12 +46,12 @@ module _ (m : List Instance) (edges : ℕ → List ℕ) (ready : List Bool)
   ]
 
 -- the sources of a batch come after the first n sources
-pub settled_batch : (m : List Instance) (edges : ℕ → List ℕ) (ready : List Bool)
+pub AreSettled-batch : (m : List Instance) (edges : ℕ → List ℕ) (ready : List Bool)
     (sources batch : List ℕ) (first n : ℕ)
     → ((i : ℕ) → i < length batch → get_or batch i 0 ≡ get_or sources (first + i) 0)
     → n ≤ length batch → AreSettled m edges ready sources first → AreSettled m edges ready batch n
     → AreSettled m edges ready sources (first + n)
-settled_batch m edges ready sources batch first n same within before now i j l above =
+AreSettled-batch m edges ready sources batch first n same within before now i j l above =
     elim (cases_lt i first) [
       | inl past ↦ before i j past above
       | inr here ↦
@@ -64,50 +64,53 @@ settled_batch m edges ready sources batch first n same within before now i j l a
 
 -- a sublist
 module _ (xs : List ℕ) (first n : ℕ) where
-  pub part_within : (i : ℕ) → i < length (take n (drop first xs))
+  pub take-drop_within : (i : ℕ) → i < length (take n (drop first xs))
       → (i < n) × (first + i < length xs)
-  part_within i l = (
+  take-drop_within i l = (
     omega (arith, l, length-take n (drop first xs)),
     omega (arith, l, length-take n (drop first xs), length-drop first xs),
   )
 
-  pub part_at : (i : ℕ) → i < length (take n (drop first xs))
+  pub get_or-take_drop : (i : ℕ) → i < length (take n (drop first xs))
       → get_or (take n (drop first xs)) i 0 ≡ get_or xs (first + i) 0
-  part_at i l = get_or-take n (drop first xs) i 0 (part_within i l).0 ∙ get_or-drop first xs i 0
+  get_or-take_drop i l = get_or-take n (drop first xs) i 0 (take-drop_within i l).0
+      ∙ get_or-drop first xs i 0
 
 module _ (ready unsettled : List Bool) (sources : List ℕ)
     (are : AreSources ready unsettled sources) (first n : ℕ) where
-  pub part_ready : All (λ k. IsTrue (is_marked ready k)) (take n (drop first sources))
-  part_ready = All-from_get_or (λ k. IsTrue (is_marked ready k)) (take n (drop first sources)) 0
-      (λ i l. subst (λ k. IsTrue (is_marked ready k)) (sym (part_at sources first n i l))
-      (are.each (first + i) (part_within sources first n i l).1).0)
+  pub All-part_ready : All (λ k. IsTrue (is_marked ready k)) (take n (drop first sources))
+  All-part_ready = All-from_get_or (λ k. IsTrue (is_marked ready k)) (take n (drop first sources)) 0
+      (λ i l. subst (λ k. IsTrue (is_marked ready k)) (sym (get_or-take_drop sources first n i l))
+      (are.each (first + i) (take-drop_within sources first n i l).1).0)
 
-  pub part_in_range : (nodes : ℕ) → length unsettled ≤ nodes
+  pub All-part_in_range : (nodes : ℕ) → length unsettled ≤ nodes
       → All (λ k. k < nodes) (take n (drop first sources))
-  part_in_range nodes within =
+  All-part_in_range nodes within =
       All-from_get_or (λ k. k < nodes) (take n (drop first sources)) 0 (λ i l.
-      let e = (are.each (first + i) (part_within sources first n i l).1).1 in
-      omega (arith, part_at sources first n i l, within, e))
+      let e = (are.each (first + i) (take-drop_within sources first n i l).1).1 in
+      omega (arith, get_or-take_drop sources first n i l, within, e))
 
 module _ (m : List Instance) (edges : ℕ → List ℕ) (ready : List Bool)
     (touches : List DoubtfulTouch) (unsettled : List Bool) (sources : List ℕ)
     (are : AreSources ready unsettled sources) (hold : HoldAllConflicts m edges ready touches)
     (settled : HoldUnsettled edges touches unsettled) (first n : ℕ)
     (before : AreSettled m edges ready sources first) where
-  pub least_from_first : (k j : ℕ) → IsFirstPair m edges ready (take n (drop first sources)) k j
+  pub IsLeastPair-from_first : (k j : ℕ)
+      → IsFirstPair m edges ready (take n (drop first sources)) k j
       → IsLeastPair m edges ready k j
-  least_from_first k j pair =
+  IsLeastPair-from_first k j pair =
       let part = take n (drop first sources) in
       let l : pair.at < length part = pair.source.0 in
       let at = first + pair.at in
-      let within : at < length sources = (part_within sources first n pair.at l).1 in
-      let is : get_or sources at 0 ≡ k = sym (part_at sources first n pair.at l) ∙ pair.source.1 in
+      let within : at < length sources = (take-drop_within sources first n pair.at l).1 in
+      let is : get_or sources at 0 ≡ k = sym (get_or-take_drop sources first n pair.at l)
+      ∙ pair.source.1 in
       let done : AreSettled m edges ready sources at =
-      settled_batch m edges ready sources part first pair.at (part_at sources first n)
+      AreSettled-batch m edges ready sources part first pair.at (get_or-take_drop sources first n)
       (omega (arith, l)) before pair.before in
       record {
-        before = λ i o below above. settled_below m edges ready touches unsettled sources are hold
-            settled at done i o (early_below m edges ready touches unsettled sources are hold
+        before = λ i o below above. IsSettled-below m edges ready touches unsettled sources are hold
+            settled at done i o (sources-before m edges ready touches unsettled sources are hold
             settled at within i (omega (arith, is, below))) above;
         partner = pair.partner;
       }

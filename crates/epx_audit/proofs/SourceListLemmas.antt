@@ -4,7 +4,7 @@ use Rattle.std.proofs.Common.{length, get_or, Contains, IsTrue, sym, subst, ◌�
 use Rattle.epx_types.proofs.Common.{cases_lt, get_or_append_left, get_or_push, get_or_past}
 use Rattle.epx_types.proofs.Common.{false≢true, length_push, Contains-push}
 use Rattle.epx_types.proofs.Common.{Contains-append_left}
-use Rattle.epx_components.specs.ReadyMarks.{is_marked}
+use Rattle.epx_components.specs.between.ReadyMarks.{is_marked}
 use Rattle.epx_audit.specs.inner.Sources.{AreSources}
 
 -- the sources below n
@@ -18,9 +18,9 @@ pub record AreSourcesBelow (ready unsettled : List Bool) (sources : List ℕ) (n
 
 module _ (ready unsettled : List Bool) (sources : List ℕ) (n : ℕ)
     (old : AreSourcesBelow ready unsettled sources n) where
-  pub sources_same : (IsTrue (is_marked ready n) → IsTrue (is_marked unsettled n) → ⊥)
+  pub AreSourcesBelow-skip : (IsTrue (is_marked ready n) → IsTrue (is_marked unsettled n) → ⊥)
       → AreSourcesBelow ready unsettled sources (n + 1)
-  sources_same none = record {
+  AreSourcesBelow-skip none = record {
     rising = old.rising;
     each = λ i l. let e = old.each i l in (omega (arith, e.0), e.1, e.2);
     whole = λ k l is_ready marked. elim (cases_lt k n) [
@@ -32,9 +32,9 @@ module _ (ready unsettled : List Bool) (sources : List ℕ) (n : ℕ)
     ];
   }
 
-  pub sources_more : IsTrue (is_marked ready n) → IsTrue (is_marked unsettled n)
+  pub AreSourcesBelow-push : IsTrue (is_marked ready n) → IsTrue (is_marked unsettled n)
       → AreSourcesBelow ready unsettled (sources ++ n ∷ []) (n + 1)
-  sources_more is_ready marked = record {
+  AreSourcesBelow-push is_ready marked = record {
     rising = λ i j below l. elim (cases_lt j (length sources)) [
       | inl past ↦ omega (
         arith,
@@ -84,10 +84,10 @@ marked_within marks k marked = elim (cases_lt k (length marks)) [
   | inr past ↦ absurd (false≢true (sym (get_or_past marks k false (omega arith)) ∙ marked))
 ]
 
-pub all_sources : (ready unsettled : List Bool) (sources : List ℕ)
+pub AreSources-from_below : (ready unsettled : List Bool) (sources : List ℕ)
     → AreSourcesBelow ready unsettled sources (length unsettled)
     → AreSources ready unsettled sources
-all_sources ready unsettled sources below = record {
+AreSources-from_below ready unsettled sources below = record {
   rising = below.rising;
   each = λ i l. let e = below.each i l in (e.1, e.0);
   whole = λ k marked is_ready. below.whole k (marked_within unsettled k marked) is_ready marked;

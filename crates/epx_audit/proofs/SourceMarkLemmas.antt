@@ -4,7 +4,7 @@ use Rattle.std.proofs.Common.{bit_or, IsTrue, sym, ap, ◌∙◌, arith}
 use Rattle.epx_types.proofs.Common.{cases_eq, cases_lt, bit_at}
 use Rattle.std.proofs.lemmas.Nat.Bits.{bit_at-pow_same, bit_at-pow_other}
 use Rattle.epx_audit.specs.inner.SourceBits.{has_bit}
-use Rattle.epx_audit.proofs.BitLemmas.{bit_one, or_at}
+use Rattle.epx_audit.proofs.BitLemmas.{has_bit-bit_at, has_bit-set_or}
 
 -- the bits of the first n sources
 abbrev pub AreMarked : List ℕ → List ℕ → ℕ → Type 0
@@ -15,20 +15,20 @@ pow_bit : (n b : ℕ) → IsTrue (has_bit b (2 ^ n)) ↔ (b ≡ n)
 pow_bit n b = elim (cases_eq b n) [
   | inl same ↦ (
     (λ _. same),
-    λ _. (bit_one b (2 ^ n)).1
+    λ _. (has_bit-bit_at b (2 ^ n)).1
         (ap (λ b. bit_at (2 ^ n) b) same ∙ bit_at-pow_same n),
   )
   | inr differ ↦ (
-    (λ h. absurd (omega (arith, (bit_one b (2 ^ n)).0 h, bit_at-pow_other n b differ))),
+    (λ h. absurd (omega (arith, (has_bit-bit_at b (2 ^ n)).0 h, bit_at-pow_other n b differ))),
     λ same. absurd (differ same),
   )
 ]
 
-pub marked_more : (slots words : List ℕ) (n : ℕ) → get_or slots n 0 < length words
+pub AreMarked-next : (slots words : List ℕ) (n : ℕ) → get_or slots n 0 < length words
     → AreMarked slots words n → AreMarked slots
     (set words (get_or slots n 0) (bit_or (get_or words (get_or slots n 0) 0) (2 ^ n))) (n + 1)
-marked_more slots words n within old b s =
-    let changed = or_at words (get_or slots n 0) (2 ^ n) within b s in (
+AreMarked-next slots words n within old b s =
+    let changed = has_bit-set_or words (get_or slots n 0) (2 ^ n) within b s in (
       λ h. elim (changed.0 h) [
         | inl was ↦ let o = (old b s).0 was in (omega (arith, o.0), o.1)
         | inr now ↦

@@ -3,7 +3,7 @@ use Rattle.std.proofs.Common.{◌≡◌, ◌↔◌, ◌⊎◌, inl, inr, ℕ, �
 use Rattle.std.proofs.Common.{bit_or, IsTrue, ap, ◌∙◌, arith}
 use Rattle.epx_types.proofs.Common.{cases_lt}
 use Rattle.epx_audit.specs.inner.SourceBits.{has_bit}
-use Rattle.epx_audit.proofs.BitLemmas.{or_at}
+use Rattle.epx_audit.proofs.BitLemmas.{has_bit-set_or}
 
 module _ (component targets : List ℕ) where
   -- the word is added to the components of the first n targets
@@ -13,12 +13,13 @@ module _ (component targets : List ℕ) where
       ⊎ (IsTrue (has_bit b word) × (i : ℕ) × (i < n)
       × (get_or component (get_or targets i 0) 0 ≡ c)))
 
-  pub added_more : (words new : List ℕ) (word n : ℕ)
+  pub AreAdded-next : (words new : List ℕ) (word n : ℕ)
       → get_or component (get_or targets n 0) 0 < length new → AreAdded words new word n
       → AreAdded words (set new (get_or component (get_or targets n 0) 0)
       (bit_or (get_or new (get_or component (get_or targets n 0) 0) 0) word)) word (n + 1)
-  added_more words new word n within old b c =
-      let changed = or_at new (get_or component (get_or targets n 0) 0) word within b c in (
+  AreAdded-next words new word n within old b c =
+      let changed =
+      has_bit-set_or new (get_or component (get_or targets n 0) 0) word within b c in (
         λ h. elim (changed.0 h) [
           | inl was ↦ elim ((old b c).0 was) [
             | inl first ↦ inl first

@@ -33,9 +33,9 @@ module _ (start : DefaultHasher) (position : ℕ) where
       (Contains-map touch_by (accesses_of op) a.0 here))
 
   -- a touched key has a touch, and a written one a touch that writes
-  pub touch_of_touched : (ops : List Op) (q : List ℕ) → Contains (touched_keys ops) q
+  pub hashed_touches-touched : (ops : List Op) (q : List ℕ) → Contains (touched_keys ops) q
       → (w : Bool) × Contains (hashed_touches start position ops) (touch start position q w)
-  touch_of_touched ops q h =
+  hashed_touches-touched ops q h =
       let f = Contains-from_flat_map touched_by ops q (Contains-from_rising_keys _ q h) in
       let t = by_touched f.0 q f.2 in (
         t.0,
@@ -43,9 +43,9 @@ module _ (start : DefaultHasher) (position : ℕ) where
             t.1,
       )
 
-  pub touch_of_written : (ops : List Op) (q : List ℕ) → Contains (written_keys ops) q
+  pub hashed_touches-written : (ops : List Op) (q : List ℕ) → Contains (written_keys ops) q
       → Contains (hashed_touches start position ops) (touch start position q true)
-  touch_of_written ops q h =
+  hashed_touches-written ops q h =
       let f = Contains-from_flat_map written_by ops q (Contains-from_rising_keys _ q h) in
       Contains-flat_map (touches_by start position) ops f.0 (touch start position q true) f.1
       (by_written f.0 q f.2)
@@ -56,7 +56,9 @@ module _ (start : DefaultHasher) (position : ℕ) where
       subst (λ t. t.position ≡ position) a.2 refl
 
   -- each touch is at the position of the command
-  pub touch_place : (ops : List Op) (t : KeyUse) → Contains (hashed_touches start position ops) t
+  pub hashed_touches-position : (ops : List Op) (t : KeyUse)
+      → Contains (hashed_touches start position ops) t
       → t.position ≡ position
-  touch_place ops t h = let f = Contains-from_flat_map (touches_by start position) ops t h in
+  hashed_touches-position ops t h = let f =
+      Contains-from_flat_map (touches_by start position) ops t h in
       place_by f.0 t f.2

@@ -5,13 +5,14 @@ use Rattle.epx_types.proofs.Common.{cases_lt, slice_get_within, IsRising, Instan
 use Rattle.epx_types.proofs.Common.{IsCovered, Reaches, IsReady, IsRising-same, Conflict-symm}
 use Rattle.epx_types.proofs.Common.{Contains-slice_get}
 use Rattle.epx_types.specs.declared.id.Id.{Id}
-use Rattle.epx_graph.proofs.Common.{DependencyGraph, edges_of, IsGraphOf, committed_count}
-use Rattle.epx_graph.proofs.Common.{node_instance, node_of_committed, node_order, node_reaches}
+use Rattle.epx_graph.proofs.Common.{DependencyGraph, edges_of, IsGraphOf, committed-count}
+use Rattle.epx_graph.proofs.Common.{slice_get-instance, slice_get-if_committed, Below-iff_node}
+use Rattle.epx_graph.proofs.Common.{NodeReaches-iff}
 use Rattle.epx_audit.specs.inner.NodeConflicts.{IsSettled, IsUnsettled, IsPartner}
-use Rattle.epx_components.specs.ReadyMarks.{AreReadyMarks}
+use Rattle.epx_components.specs.between.ReadyMarks.{AreReadyMarks}
 use Rattle.epx_audit.specs.Uncovered.{IsUncovered, IsLeastUncovered}
-use Rattle.epx_components.proofs.ReadyMarkLemmas.{ready_from_mark, mark_from_ready}
-use Rattle.epx_components.proofs.ReadyRankLemmas.{node_of_place}
+use Rattle.epx_components.proofs.ReadyMarkLemmas.{IsReady-from_mark, is_marked-from_ready}
+use Rattle.epx_components.proofs.ReadyRankLemmas.{slice_get-node}
 
 module _ (m : List Instance) (g : DependencyGraph) (is : IsGraphOf m g) (ready : List Bool)
     (marked : AreReadyMarks g ready) where
@@ -20,7 +21,7 @@ module _ (m : List Instance) (g : DependencyGraph) (is : IsGraphOf m g) (ready :
       → Contains m d → d.id ≡ x → slice_get m k ≡ Some d
   instance_at k x d at l in_d same =
       let rising = subst IsRising is.committed is.graph.committed_rise in
-      let f = node_instance m g is k x at l in
+      let f = slice_get-instance m g is k x at l in
       f.1 ∙ ap Some (IsRising-same m rising f.0 d (Contains-slice_get m k f.0 f.1) in_d
       (f.2 ∙ sym same))
 
@@ -31,18 +32,18 @@ module _ (m : List Instance) (g : DependencyGraph) (is : IsGraphOf m g) (ready :
       → IsSettled m (edges_of g) ready k j → Reaches m x y ⊎ Reaches m y x
   related k j x y d e at to l n in_d in_e is_x is_y x_ready y_ready conflict settled =
       elim (settled d e (instance_at k x d at l in_d is_x) (instance_at j y e to n in_e is_y)
-      (mark_from_ready m g is ready marked k x at x_ready)
-      (mark_from_ready m g is ready marked j y to y_ready) conflict) [
-        | inl there ↦ inl ((node_reaches m g is k j x y at to).0 there)
-        | inr back ↦ inr ((node_reaches m g is j k y x to at).0 back)
+      (is_marked-from_ready m g is ready marked k x at x_ready)
+      (is_marked-from_ready m g is ready marked j y to y_ready) conflict) [
+        | inl there ↦ inl ((NodeReaches-iff m g is k j x y at to).0 there)
+        | inr back ↦ inr ((NodeReaches-iff m g is j k y x to at).0 back)
       ]
 
-  pub covered_from_settled : ((k j : ℕ) → k < length m → k < j
+  pub IsCovered-from_settled : ((k j : ℕ) → k < length m → k < j
       → IsSettled m (edges_of g) ready k j) → IsCovered m
-  covered_from_settled settled d e in_d in_e differ d_ready e_ready conflict =
-      let k = node_of_committed m g is d.id d_ready.committed in
-      let j = node_of_committed m g is e.id e_ready.committed in
-      let count = committed_count m g is in
+  IsCovered-from_settled settled d e in_d in_e differ d_ready e_ready conflict =
+      let k = slice_get-if_committed m g is d.id d_ready.committed in
+      let j = slice_get-if_committed m g is e.id e_ready.committed in
+      let count = committed-count m g is in
       elim (cases_lt k.0 j.0) [
         | inl lower ↦ related k.0 j.0 d.id e.id d e k.2 j.2 k.1 j.1 in_d in_e refl refl d_ready
             e_ready conflict (settled k.0 j.0 (omega (arith, count, k.1)) lower)
@@ -72,16 +73,16 @@ module _ (m : List Instance) (g : DependencyGraph) (is : IsGraphOf m g) (ready :
         | inr back ↦ bad.apart.1 back
       ]
 
-  pub least_from_partner : (k j : ℕ) (x y : Id) → slice_get g.ids k ≡ Some x
+  pub IsLeastUncovered-from_partner : (k j : ℕ) (x y : Id) → slice_get g.ids k ≡ Some x
       → slice_get g.ids j ≡ Some y
       → ((i n : ℕ) → i < k → i < n → IsSettled m (edges_of g) ready i n)
       → IsPartner m (edges_of g) ready k j → IsLeastUncovered m x y
-  least_from_partner k j x y at to before partner = record {
-    rises = (node_order m g is k j x y at to l n).0 partner.above;
+  IsLeastUncovered-from_partner k j x y at to before partner = record {
+    rises = (Below-iff_node m g is k j x y at to l n).0 partner.above;
     uncovered = record {
       ready = (
-        ready_from_mark m g is ready marked k x at bad.both_ready.0,
-        ready_from_mark m g is ready marked j y to bad.both_ready.1,
+        IsReady-from_mark m g is ready marked k x at bad.both_ready.0,
+        IsReady-from_mark m g is ready marked j y to bad.both_ready.1,
       );
       conflict = (
         d,
@@ -93,19 +94,19 @@ module _ (m : List Instance) (g : DependencyGraph) (is : IsGraphOf m g) (ready :
         bad.conflict.4,
       );
       apart = (
-        (λ there. bad.apart.0 ((node_reaches m g is k j x y at to).1 there)),
-        (λ back. bad.apart.1 ((node_reaches m g is j k y x to at).1 back)),
+        (λ there. bad.apart.0 ((NodeReaches-iff m g is k j x y at to).1 there)),
+        (λ back. bad.apart.1 ((NodeReaches-iff m g is j k y x to at).1 back)),
       );
     };
     least = λ v w below other.
-        let i = node_of_committed m g is v other.ready.0.committed in
-        let q = node_of_committed m g is w other.ready.1.committed in
-        let rises = (node_order m g is i.0 q.0 v w i.2 q.2 i.1 q.1).1 below in
+        let i = slice_get-if_committed m g is v other.ready.0.committed in
+        let q = slice_get-if_committed m g is w other.ready.1.committed in
+        let rises = (Below-iff_node m g is i.0 q.0 v w i.2 q.2 i.1 q.1).1 below in
         elim (cases_lt i.0 k) [
           | inl lower ↦ absurd
               (not_uncovered i.0 q.0 v w i.2 q.2 i.1 q.1 (before i.0 q.0 lower rises) other)
           | inr not_lower ↦ elim (cases_lt k i.0) [
-            | inl higher ↦ inl ((node_order m g is k i.0 x v at i.2 l i.1).0 higher)
+            | inl higher ↦ inl ((Below-iff_node m g is k i.0 x v at i.2 l i.1).0 higher)
             | inr not_higher ↦
                 let one : i.0 ≡ k = omega arith in
                 let first : Some x ≡ Some v = sym at ∙ ap (slice_get g.ids) (sym one) ∙ i.2 in
@@ -116,7 +117,7 @@ module _ (m : List Instance) (g : DependencyGraph) (is : IsGraphOf m g) (ready :
                       (partner.least q.0 (omega arith) less)) other)
                   | inr not_less ↦ elim (cases_lt j q.0) [
                     | inl more ↦ inr
-                        (cc first, inr ((node_order m g is j q.0 y w to q.2 n q.1).0 more))
+                        (cc first, inr ((Below-iff_node m g is j q.0 y w to q.2 n q.1).0 more))
                     | inr not_more ↦
                         let two : j ≡ q.0 = omega arith in
                         let second : Some y ≡ Some w = sym to ∙ ap (slice_get g.ids) two ∙ q.2 in
@@ -142,13 +143,13 @@ module _ (m : List Instance) (g : DependencyGraph) (is : IsGraphOf m g) (ready :
     at_e = bad.conflict.3
 
     l : k < g.committed
-    l = omega (arith, slice_get_within m k d at_d, committed_count m g is)
+    l = omega (arith, slice_get_within m k d at_d, committed-count m g is)
 
     n : j < g.committed
-    n = omega (arith, slice_get_within m j e at_e, committed_count m g is)
+    n = omega (arith, slice_get_within m j e at_e, committed-count m g is)
 
     is_x : d.id ≡ x
-    is_x = let same : Some d.id ≡ Some x = sym (node_of_place m g is k d at_d l) ∙ at in cc same
+    is_x = let same : Some d.id ≡ Some x = sym (slice_get-node m g is k d at_d l) ∙ at in cc same
 
     is_y : e.id ≡ y
-    is_y = let same : Some e.id ≡ Some y = sym (node_of_place m g is j e at_e n) ∙ to in cc same
+    is_y = let same : Some e.id ≡ Some y = sym (slice_get-node m g is j e at_e n) ∙ to in cc same

@@ -8,38 +8,38 @@ use Rattle.epx_types.proofs.Common.{All-nil, Contains-get_or}
 use Rattle.epx_graph.proofs.Common.{DependencyGraph, edges_of}
 use Rattle.epx_audit.specs.declared.reach_index.ReachIndex.{ReachIndex}
 use Rattle.epx_audit.specs.inner.ReachIndexes.{IsReachIndex}
-use Rattle.epx_components.proofs.NodePathLemmas.{reaches_itself, reaches_on}
-use Rattle.epx_components.specs.ReadyMarks.{is_marked}
+use Rattle.epx_components.proofs.NodePathLemmas.{NodeReaches-itself, NodeReaches-trans}
+use Rattle.epx_components.specs.between.ReadyMarks.{is_marked}
 use Rattle.epx_audit.specs.declared.doubtful_touches.DoubtfulTouch.{DoubtfulTouch}
 use Rattle.epx_audit.specs.inner.DoubtfulKeys.{AreRelated, HoldUnsettled}
 use Rattle.epx_audit.specs.inner.UnsettledNodes.{doubtful_at, TouchKeysRise, touch_in, Follows}
 use Rattle.epx_audit.specs.inner.UnsettledNodes.{IsBehindEnd, FollowAll}
-use Rattle.epx_audit.proofs.SharingMarkLemmas.{doubtful_at_index}
+use Rattle.epx_audit.proofs.SharingMarkLemmas.{doubtful_at-index}
 
 module _ (edges : ℕ → List ℕ) where
-  pub follows_itself : (on : Bool) (k j : ℕ) → k ≡ j → Follows edges on k j
-  follows_itself true k j same = reaches_itself edges k j same
-  follows_itself false k j same = reaches_itself edges j k (sym same)
+  pub Follows-itself : (on : Bool) (k j : ℕ) → k ≡ j → Follows edges on k j
+  Follows-itself true k j same = NodeReaches-itself edges k j same
+  Follows-itself false k j same = NodeReaches-itself edges j k (sym same)
 
-  pub follows_on : (on : Bool) (i j k : ℕ) → Follows edges on i j → Follows edges on j k
+  pub Follows-trans : (on : Bool) (i j k : ℕ) → Follows edges on i j → Follows edges on j k
       → Follows edges on i k
-  follows_on true i j k first second = reaches_on edges i j k first second
-  follows_on false i j k first second = reaches_on edges k j i second first
+  Follows-trans true i j k first second = NodeReaches-trans edges i j k first second
+  Follows-trans false i j k first second = NodeReaches-trans edges k j i second first
 
   -- what follows from an end follows from an end behind which that end is
-  pub behind_on : (on : Bool) (ends more : List ℕ)
+  pub IsBehindEnd-trans : (on : Bool) (ends more : List ℕ)
       → ((j : ℕ) → Contains ends j → IsBehindEnd edges on more j) → (k : ℕ)
       → IsBehindEnd edges on ends k → IsBehindEnd edges on more k
-  behind_on on ends more each k behind =
+  IsBehindEnd-trans on ends more each k behind =
       let b = each behind.0 behind.1 in
-      (b.0, b.1, follows_on on b.0 behind.0 k b.2 behind.2)
+      (b.0, b.1, Follows-trans on b.0 behind.0 k b.2 behind.2)
 
 -- between two steps at one key all steps are at that key
-pub key_between : (on : Bool) (touches : List DoubtfulTouch) (n s : ℕ)
+pub touch_in-key_between : (on : Bool) (touches : List DoubtfulTouch) (n s : ℕ)
     → TouchKeysRise touches (length touches) → n < length touches → s < n
     → (touch_in on touches s).key ≡ (touch_in on touches n).key
     → (touch_in on touches (n - 1)).key ≡ (touch_in on touches n).key
-key_between true touches n s rise l below same = elim (cases_lt s (n - 1)) [
+touch_in-key_between true touches n s rise l below same = elim (cases_lt s (n - 1)) [
   | inl before ↦ omega (
     arith,
     rise s (n - 1) before (omega arith),
@@ -49,7 +49,7 @@ key_between true touches n s rise l below same = elim (cases_lt s (n - 1)) [
   | inr last ↦ let is : n - 1 ≡ s = omega arith in
       ap (λ i. (doubtful_at touches i).key) is ∙ same
 ]
-key_between false touches n s rise l below same =
+touch_in-key_between false touches n s rise l below same =
     let own = length touches - 1 - n in
     let next = length touches - 1 - (n - 1) in
     let other = length touches - 1 - s in
@@ -80,27 +80,27 @@ module _ (edges : ℕ → List ℕ) (on : Bool) (touches : List DoubtfulTouch) (
   Now = touch_in on touches n
 
   -- at the first touch of another key there are no ends
-  pub ends_cleared : TouchKeysRise touches (length touches) → (key : ℕ)
+  pub HaveEnds-cleared : TouchKeysRise touches (length touches) → (key : ℕ)
       → (0 < n → (touch_in on touches (n - 1)).key ≡ key) → Now.key ≢ key
       → HaveEnds edges on touches Now.key [] [] n
-  ends_cleared rise key last other = record {
+  HaveEnds-cleared rise key last other = record {
     touched = λ s below same. absurd (none s below same);
     written = λ s below same writes. absurd (none s below same);
   } where
     none : (s : ℕ) → s < n → (touch_in on touches s).key ≡ Now.key → ⊥
-    none s below same = other (sym (key_between on touches n s rise l below same)
+    none s below same = other (sym (touch_in-key_between on touches n s rise l below same)
         ∙ last (omega arith))
 
   -- a node that follows the ends that matter to it follows the touches
-  pub follow_from_ends : (touching writing before : List ℕ)
+  pub Follows-from_ends : (touching writing before : List ℕ)
       → HaveEnds edges on touches Now.key touching writing n
       → (IsTrue Now.writes → before ≡ touching) → (Now.writes ≡ false → before ≡ writing)
       → ((k : ℕ) → Contains before k → Follows edges on Now.node k) → (s : ℕ) → s < n
       → (touch_in on touches s).key ≡ Now.key
       → IsTrue (touch_in on touches s).writes ⊎ IsTrue Now.writes
       → Follows edges on Now.node (touch_in on touches s).node
-  follow_from_ends touching writing before ends if_writes if_reads follow s below same one =
-      let b = behind in follows_on edges on Now.node b.0 _ (follow b.0 b.1) b.2
+  Follows-from_ends touching writing before ends if_writes if_reads follow s below same one =
+      let b = behind in Follows-trans edges on Now.node b.0 _ (follow b.0 b.1) b.2
     where
       behind : IsBehindEnd edges on before (touch_in on touches s).node
       behind = elim (cases_Bool Now.writes) [
@@ -116,14 +116,14 @@ module _ (edges : ℕ → List ℕ) (on : Bool) (touches : List DoubtfulTouch) (
       ]
 
   -- one more step
-  pub follow_more : (unsettled more : List Bool) → FollowAll edges on touches unsettled n
+  pub FollowAll-next : (unsettled more : List Bool) → FollowAll edges on touches unsettled n
       → ((k : ℕ) → IsTrue (is_marked unsettled k) → IsTrue (is_marked more k))
       → (IsTrue (is_marked more Now.node)
       ⊎ ((s : ℕ) → s < n → (touch_in on touches s).key ≡ Now.key
       → IsTrue (touch_in on touches s).writes ⊎ IsTrue Now.writes
       → Follows edges on Now.node (touch_in on touches s).node))
       → FollowAll edges on touches more (n + 1)
-  follow_more unsettled more old keeps here s t below within same one = elim (cases_lt t n) [
+  FollowAll-next unsettled more old keeps here s t below within same one = elim (cases_lt t n) [
     | inl past ↦ elim (old s t below past same one) [
       | inl marked ↦ inl (keeps _ marked)
       | inr follows ↦ inr follows
@@ -142,26 +142,26 @@ module _ (edges : ℕ → List ℕ) (on : Bool) (touches : List DoubtfulTouch) (
   ]
 
   -- the ends after one more step
-  pub ends_more : (touching writing all writers : List ℕ)
+  pub HaveEnds-next : (touching writing all writers : List ℕ)
       → HaveEnds edges on touches Now.key touching writing n
       → ((k : ℕ) → Contains touching k → IsBehindEnd edges on all k) → Contains all Now.node
       → ((k : ℕ) → Contains writing k → IsBehindEnd edges on writers k)
       → (IsTrue Now.writes → Contains writers Now.node)
       → HaveEnds edges on touches Now.key all writers (n + 1)
-  ends_more touching writing all writers old behind own writers_behind own_writes = record {
+  HaveEnds-next touching writing all writers old behind own writers_behind own_writes = record {
     touched = λ s within same. elim (cases_lt s n) [
-      | inl past ↦ behind_on edges on touching all behind _ (old.touched s past same)
+      | inl past ↦ IsBehindEnd-trans edges on touching all behind _ (old.touched s past same)
       | inr last ↦ let is : n ≡ s = omega arith in
           subst (λ s. IsBehindEnd edges on all (touch_in on touches s).node) is
-          (Now.node, own, follows_itself edges on Now.node Now.node refl)
+          (Now.node, own, Follows-itself edges on Now.node Now.node refl)
     ];
     written = λ s within same writes. elim (cases_lt s n) [
-      | inl past ↦ behind_on edges on writing writers writers_behind _
+      | inl past ↦ IsBehindEnd-trans edges on writing writers writers_behind _
           (old.written s past same writes)
       | inr last ↦ let is : n ≡ s = omega arith in
           (subst (λ s. IsTrue (touch_in on touches s).writes
           → IsBehindEnd edges on writers (touch_in on touches s).node) is
-          (λ own. (Now.node, own_writes own, follows_itself edges on Now.node Now.node refl)))
+          (λ own. (Now.node, own_writes own, Follows-itself edges on Now.node Now.node refl)))
           writes
     ];
   }
@@ -194,16 +194,16 @@ module _ (edges : ℕ → List ℕ) (touches : List DoubtfulTouch) (unsettled : 
             | inr there ↦ inr (inr there)
           ])) (sym same) (flip one)
       | inr not_after ↦ let is : a ≡ b = omega arith in
-          inr (inl (reaches_itself edges _ _ (ap (λ i. (doubtful_at touches i).node) is)))
+          inr (inl (NodeReaches-itself edges _ _ (ap (λ i. (doubtful_at touches i).node) is)))
     ]
   ] where
     flip : {A B : Type 0} → A ⊎ B → B ⊎ A
     flip one = elim one [ inl a ↦ inr a | inr b ↦ inl b ]
 
-  pub hold_unsettled : HoldUnsettled edges touches unsettled
-  hold_unsettled k j share =
-      let mine = doubtful_at_index touches share.mine share.held.0 in
-      let other = doubtful_at_index touches share.other share.held.1 in
+  pub HoldUnsettled-from_follow : HoldUnsettled edges touches unsettled
+  HoldUnsettled-from_follow k j share =
+      let mine = doubtful_at-index touches share.mine share.held.0 in
+      let other = doubtful_at-index touches share.other share.held.1 in
       let found = (subst₂ (λ (t : DoubtfulTouch) (u : DoubtfulTouch). t.key ≡ u.key
       → IsTrue t.writes ⊎ IsTrue u.writes
       → IsTrue (is_marked unsettled t.node) ⊎ AreRelated edges t.node u.node) mine other
@@ -213,38 +213,40 @@ module _ (edges : ℕ → List ℕ) (touches : List DoubtfulTouch) (unsettled : 
       share.nodes.1 found
 
 -- the nodes of the touches so far are marked
-pub marks_more : (touches : List DoubtfulTouch) (marks : List Bool) (n : ℕ)
+pub is_marked-next : (touches : List DoubtfulTouch) (marks : List Bool) (n : ℕ)
     → (doubtful_at touches n).node < length marks
     → ((i : ℕ) → i < n → IsTrue (is_marked marks (doubtful_at touches i).node)) → (i : ℕ)
     → i < n + 1
     → IsTrue (is_marked (set marks (doubtful_at touches n).node true) (doubtful_at touches i).node)
-marks_more touches marks n within old i below = elim (cases_eq (doubtful_at touches i).node node) [
-  | inl same ↦ subst (λ k. IsTrue (is_marked (set marks node true) k)) (sym same)
-      (get_or-set_same marks node true false within)
-  | inr differ ↦ elim (cases_lt i n) [
-    | inl past ↦ get_or-set_other marks node (doubtful_at touches i).node true false differ
-        ∙ old i past
-    | inr here ↦ let one : i ≡ n = omega arith in
-        absurd (differ (ap (λ i. (doubtful_at touches i).node) one))
-  ]
-] where
-  node : ℕ
-  node = (doubtful_at touches n).node
+is_marked-next touches marks n within old i below =
+    elim (cases_eq (doubtful_at touches i).node node) [
+      | inl same ↦ subst (λ k. IsTrue (is_marked (set marks node true) k)) (sym same)
+          (get_or-set_same marks node true false within)
+      | inr differ ↦ elim (cases_lt i n) [
+        | inl past ↦ get_or-set_other marks node (doubtful_at touches i).node true false differ
+            ∙ old i past
+        | inr here ↦ let one : i ≡ n = omega arith in
+            absurd (differ (ap (λ i. (doubtful_at touches i).node) one))
+      ]
+    ] where
+      node : ℕ
+      node = (doubtful_at touches n).node
 
 -- a mark more keeps the others
-pub marks_keep : (marks : List Bool) (node k : ℕ) → node < length marks
+pub is_marked-set : (marks : List Bool) (node k : ℕ) → node < length marks
     → IsTrue (is_marked marks k) → IsTrue (is_marked (set marks node true) k)
-marks_keep marks node k within marked = elim (cases_eq k node) [
+is_marked-set marks node k within marked = elim (cases_eq k node) [
   | inl same ↦ subst (λ k. IsTrue (is_marked (set marks node true) k)) (sym same)
       (get_or-set_same marks node true false within)
   | inr differ ↦ get_or-set_other marks node k true false differ ∙ marked
 ]
 
 -- the touch at a step is one of the touches
-pub touch_held : (on : Bool) (touches : List DoubtfulTouch) (n : ℕ) → n < length touches
+pub Contains-touch_in : (on : Bool) (touches : List DoubtfulTouch) (n : ℕ) → n < length touches
     → Contains touches (touch_in on touches n)
-touch_held true touches n l = Contains-get_or touches n _ l
-touch_held false touches n l = Contains-get_or touches (length touches - 1 - n) _ (omega arith)
+Contains-touch_in true touches n l = Contains-get_or touches n _ l
+Contains-touch_in false touches n l =
+    Contains-get_or touches (length touches - 1 - n) _ (omega arith)
 
 -- the ends are nodes of an index
 abbrev pub AreInIndex : ReachIndex → List ℕ → Type 0
@@ -265,61 +267,63 @@ module _ (reach : ReachIndex) (on : Bool) (touches : List DoubtfulTouch) (n : �
   Own = (touch_in on touches n).key
 
   -- the ends at the key of the touch
-  pub ends_joined : (key now : ℕ) (touching writing now_touching now_writing : List ℕ)
+  pub HaveEndsIn-joined : (key now : ℕ) (touching writing now_touching now_writing : List ℕ)
       → (0 < n → (touch_in on touches (n - 1)).key ≡ key)
       → HaveEndsIn reach on touches key touching writing n
       → ((t.key ≢ key) × (now ≡ t.key) × (now_touching ≡ []) × (now_writing ≡ []))
       ⊎ ((t.key ≡ key) × (now ≡ key) × (now_touching ≡ touching) × (now_writing ≡ writing))
       → (now ≡ Own) × HaveEndsIn reach on touches Own now_touching now_writing n
-  ends_joined key now touching writing now_touching now_writing last old branch = elim branch [
-    | inl cleared ↦ (
-      cleared.1 ∙ own,
-      record {
-        touching_in = subst (All (λ k. k < length reach.positions.items)) (sym cleared.2)
-            (All-nil (λ k. k < length reach.positions.items));
-        writing_in = subst (All (λ k. k < length reach.positions.items)) (sym cleared.3)
-            (All-nil (λ k. k < length reach.positions.items));
-        ends = λ g index. subst₂ (λ (a b : List ℕ). HaveEnds (edges_of g) on touches Own a b n)
-            (sym cleared.2) (sym cleared.3)
-            (ends_cleared (edges_of g) on touches n l rise key last
-            (λ same. cleared.0 (own ∙ same)));
-      },
-    )
-    | inr kept ↦
-        let same : key ≡ Own = sym kept.0 ∙ own in (
-          kept.1 ∙ same,
+  HaveEndsIn-joined key now touching writing now_touching now_writing last old branch =
+      elim branch [
+        | inl cleared ↦ (
+          cleared.1 ∙ own,
           record {
-            touching_in = subst (All (λ k. k < length reach.positions.items)) (sym kept.2)
-                old.touching_in;
-            writing_in = subst (All (λ k. k < length reach.positions.items)) (sym kept.3)
-                old.writing_in;
-            ends = λ g index.
-                subst (λ key. HaveEnds (edges_of g) on touches key now_touching now_writing n) same
-                (subst₂ (λ (a b : List ℕ). HaveEnds (edges_of g) on touches key a b n)
-                (sym kept.2) (sym kept.3) (old.ends g index));
+            touching_in = subst (All (λ k. k < length reach.positions.items)) (sym cleared.2)
+                (All-nil (λ k. k < length reach.positions.items));
+            writing_in = subst (All (λ k. k < length reach.positions.items)) (sym cleared.3)
+                (All-nil (λ k. k < length reach.positions.items));
+            ends = λ g index. subst₂ (λ (a b : List ℕ). HaveEnds (edges_of g) on touches Own a b n)
+                (sym cleared.2) (sym cleared.3)
+                (HaveEnds-cleared (edges_of g) on touches n l rise key last
+                (λ same. cleared.0 (own ∙ same)));
           },
         )
-  ] where
-    own : t.key ≡ Own
-    own = ap (λ (t : DoubtfulTouch). t.key) is
+        | inr kept ↦
+            let same : key ≡ Own = sym kept.0 ∙ own in (
+              kept.1 ∙ same,
+              record {
+                touching_in = subst (All (λ k. k < length reach.positions.items)) (sym kept.2)
+                    old.touching_in;
+                writing_in = subst (All (λ k. k < length reach.positions.items)) (sym kept.3)
+                    old.writing_in;
+                ends = λ g index.
+                    subst (λ key. HaveEnds (edges_of g) on touches key now_touching now_writing n)
+                    same (subst₂ (λ (a b : List ℕ). HaveEnds (edges_of g) on touches key a b n)
+                    (sym kept.2) (sym kept.3) (old.ends g index));
+              },
+            )
+      ] where
+        own : t.key ≡ Own
+        own = ap (λ (t : DoubtfulTouch). t.key) is
 
 -- more marks leave the others as they are
-pub follow_keeps : (edges : ℕ → List ℕ) (on : Bool) (touches : List DoubtfulTouch)
+pub FollowAll-more_marks : (edges : ℕ → List ℕ) (on : Bool) (touches : List DoubtfulTouch)
     (old more : List Bool) (n : ℕ)
     → ((k : ℕ) → IsTrue (is_marked old k) → IsTrue (is_marked more k))
     → FollowAll edges on touches old n → FollowAll edges on touches more n
-follow_keeps edges on touches old more n keeps follow s t below within same one =
+FollowAll-more_marks edges on touches old more n keeps follow s t below within same one =
     elim (follow s t below within same one) [
       | inl marked ↦ inl (keeps _ marked)
       | inr follows ↦ inr follows
     ]
 
 -- if the nodes of all touches are marked
-pub hold_if_all_marked : (edges : ℕ → List ℕ) (touches : List DoubtfulTouch) (marks : List Bool)
+pub HoldUnsettled-if_all_marked : (edges : ℕ → List ℕ) (touches : List DoubtfulTouch)
+    (marks : List Bool)
     → ((i : ℕ) → i < length touches → IsTrue (is_marked marks (doubtful_at touches i).node))
     → HoldUnsettled edges touches marks
-hold_if_all_marked edges touches marks all k j share =
+HoldUnsettled-if_all_marked edges touches marks all k j share =
     let h = share.held.0 in
     let is : (doubtful_at touches h.0).node ≡ k =
-    ap (λ (t : DoubtfulTouch). t.node) (doubtful_at_index touches share.mine h) ∙ share.nodes.0 in
+    ap (λ (t : DoubtfulTouch). t.node) (doubtful_at-index touches share.mine h) ∙ share.nodes.0 in
     inl (subst (λ k. IsTrue (is_marked marks k)) is (all h.0 h.1))

@@ -1,4 +1,4 @@
 pub mod Uncovered
 pub mod UncoveredLaws
-pub mod RelatedPairs
+pub mod between
 pub mod inner

@@ -6,11 +6,11 @@ ghost use Rattle.epx_types.specs.Instances.{Instance};
 ghost use Rattle.epx_types.specs.ExecutionOrder.{IsExecutionOrder};
 ghost use Rattle.epx_graph.specs.Graphs.{DependencyGraph, edges_of};
 ghost use Rattle.epx_graph.specs.GraphOf.{IsGraphOf};
-ghost use Rattle.epx_components.specs.Partitions.{parts, IsPartitionOf};
+ghost use Rattle.epx_components.specs.between.Partitions.{parts, IsPartitionOf};
 ghost use Rattle.epx_audit.specs.inner.Batches.{IsBatch, IsWhole};
 ghost use Rattle.epx_audit.specs.inner.DoubtfulKeys.{AreInRange, HoldAllConflicts, HoldUnsettled};
 ghost use Rattle.epx_audit.specs.inner.NodeConflicts.{keys_of, IsSettled, IsPartner};
-ghost use Rattle.epx_components.specs.ReadyMarks.{is_marked};
+ghost use Rattle.epx_components.specs.between.ReadyMarks.{is_marked};
 ghost use Rattle.epx_audit.specs.inner.Sources.{AreSources, AreSettled, IsFirstPair, IsLeastPair};
 ghost use Rattle.epx_audit.specs.Uncovered.{IsLeastUncovered};
 

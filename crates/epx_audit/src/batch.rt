@@ -2,7 +2,7 @@
 ghost use Rattle.std.specs.Prelude.{◌↔◌, ℕ, ◌<◌, ◌≤◌, List, length, slice_index, All, IsTrue};
 ghost use Rattle.std.specs.Prelude.{IfOk};
 ghost use Rattle.epx_graph.specs.Graphs.{DependencyGraph, edges_of};
-ghost use Rattle.epx_components.specs.Partitions.{parts, IsPartitionOf};
+ghost use Rattle.epx_components.specs.between.Partitions.{parts, IsPartitionOf};
 ghost use Rattle.epx_audit.specs.declared.doubtful_touches.DoubtfulTouch.{DoubtfulTouch};
 ghost use Rattle.epx_audit.specs.inner.Batches.{IsBatch, IsWhole, IsReadyApart};
 ghost use Rattle.epx_audit.specs.inner.DoubtfulKeys.{AreInRange, IsRelatedOrFree};

@@ -4,7 +4,7 @@ ghost use Rattle.std.specs.Prelude.{All, Contains, IfOk, OnOk, IfSome};
 ghost use Rattle.epx_types.specs.ExecutionOrder.{IsExecutionOrder};
 ghost use Rattle.epx_graph.specs.Graphs.{DependencyGraph, edges_of};
 ghost use Rattle.epx_graph.specs.GraphOf.{IsGraphOf};
-ghost use Rattle.epx_audit.specs.RelatedPairs.{AreLaterFirst, AreRelatedMarks};
+ghost use Rattle.epx_audit.specs.between.RelatedPairs.{AreLaterFirst, AreRelatedMarks};
 ghost use Rattle.epx_audit.specs.declared.pair_marks.LeftPair.{LeftPair};
 ghost use Rattle.epx_audit.specs.inner.PairMarks.{AreExactMarks, AreExactBut, left_at};
 ghost use Rattle.epx_audit.specs.inner.PathCovers.{IsPathCover};

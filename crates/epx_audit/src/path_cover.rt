@@ -5,13 +5,13 @@ ghost use Rattle.std.specs.Prelude.{None};
 ghost use Rattle.epx_types.specs.ExecutionOrder.{IsExecutionOrder};
 ghost use Rattle.epx_graph.specs.GraphOf.{IsGraphOf};
 ghost use Rattle.epx_graph.specs.Graphs.{DependencyGraph, edges_of};
-ghost use Rattle.epx_graph.specs.NodePaths.{NodeReaches};
+ghost use Rattle.epx_graph.specs.between.NodePaths.{NodeReaches};
 ghost use Rattle.epx_audit.specs.inner.ReachIndexes.{AreOrderNodes, LeadersJoin};
 ghost use Rattle.epx_audit.specs.inner.PathCovers.{AddsTo, AreCovered, AreJoined, AreNotedPaths};
 ghost use Rattle.epx_audit.specs.inner.PathCovers.{ArePositions, IsEntryAt, IsMemberEntry};
 ghost use Rattle.epx_audit.specs.inner.PathCovers.{IsNextComponent, IsPathCover, IsCoverRow};
 ghost use Rattle.epx_audit.specs.inner.PathCovers.{IsTargetEntry, LeadBefore, greatest_on};
-ghost use Rattle.epx_audit.specs.inner.PathCovers.{lists_of, member_at, path_at};
+ghost use Rattle.epx_audit.specs.inner.PathCovers.{lists_of, path_at};
 ghost use Rattle.epx_audit.specs.declared.path_cover.PathMember.{PathMember};
 
 use epx_committed::Merged;

@@ -1,5 +1,5 @@
 //! A quick audit. It finds most covered maps to be covered.
-ghost use Rattle.std.specs.Prelude.{◌≡◌, ◌<◌, ◌≤◌, length, slice_get, All, IfOk, IsTrue};
+ghost use Rattle.std.specs.Prelude.{◌≡◌, ◌<◌, ◌≤◌, length, slice_get, IfOk, IsTrue};
 ghost use Rattle.epx_types.specs.CommittedMap.{IsCommitted, ids_of};
 ghost use Rattle.epx_types.specs.Conflicts.{IsCovered};
 ghost use Rattle.epx_types.specs.Ids.{IsRising};

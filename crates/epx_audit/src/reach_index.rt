@@ -4,7 +4,7 @@ ghost use Rattle.std.specs.Prelude.{IsTrue};
 ghost use Rattle.epx_types.specs.ExecutionOrder.{IsExecutionOrder};
 ghost use Rattle.epx_graph.specs.Graphs.{DependencyGraph, edges_of};
 ghost use Rattle.epx_graph.specs.GraphOf.{IsGraphOf};
-ghost use Rattle.epx_graph.specs.NodePaths.{NodeReaches};
+ghost use Rattle.epx_graph.specs.between.NodePaths.{NodeReaches};
 ghost use Rattle.epx_audit.specs.inner.ReachIndexes.{AreOrderNodes, IsChain, IsReachIndex};
 ghost use Rattle.epx_audit.specs.inner.ReachIndexes.{LeadersJoin};
 
@@ -90,11 +90,13 @@ impl ReachIndex {
             return false;
         };
         let (later, earlier) = (self.positions[from], self.positions[to]);
-        self.is_at(later, from) && self.is_at(earlier, to) && cover.reaches(later, earlier)
+        self.has_node_at(later, from)
+            && self.has_node_at(earlier, to)
+            && cover.reaches(later, earlier)
     }
 
     /// Whether a position has a node. The position of a node that is not in the order does not.
-    fn is_at(&self, position: usize, node: usize) -> bool
+    fn has_node_at(&self, position: usize, node: usize) -> bool
         ensures { IsTrue result → (position < length self.now.nodes.items)
             × (slice_index self.now.nodes.items position ≡ node) }
     {

@@ -1,7 +1,7 @@
 //! Which components the sources reach, and which components reach the sources.
 ghost use Rattle.std.specs.Prelude.{◌≡◌, ◌↔◌, ◌⊎◌, ℕ, ◌<◌, ◌≤◌, length, map, slice_index, All, ⊤};
 ghost use Rattle.std.specs.Prelude.{IsTrue, IfOk};
-ghost use Rattle.epx_components.specs.Partitions.{parts, component_of, IsPartitionOf};
+ghost use Rattle.epx_components.specs.between.Partitions.{parts, component_of, IsPartitionOf};
 ghost use Rattle.epx_audit.specs.inner.Batches.{AreReachedBy, AreReaching};
 ghost use Rattle.epx_audit.specs.inner.SourceBits.{has_bit, AreSourceMarks};
 

@@ -1,7 +1,7 @@
 //! The nodes that may have a partner in an uncovered pair.
-ghost use Rattle.std.specs.Prelude.{◌≡◌, ℕ, ◌<◌, List, length, All, Contains, IfOk, OnOk, IsTrue};
+ghost use Rattle.std.specs.Prelude.{◌≡◌, ℕ, ◌<◌, length, All, Contains, IfOk, OnOk, IsTrue};
 ghost use Rattle.epx_graph.specs.Graphs.{DependencyGraph, edges_of};
-ghost use Rattle.epx_components.specs.ReadyMarks.{is_marked};
+ghost use Rattle.epx_components.specs.between.ReadyMarks.{is_marked};
 ghost use Rattle.epx_audit.specs.declared.doubtful_touches.DoubtfulTouch.{DoubtfulTouch};
 ghost use Rattle.epx_audit.specs.inner.DoubtfulKeys.{HoldUnsettled};
 ghost use Rattle.epx_audit.specs.inner.UnsettledNodes.{AreTouchesOf, TouchKeysRise, touch_in};

@@ -1,9 +1,10 @@
 -- There is exactly one text that says which missing instances to recover first.
 use Rattle.std.proofs.Common.{◌≡◌, inl, inr, List, [], ◌∷◌, ◌++◌, flat_map, map, Contains}
 use Rattle.std.proofs.Common.{refl, sym, ap₂, subst, ◌∙◌}
-use Rattle.epx_types.proofs.Common.{Below, Instance, ids_of, DependsOn, id_cmp_total}
-use Rattle.epx_types.proofs.Common.{AllPairs-from_rising_ids, below_irrefl, below_trans}
-use Rattle.epx_types.proofs.Common.{same_rising, Contains-nil, Contains-cons_cases, Contains-map}
+use Rattle.epx_types.proofs.Common.{Below, Instance, ids_of, DependsOn, id_cmp-IsTotalOrder}
+use Rattle.epx_types.proofs.Common.{AllPairs-from_rising_ids, is_lt-irrefl, is_lt-trans}
+use Rattle.epx_types.proofs.Common.{AllPairs-is_unique, Contains-nil, Contains-cons_cases}
+use Rattle.epx_types.proofs.Common.{Contains-map}
 use Rattle.epx_types.proofs.Common.{Contains-from_map, Contains-flat_map, DependsOn-cases}
 use Rattle.epx_types.proofs.Common.{DependsOn-committed}
 use Rattle.epx_types.specs.declared.id.Id.{Id}
@@ -14,7 +15,7 @@ use Rattle.epx_blockers.specs.BlockerLines.{blocks_line, several_line}
 use Rattle.epx_blockers.specs.Blockers.{HasBlockerCounts, AreBlockers}
 use Rattle.epx_blockers.specs.Blocking.{BlocksAlone, SeveralBlock}
 use Rattle.epx_blockers.specs.IdCounts.{IsListOf, IsCount}
-use Rattle.epx_blockers.proofs.IdCountLemmas.{count_is_unique, count_exists, list_exists}
+use Rattle.epx_blockers.proofs.IdCountLemmas.{IsCount-is_unique, IsCount-exists, IsListOf-exists}
 use Rattle.epx_blockers.proofs.BlockingLemmas.{BlocksAlone-cases, SeveralBlock-cases}
 use Rattle.epx_blockers.proofs.BlockingLemmas.{IsMissing-cases}
 
@@ -23,9 +24,9 @@ module _ (m : List Instance) where
 
   same_counts : (b c : Blocker) → c.id ≡ b.id → HasBlockerCounts m b → HasBlockerCounts m c → c ≡ b
   same_counts b c same p q =
-      let alone : c.alone ≡ b.alone = count_is_unique (BlocksAlone m b.id) c.alone b.alone
+      let alone : c.alone ≡ b.alone = IsCount-is_unique (BlocksAlone m b.id) c.alone b.alone
       (subst (λ (x : Id). IsCount (BlocksAlone m x) c.alone) same q.alone) p.alone in
-      let named : c.named ≡ b.named = count_is_unique (λ x. DependsOn m x b.id) c.named b.named
+      let named : c.named ≡ b.named = IsCount-is_unique (λ x. DependsOn m x b.id) c.named b.named
       (subst (λ (y : Id). IsCount (λ x. DependsOn m x y) c.named) same q.named) p.named in
       λ i. record { id = same i; alone = alone i; named = named i }
 
@@ -39,8 +40,8 @@ module _ (m : List Instance) where
 
   pub AreBlockers-unique : (bs cs : List Blocker) → AreBlockers m bs → AreBlockers m cs → bs ≡ cs
   AreBlockers-unique bs cs p q =
-      same_rising (λ a b. Below a.id b.id) (λ b. below_irrefl id_cmp_total b.id)
-      (λ a b c. below_trans id_cmp_total a.id b.id c.id)
+      AllPairs-is_unique (λ a b. Below a.id b.id) (λ b. is_lt-irrefl id_cmp-IsTotalOrder b.id)
+      (λ a b c. is_lt-trans id_cmp-IsTotalOrder a.id b.id c.id)
       bs cs (AllPairs-from_rising_ids (λ (b : Blocker). b.id) bs p.missing.rising)
       (AllPairs-from_rising_ids (λ (b : Blocker). b.id) cs q.missing.rising)
       (blocker_in bs cs p q) (blocker_in cs bs q p)
@@ -49,9 +50,9 @@ module _ (m : List Instance) where
 
   blocker_of : (y : Id) → (b : Blocker) × (b.id ≡ y) × HasBlockerCounts m b
   blocker_of y =
-      let alone = count_exists (BlocksAlone m y) (BlocksAlone-cases m y) (ids_of m)
+      let alone = IsCount-exists (BlocksAlone m y) (BlocksAlone-cases m y) (ids_of m)
       (λ x a. a.blocks.committed) in
-      let named = count_exists (λ x. DependsOn m x y) (λ x. DependsOn-cases m x y) (ids_of m)
+      let named = IsCount-exists (λ x. DependsOn m x y) (λ x. DependsOn-cases m x y) (ids_of m)
       (λ x d. DependsOn-committed m x y d) in (
         record { id = y; alone = alone.0; named = named.0 },
         refl,
@@ -72,9 +73,9 @@ module _ (m : List Instance) where
         ],
       )
 
-  pub blockers_exist : (bs : List Blocker) × AreBlockers m bs
-  blockers_exist =
-      let ids = list_exists (IsMissing m) (IsMissing-cases m) (flat_map (λ e. e.deps) m)
+  pub AreBlockers-exists : (bs : List Blocker) × AreBlockers m bs
+  AreBlockers-exists =
+      let ids = IsListOf-exists (IsMissing m) (IsMissing-cases m) (flat_map (λ e. e.deps) m)
       (λ y missing. let d = missing.0.1 in
       Contains-flat_map (λ (e : Instance). e.deps) m d.0 y d.1 d.3) in
       let bs = blockers_of ids.0 in (
@@ -82,17 +83,17 @@ module _ (m : List Instance) where
         record { missing = subst (IsListOf (IsMissing m)) (sym bs.1) ids.1; each = bs.2 },
       )
 
-pub blockers_text_is_unique : BlockersTextIsUnique
-blockers_text_is_unique m text other p q =
+pub BlockersTextIsUnique-holds : BlockersTextIsUnique
+BlockersTextIsUnique-holds m text other p q =
     let blockers = AreBlockers-unique m p.blockers q.blockers p.missing q.missing in
-    let several = count_is_unique (SeveralBlock m) p.several q.several p.others q.others in
+    let several = IsCount-is_unique (SeveralBlock m) p.several q.several p.others q.others in
     p.printed ∙ ap₂ (λ bs n. flat_map blocks_line bs ++ several_line n) blockers several
     ∙ sym q.printed
 
-pub blockers_text_exists : BlockersTextExists
-blockers_text_exists m =
-    let blockers = blockers_exist m in
-    let several = count_exists (SeveralBlock m) (SeveralBlock-cases m) (ids_of m)
+pub BlockersTextExists-holds : BlockersTextExists
+BlockersTextExists-holds m =
+    let blockers = AreBlockers-exists m in
+    let several = IsCount-exists (SeveralBlock m) (SeveralBlock-cases m) (ids_of m)
     (λ x s. s.2.committed) in (
       flat_map blocks_line blockers.0 ++ several_line several.0,
       record {

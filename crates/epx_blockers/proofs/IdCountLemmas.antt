@@ -3,23 +3,25 @@ use Rattle.std.proofs.Common.{◌≡◌, ◌≢◌, ◌↔◌, ◌⊎◌, inl, i
 use Rattle.std.proofs.Common.{AllPairs, Contains, refl, sym, ap, subst, ◌∙◌, arith}
 use Rattle.epx_types.proofs.Common.{Contains-nil, Contains-append_cases, Contains-append_left}
 use Rattle.epx_types.proofs.Common.{Contains-append_right, Contains-Id_cases, AllPairs-append}
-use Rattle.epx_types.proofs.Common.{IsRising-from_AllPairs, id_cmp_total, id_cmp-IsAntisymmetric}
-use Rattle.epx_types.proofs.Common.{fewer, length-append, rising_list, rising_once, same_ids}
+use Rattle.epx_types.proofs.Common.{IsRising-from_AllPairs, id_cmp-IsTotalOrder}
+use Rattle.epx_types.proofs.Common.{id_cmp-IsAntisymmetric}
+use Rattle.epx_types.proofs.Common.{length-at_most, length-append, AreThose-exists}
+use Rattle.epx_types.proofs.Common.{AllPairs-rising_distinct, IsRising-is_unique}
 use Rattle.epx_types.specs.declared.id.Id.{Id}
 use Rattle.epx_blockers.specs.IdCounts.{IsListOf, IsCount}
 
-pub count_is_unique : (P : Id → Type 0) (n k : ℕ) → IsCount P n → IsCount P k → n ≡ k
-count_is_unique P n k p q =
-    let same = same_ids p.ids q.ids p.listed.rising q.listed.rising
+pub IsCount-is_unique : (P : Id → Type 0) (n k : ℕ) → IsCount P n → IsCount P k → n ≡ k
+IsCount-is_unique P n k p q =
+    let same = IsRising-is_unique p.ids q.ids p.listed.rising q.listed.rising
     (λ x h. (q.listed.exact x).1 ((p.listed.exact x).0 h))
     (λ x h. (p.listed.exact x).1 ((q.listed.exact x).0 h)) in
     sym p.counted ∙ ap length same ∙ q.counted
 
 -- a decidable property that holds only of Ids of a list
-pub list_exists : (P : Id → Type 0) → ((x : Id) → P x ⊎ (¬ P x)) → (xs : List Id)
+pub IsListOf-exists : (P : Id → Type 0) → ((x : Id) → P x ⊎ (¬ P x)) → (xs : List Id)
     → ((x : Id) → P x → Contains xs x) → (ids : List Id) × IsListOf P ids
-list_exists P decide xs within =
-    let those = rising_list id_cmp_total id_cmp-IsAntisymmetric P decide xs in (
+IsListOf-exists P decide xs within =
+    let those = AreThose-exists id_cmp-IsTotalOrder id_cmp-IsAntisymmetric P decide xs in (
       those.0,
       record {
         rising = IsRising-from_AllPairs those.0 those.1.elements_rise;
@@ -30,14 +32,14 @@ list_exists P decide xs within =
       },
     )
 
-pub count_exists : (P : Id → Type 0) → ((x : Id) → P x ⊎ (¬ P x)) → (xs : List Id)
+pub IsCount-exists : (P : Id → Type 0) → ((x : Id) → P x ⊎ (¬ P x)) → (xs : List Id)
     → ((x : Id) → P x → Contains xs x) → (n : ℕ) × IsCount P n
-count_exists P decide xs within =
-    let those = list_exists P decide xs within in
+IsCount-exists P decide xs within =
+    let those = IsListOf-exists P decide xs within in
     (length those.0, record { ids = those.0; listed = those.1; counted = refl })
 
-pub count_none : (P : Id → Type 0) → ((x : Id) → ¬ P x) → IsCount P 0
-count_none P none = record {
+pub IsCount-none : (P : Id → Type 0) → ((x : Id) → ¬ P x) → IsCount P 0
+IsCount-none P none = record {
   ids = [];
   listed = record {
     rising = tt;
@@ -47,9 +49,9 @@ count_none P none = record {
 }
 
 -- the count of a property is that of an equivalent one
-pub count_along : (P Q : Id → Type 0) (n : ℕ) → ((x : Id) → P x ↔ Q x) → IsCount P n
+pub IsCount-equivalent : (P Q : Id → Type 0) (n : ℕ) → ((x : Id) → P x ↔ Q x) → IsCount P n
     → IsCount Q n
-count_along P Q n same p = record {
+IsCount-equivalent P Q n same p = record {
   ids = p.ids;
   listed = record {
     rising = p.listed.rising;
@@ -90,19 +92,21 @@ module _ (P Q : Id → Type 0) (n k : ℕ) (p : IsCount P n) (q : IsCount Q k)
   )
 
   together_once : AllPairs (λ x y. x ≢ y) (p.ids ++ q.ids)
-  together_once = AllPairs-append (λ x y. x ≢ y) p.ids q.ids (rising_once p.ids p.listed.rising)
-      (rising_once q.ids q.listed.rising)
+  together_once =
+      AllPairs-append (λ x y. x ≢ y) p.ids q.ids (AllPairs-rising_distinct p.ids p.listed.rising)
+      (AllPairs-rising_distinct q.ids q.listed.rising)
       (λ x y h there same. apart x ((p.listed.exact x).0 h)
       (subst Q (sym same) ((q.listed.exact y).0 there)))
 
-  pub count_either : IsCount (λ x. P x ⊎ Q x) (n + k)
-  count_either =
-      let both = list_exists (λ x. P x ⊎ Q x)
+  pub IsCount-either : IsCount (λ x. P x ⊎ Q x) (n + k)
+  IsCount-either =
+      let both = IsListOf-exists (λ x. P x ⊎ Q x)
       (λ x. either_cases (listed_cases P p.ids p.listed x) (listed_cases Q q.ids q.listed x))
       (p.ids ++ q.ids) (λ x h. (together x).1 h) in
-      let few = fewer both.0 (p.ids ++ q.ids) (rising_once both.0 both.1.rising)
+      let few =
+      length-at_most both.0 (p.ids ++ q.ids) (AllPairs-rising_distinct both.0 both.1.rising)
       (λ x h. (together x).1 ((both.1.exact x).0 h)) in
-      let many = fewer (p.ids ++ q.ids) both.0 together_once
+      let many = length-at_most (p.ids ++ q.ids) both.0 together_once
       (λ x h. (both.1.exact x).1 ((together x).0 h)) in
       record {
         ids = both.0;

@@ -10,10 +10,12 @@ use Rattle.epx_types.proofs.Common.{DependsOn-committed, Contains-push_cases, ge
 use Rattle.epx_types.proofs.Common.{length-drop, map_push, take_more}
 use Rattle.epx_types.specs.declared.id.Id.{Id}
 use Rattle.epx_graph.specs.GraphOf.{IsMissing}
-use Rattle.epx_graph.proofs.Common.{DependencyGraph, IsGraphOf, edges_of, missing_ids, node_id}
-use Rattle.epx_graph.proofs.Common.{node_is_unique, node_committed, node_of_committed}
-use Rattle.epx_graph.proofs.Common.{node_reaches, reached_node, reached_within, missing_id}
-use Rattle.epx_graph.proofs.Common.{missing_number, committed_order}
+use Rattle.epx_graph.proofs.Common.{DependencyGraph, IsGraphOf, edges_of, missing_ids}
+use Rattle.epx_graph.proofs.Common.{slice_get-id_of_node}
+use Rattle.epx_graph.proofs.Common.{ids-is_unique, IsCommitted-iff_node, slice_get-if_committed}
+use Rattle.epx_graph.proofs.Common.{NodeReaches-iff, NodeReaches-exists, IsNodePath-within}
+use Rattle.epx_graph.proofs.Common.{IsCommitted-not_past}
+use Rattle.epx_graph.proofs.Common.{committed-if_missing, Below-committed}
 use Rattle.epx_blockers.specs.declared.blocker.Blocker.{Blocker}
 use Rattle.epx_blockers.specs.declared.reached.Reached.TheVariants.{Several}
 use Rattle.epx_blockers.specs.Blockers.{HasBlockerCounts, AreBlockers}
@@ -48,7 +50,7 @@ module _ (m : List Instance) (g : DependencyGraph) (is : IsGraphOf m g) where
         let h = slice_get-from_map name count.nodes j y q in
         let low = ((count.exact k.0).0 (Contains-slice_get count.nodes i k.0 k.1)).0 in
         let high = ((count.exact h.0).0 (Contains-slice_get count.nodes j h.0 h.1)).0 in
-        (committed_order g is.graph k.0 h.0 x y (name_at k.0 low ∙ ap Some k.2)
+        (Below-committed g is.graph k.0 h.0 x y (name_at k.0 low ∙ ap Some k.2)
         (name_at h.0 high ∙ ap Some h.2) low high).0
         (AllPairs-slice_get (λ a b. a < b) count.nodes count.rising i j k.0 h.0 l k.1 h.1)))
 
@@ -62,15 +64,15 @@ module _ (m : List Instance) (g : DependencyGraph) (is : IsGraphOf m g) where
     has_name : (x : Id) → Q x → Contains names x
     unfolding names
     has_name x q =
-        let k = node_of_committed m g is x (committed x q) in
+        let k = slice_get-if_committed m g is x (committed x q) in
         let there = (count.exact k.0).1 (k.1, (same k.0 x k.1 k.2).1 q) in
         subst (Contains (map name count.nodes))
         (get_or_from_slice_get g.ids k.0 x (record { replica = 0; number = 0 }) k.2)
         (Contains-map name count.nodes k.0 there)
 
-    pub count_of_nodes : IsCount Q n
+    pub IsCount-from_nodes : IsCount Q n
     unfolding names
-    count_of_nodes = record {
+    IsCount-from_nodes = record {
       ids = map name count.nodes;
       listed = record { rising = names_rise; exact = λ x. (named x, has_name x) };
       counted = length-map count.nodes name ∙ count.counted;
@@ -83,13 +85,13 @@ module _ (m : List Instance) (g : DependencyGraph) (is : IsGraphOf m g) where
         → ReachesMissingNode g k j ↔ Blocks m y x
     blocks_at j y to = (
       λ (past, path). record {
-        committed = (node_committed m g is k x at).0 low;
-        reached = (node_reaches m g is k j x y at to).0 path;
-        missing = missing_id m g is j y to past;
+        committed = (IsCommitted-iff_node m g is k x at).0 low;
+        reached = (NodeReaches-iff m g is k j x y at to).0 path;
+        missing = IsCommitted-not_past m g is j y to past;
       },
       λ b. (
-        missing_number m g is j y to b.missing,
-        (node_reaches m g is k j x y at to).1 b.reached,
+        committed-if_missing m g is j y to b.missing,
+        (NodeReaches-iff m g is k j x y at to).1 b.reached,
       ),
     )
 
@@ -97,14 +99,14 @@ module _ (m : List Instance) (g : DependencyGraph) (is : IsGraphOf m g) where
     blocking_node : (y : Id) → Blocks m y x
         → (j : ℕ) × (slice_get g.ids j ≡ Some y) × ReachesMissingNode g k j
     blocking_node y b =
-        let j = reached_node m g is k x y at b.reached in
+        let j = NodeReaches-exists m g is k x y at b.reached in
         (j.0, j.1, (blocks_at j.0 y j.1).1 b)
 
     -- the Id of a missing node that is reached
     blocking_id : (j : ℕ) → ReachesMissingNode g k j
         → (y : Id) × (slice_get g.ids j ≡ Some y) × Blocks m y x
     blocking_id j there =
-        let y = node_id g is.graph j (reached_within g is.graph k there.1.0 j
+        let y = slice_get-id_of_node g is.graph j (IsNodePath-within g is.graph k there.1.0 j
         (slice_get_within g.ids k x at) there.1.1) in
         (y.0, y.1, (blocks_at j y.0 y.1).0 there)
 
@@ -126,7 +128,7 @@ module _ (m : List Instance) (g : DependencyGraph) (is : IsGraphOf m g) where
         (blocks_at j y to).1 a.blocks,
         λ i there.
             let z = blocking_id i there in
-            node_is_unique g is.graph i j y (z.1 ∙ ap Some (a.only z.0 z.2)) to,
+            ids-is_unique g is.graph i j y (z.1 ∙ ap Some (a.only z.0 z.2)) to,
       ),
     )
 
@@ -139,7 +141,7 @@ module _ (m : List Instance) (g : DependencyGraph) (is : IsGraphOf m g) where
             z.0,
             y.2,
             z.2,
-            λ same. differ (node_is_unique g is.graph i j z.0 (y.1 ∙ ap Some same) z.1),
+            λ same. differ (ids-is_unique g is.graph i j z.0 (y.1 ∙ ap Some same) z.1),
           ),
       λ (y, z, first, second, differ).
           let i = blocking_node y first in
@@ -149,24 +151,24 @@ module _ (m : List Instance) (g : DependencyGraph) (is : IsGraphOf m g) where
 
   -- ---- counts over the map
 
-  pub several_of_nodes : (n : ℕ) → IsNodeCount (λ k. IsReached g k Several) g.committed n
+  pub IsCount-several : (n : ℕ) → IsNodeCount (λ k. IsReached g k Several) g.committed n
       → IsCount (SeveralBlock m) n
-  several_of_nodes n count =
-      count_of_nodes (λ k. IsReached g k Several) (SeveralBlock m) (λ x s. s.2.committed)
+  IsCount-several n count =
+      IsCount-from_nodes (λ k. IsReached g k Several) (SeveralBlock m) (λ x s. s.2.committed)
       (λ k x low at. several_at k x low at) n count
 
   counts_of_node : (b : Blocker) → IsNodeBlocker g b → HasBlockerCounts m b
   counts_of_node b at = record {
-    alone = count_of_nodes (λ k. IsOnlyReached g k at.node) (BlocksAlone m b.id)
+    alone = IsCount-from_nodes (λ k. IsOnlyReached g k at.node) (BlocksAlone m b.id)
         (λ x a. a.blocks.committed) (λ k x low here. alone_at k x low here at.node b.id at.id)
         b.alone at.alone;
-    named = count_of_nodes (λ k. Contains (edges_of g k) at.node) (λ x. DependsOn m x b.id)
+    named = IsCount-from_nodes (λ k. Contains (edges_of g k) at.node) (λ x. DependsOn m x b.id)
         (λ x d. DependsOn-committed m x b.id d)
         (λ k x low here. is.edges k at.node x b.id here at.id) b.named at.named;
   }
 
-  pub blockers_of_nodes : (bs : List Blocker) → AreNodeBlockers g bs → AreBlockers m bs
-  blockers_of_nodes bs are = record {
+  pub AreBlockers-from_nodes : (bs : List Blocker) → AreNodeBlockers g bs → AreBlockers m bs
+  AreBlockers-from_nodes bs are = record {
     missing = subst (IsListOf (IsMissing m)) (sym are.ids)
         (record { rising = is.graph.missing_rise; exact = is.missing });
     each = λ b h. counts_of_node b (are.each b h);
@@ -182,12 +184,12 @@ module _ (g : DependencyGraph) where
       ∙ ap Some (sym (read ∙ get_or-drop g.committed g.ids i x))
 
   -- the blocker of the next missing node
-  pub node_blocker : (i : ℕ) (alone named : List ℕ) (b : Blocker)
+  pub IsNodeBlocker-from_counts : (i : ℕ) (alone named : List ℕ) (b : Blocker)
       → AreMissingCounts g (IsOnlyReached g) g.committed alone
       → AreMissingCounts g (λ k j. Contains (edges_of g k) j) g.committed named
       → i < length (missing_ids g) → b.id ≡ get_or (missing_ids g) i b.id
       → b.alone ≡ get_or alone i 0 → b.named ≡ get_or named i 0 → IsNodeBlocker g b
-  node_blocker i alone named b are of l id first second =
+  IsNodeBlocker-from_counts i alone named b are of l id first second =
       let inside : g.committed + i < length g.ids =
       omega (arith, l, length-drop g.committed g.ids) in
       let low : i < length alone = omega (arith, inside, are.all) in
@@ -202,18 +204,18 @@ module _ (g : DependencyGraph) where
             (sym second) (of.each i under);
       }
 
-  pub blocker_ids_more : (bs : List Blocker) (b : Blocker) (i : ℕ) → i < length (missing_ids g)
+  pub missing_ids-push : (bs : List Blocker) (b : Blocker) (i : ℕ) → i < length (missing_ids g)
       → b.id ≡ get_or (missing_ids g) i b.id
       → map (λ b. b.id) bs ≡ take i (missing_ids g)
       → map (λ b. b.id) (bs ++ b ∷ []) ≡ take (i + 1) (missing_ids g)
-  blocker_ids_more bs b i l id ids =
+  missing_ids-push bs b i l id ids =
       map_push (λ (c : Blocker). c.id) bs b ∙ ap₂ (λ xs x. xs ++ x ∷ []) ids id
       ∙ sym (take_more (missing_ids g) i b.id l)
 
-  pub blockers_more : (bs : List Blocker) (b : Blocker)
+  pub IsNodeBlocker-push : (bs : List Blocker) (b : Blocker)
       → ((c : Blocker) → Contains bs c → IsNodeBlocker g c) → IsNodeBlocker g b
       → (c : Blocker) → Contains (bs ++ b ∷ []) c → IsNodeBlocker g c
-  blockers_more bs b old here c h =
+  IsNodeBlocker-push bs b old here c h =
       elim (Contains-push_cases bs b c h) [
         | inl before ↦ old c before
         | inr last ↦ subst (IsNodeBlocker g) last here

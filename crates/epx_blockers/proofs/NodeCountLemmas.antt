@@ -9,8 +9,8 @@ use Rattle.epx_types.proofs.Common.{get_or_default, get_or-set_same, get_or-set_
 use Rattle.epx_graph.proofs.Common.{DependencyGraph}
 use Rattle.epx_blockers.specs.inner.NodeCounts.{IsNodeCount, AreMissingCounts, IsOneMoreIf}
 
-pub node_count_none : (P : ℕ → Type 0) → IsNodeCount P 0 0
-node_count_none P = record {
+pub IsNodeCount-none : (P : ℕ → Type 0) → IsNodeCount P 0 0
+IsNodeCount-none P = record {
   nodes = [];
   rising = λ i j d l k. absurd (omega arith);
   exact = λ k. (λ h. absurd (Contains-nil k h), λ (l, p). absurd (omega (arith, l)));
@@ -20,8 +20,8 @@ node_count_none P = record {
 
 module _ (P : ℕ → Type 0) (n count : ℕ) (is : IsNodeCount P n count) where
   -- the next node has the property
-  pub node_count_more : P n → IsNodeCount P (n + 1) (count + 1)
-  node_count_more here = record {
+  pub IsNodeCount-more : P n → IsNodeCount P (n + 1) (count + 1)
+  IsNodeCount-more here = record {
     nodes = is.nodes ++ n ∷ [];
     rising = all_pairs_push (λ i j. i < j) is.nodes n is.rising
         (λ i d l. ((is.exact (get_or is.nodes i d)).0 (Contains-get_or is.nodes i d l)).0);
@@ -42,8 +42,8 @@ module _ (P : ℕ → Type 0) (n count : ℕ) (is : IsNodeCount P n count) where
   }
 
   -- the next node does not have it
-  pub node_count_skip : ¬ P n → IsNodeCount P (n + 1) count
-  node_count_skip not_here = record {
+  pub IsNodeCount-skip : ¬ P n → IsNodeCount P (n + 1) count
+  IsNodeCount-skip not_here = record {
     nodes = is.nodes;
     rising = is.rising;
     exact = λ k. (
@@ -59,46 +59,47 @@ module _ (P : ℕ → Type 0) (n count : ℕ) (is : IsNodeCount P n count) where
     few = omega (arith, is.few);
   }
 
-  pub node_count_step : (new : ℕ) → IsOneMoreIf (P n) count new → IsNodeCount P (n + 1) new
-  node_count_step new change =
+  pub IsNodeCount-step : (new : ℕ) → IsOneMoreIf (P n) count new → IsNodeCount P (n + 1) new
+  IsNodeCount-step new change =
       elim change [
-        | inl (here, more) ↦ subst (IsNodeCount P (n + 1)) (sym more) (node_count_more here)
-        | inr (not_here, same) ↦ subst (IsNodeCount P (n + 1)) (sym same) (node_count_skip not_here)
+        | inl (here, more) ↦ subst (IsNodeCount P (n + 1)) (sym more) (IsNodeCount-more here)
+        | inr (not_here, same) ↦ subst (IsNodeCount P (n + 1)) (sym same)
+            (IsNodeCount-skip not_here)
       ]
 
 -- ---- a count for each missing node
 
 module _ (g : DependencyGraph) (P : ℕ → ℕ → Type 0) where
-  pub missing_counts_none : (counts : List ℕ) → g.committed + length counts ≡ length g.ids
+  pub AreMissingCounts-none : (counts : List ℕ) → g.committed + length counts ≡ length g.ids
       → ((i : ℕ) → i < length counts → get_or counts i 0 ≡ 0) → AreMissingCounts g P 0 counts
-  missing_counts_none counts all zeros = record {
+  AreMissingCounts-none counts all zeros = record {
     all = all;
     each = λ i l. subst (IsNodeCount (λ k. P k (g.committed + i)) 0) (sym (zeros i l))
-        (node_count_none (λ k. P k (g.committed + i)));
+        (IsNodeCount-none (λ k. P k (g.committed + i)));
   }
 
-  pub missing_counts_step : (n : ℕ) (old new : List ℕ) → length new ≡ length old
+  pub AreMissingCounts-step : (n : ℕ) (old new : List ℕ) → length new ≡ length old
       → ((i : ℕ) → i < length old
       → IsOneMoreIf (P n (g.committed + i)) (get_or old i 0) (get_or new i 0))
       → AreMissingCounts g P n old → AreMissingCounts g P (n + 1) new
-  missing_counts_step n old new same change are = record {
+  AreMissingCounts-step n old new same change are = record {
     all = ap (λ l. g.committed + l) same ∙ are.all;
     each = λ i l.
         let low : i < length old = omega (arith, l, same) in
-        node_count_step (λ k. P k (g.committed + i)) n (get_or old i 0) (are.each i low)
+        IsNodeCount-step (λ k. P k (g.committed + i)) n (get_or old i 0) (are.each i low)
         (get_or new i 0) (change i low);
   }
 
 -- ---- a number that has grown
 
 -- the number at index i after the one at a target's index has grown
-pub one_more : (named : List ℕ) (committed target i : ℕ) → committed ≤ target
+pub get_or-set_target : (named : List ℕ) (committed target i : ℕ) → committed ≤ target
     → target - committed < length named → (read : ℕ) → read ≡ get_or named (target - committed) 0
     → ((target ≡ committed + i)
     × (get_or (set named (target - committed) (read + 1)) i 0 ≡ get_or named i 0 + 1))
     ⊎ ((target ≢ committed + i)
     × (get_or (set named (target - committed) (read + 1)) i 0 ≡ get_or named i 0))
-one_more named committed target i past within read is =
+get_or-set_target named committed target i past within read is =
     elim (cases_eq i (target - committed)) [
       | inl same ↦ inl (
         omega (arith, same, past),
@@ -115,12 +116,12 @@ one_more named committed target i past within read is =
 -- ---- one more target
 
 -- whether j is a target, and its number, after one more target
-pub one_more_if_step : (targets : List ℕ) (e : ℕ) (j first old new : ℕ) → e < length targets
+pub IsOneMoreIf-step : (targets : List ℕ) (e : ℕ) (j first old new : ℕ) → e < length targets
     → AllPairs (λ i j. i < j) targets
     → IsOneMoreIf (Contains (take e targets) j) first old
     → ((get_or targets e 0 ≡ j) × (new ≡ old + 1)) ⊎ ((get_or targets e 0 ≢ j) × (new ≡ old))
     → IsOneMoreIf (Contains (take (e + 1) targets) j) first new
-one_more_if_step targets e j first old new l rising before change =
+IsOneMoreIf-step targets e j first old new l rising before change =
     let before_now = take e targets in
     let last = get_or targets e 0 in
     let more = take_more targets e 0 l in

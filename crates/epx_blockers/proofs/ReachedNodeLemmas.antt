@@ -5,11 +5,11 @@ use Rattle.epx_types.proofs.Common.{cases_eq, cases_lt, Contains-nil, get_or_pas
 use Rattle.epx_types.proofs.Common.{get_or-replicate, get_or_default, get_or_read}
 use Rattle.epx_types.proofs.Common.{length-replicate, get_or-set_same, get_or-set_other}
 use Rattle.epx_graph.proofs.Common.{DependencyGraph, IsGraph, edges_of, IsNodePath}
-use Rattle.epx_components.specs.Collections.{AreCollected}
-use Rattle.epx_components.specs.Partitions.{ComponentParts, IsPartition, component_of}
-use Rattle.epx_components.proofs.CollectionLemmas.{collects_same}
-use Rattle.epx_components.proofs.NodePathLemmas.{reach_below, reaches_on}
-use Rattle.epx_components.proofs.PartitionLemmas.{component_below}
+use Rattle.epx_components.specs.between.Collections.{AreCollected}
+use Rattle.epx_components.specs.between.Partitions.{ComponentParts, IsPartition, component_of}
+use Rattle.epx_components.proofs.CollectionLemmas.{AreCollected-same}
+use Rattle.epx_components.proofs.NodePathLemmas.{NodeReaches-within, NodeReaches-trans}
+use Rattle.epx_components.proofs.PartitionLemmas.{component_of-within}
 use Rattle.epx_blockers.specs.declared.reached.Reached.{Reached}
 use Rattle.epx_blockers.specs.declared.reached.Reached.TheVariants.{Nothing, One, Several}
 use Rattle.epx_blockers.specs.inner.ReachedNodes.{ReachesMissingNode, IsReached, HasOther}
@@ -21,11 +21,11 @@ module _ (g : DependencyGraph) where
   ReachesOther k t = (j : ℕ) × ReachesMissingNode g k j × (j ≢ t)
 
   -- a value that says exactly of which numbers k reaches another missing node
-  pub reached_exactly : (k : ℕ) (v : Reached) → ((t : ℕ) → HasOther t v ↔ ReachesOther k t)
+  pub IsReached-exactly : (k : ℕ) (v : Reached) → ((t : ℕ) → HasOther t v ↔ ReachesOther k t)
       → IsReached g k v
-  reached_exactly k Nothing exact =
+  IsReached-exactly k Nothing exact =
       λ j there. (exact (j + 1)).1 (j, there, λ same. absurd (omega (arith, same)))
-  reached_exactly k (One s) exact =
+  IsReached-exactly k (One s) exact =
       let some = (exact (s + 1)).0 (λ same. absurd (omega (arith, same))) in
       (subst (ReachesMissingNode g k) (only some.0 some.1) some.1, only)
     where
@@ -34,7 +34,7 @@ module _ (g : DependencyGraph) where
         | inl same ↦ same
         | inr other ↦ absurd ((exact s).1 (j, there, other) refl)
       ]
-  reached_exactly k Several exact =
+  IsReached-exactly k Several exact =
       let first = (exact 0).0 tt in
       let second = (exact first.0).0 tt in
       (second.0, first.0, second.1, first.1, second.2)
@@ -60,9 +60,9 @@ module _ (g : DependencyGraph) (graph : IsGraph g) (p : ComponentParts)
             (omega (arith, past, length-replicate {A = Reached} count Nothing))
       ]
 
-  pub first_reached_none : (values : List Reached) (count : ℕ) → values ≡ replicate count Nothing
+  pub AreFirstReached-none : (values : List Reached) (count : ℕ) → values ≡ replicate count Nothing
       → AreFirstReached g p g.committed values
-  first_reached_none values count all t c = (
+  AreFirstReached-none values count all t c = (
     λ h. absurd (subst (HasOther t) (nothing_at_first values count c all) h),
     λ (s, past, l, at, other). absurd (omega (arith, past, l)),
   )
@@ -82,13 +82,13 @@ module _ (g : DependencyGraph) (graph : IsGraph g) (p : ComponentParts)
       let there = is.joined s n (omega (arith, l, each)) (omega (arith, k, each)) same in
       missing_path s n there.0 past there.1
 
-  pub first_reached_more : (n : ℕ) (values : List Reached) → g.committed ≤ n → n < length g.ids
+  pub AreFirstReached-step : (n : ℕ) (values : List Reached) → g.committed ≤ n → n < length g.ids
       → length values ≡ p.count → AreFirstReached g p n values
       → AreFirstReached g p (n + 1) (set values (component_of p n) (One n))
-  first_reached_more n values past l all are t c =
+  AreFirstReached-step n values past l all are t c =
       let own = component_of p n in
       let within : own < length values =
-      omega (arith, all, component_below (edges_of g) p is n (omega (arith, l, each))) in
+      omega (arith, all, component_of-within (edges_of g) p is n (omega (arith, l, each))) in
       elim (cases_eq c own) [
         | inl same ↦
             let here : get_or (set values own (One n)) c Nothing ≡ One n =
@@ -121,26 +121,26 @@ module _ (g : DependencyGraph) (graph : IsGraph g) (p : ComponentParts)
       ]
 
   -- the values of all nodes
-  pub reached_all : (first values : List Reached) (n : ℕ) → n ≡ length g.ids
+  pub IsReached-all : (first values : List Reached) (n : ℕ) → n ≡ length g.ids
       → AreFirstReached g p n first
       → ((t : ℕ) → AreCollected (edges_of g) p (length p.order)
       (λ c. HasOther t (get_or first c Nothing)) (λ c. HasOther t (get_or values c Nothing))
       (λ c. HasOther t (get_or values c Nothing)))
       → (k : ℕ) → k < length g.ids → IsReached g k (reached_for p values k)
-  reached_all first values n whole are all k l =
+  IsReached-all first values n whole are all k l =
       let inside : k < length p.component = omega (arith, l, each) in
-      reached_exactly g k (reached_for p values k) (λ t.
-      let both = collects_same (edges_of g) p is (λ c. HasOther t (get_or first c Nothing))
+      IsReached-exactly g k (reached_for p values k) (λ t.
+      let both = AreCollected-same (edges_of g) p is (λ c. HasOther t (get_or first c Nothing))
       (λ c. HasOther t (get_or values c Nothing)) (all t) k inside in (
         λ h.
             let (j, there, at) = both.0 h in
             let (s, past, low, same, other) = (are t (component_of p j)).0 at in
             let within =
-            reach_below (edges_of g) (length p.component) is.within k j inside there in (
+            NodeReaches-within (edges_of g) (length p.component) is.within k j inside there in (
               s,
               (
                 past,
-                reaches_on (edges_of g) k j s there
+                NodeReaches-trans (edges_of g) k j s there
                     (is.joined j s within (omega (arith, low, whole, each)) (sym same)),
               ),
               other,
@@ -155,7 +155,7 @@ module _ (g : DependencyGraph) (graph : IsGraph g) (p : ComponentParts)
               arith,
               whole,
               each,
-              reach_below (edges_of g) (length p.component) is.within k j inside there,
+              NodeReaches-within (edges_of g) (length p.component) is.within k j inside there,
             ),
             refl,
             other,
@@ -164,15 +164,15 @@ module _ (g : DependencyGraph) (graph : IsGraph g) (p : ComponentParts)
       ))
 
   -- what the value that was read for a node says
-  pub reached_read : (values : List Reached) → length values ≡ p.count
+  pub IsReached-read : (values : List Reached) → length values ≡ p.count
       → ((k : ℕ) → k < length g.ids → IsReached g k (reached_for p values k))
       → (n own : ℕ) (d v : Reached) → n < length g.ids → own ≡ get_or p.component n own
       → get_or values own d ≡ v → IsReached g n v
-  reached_read values all each_is n own d v l place at =
+  IsReached-read values all each_is n own d v l place at =
       let inside : n < length p.component = omega (arith, l, each) in
       let home : own ≡ component_of p n = get_or_read p.component n own inside place 0 in
       let within : own < length values =
-      omega (arith, all, home, component_below (edges_of g) p is n inside) in
+      omega (arith, all, home, component_of-within (edges_of g) p is n inside) in
       let same : reached_for p values n ≡ v =
       ap (λ c. get_or values c Nothing) (sym home) ∙ get_or_default values own Nothing d within
       ∙ at in

@@ -1,6 +1,6 @@
 //! The missing nodes that components reach.
 ghost use Rattle.std.specs.Prelude.{◌≡◌, ◌↔◌, ◌⊎◌, ℕ, ◌<◌, length, ⊤, IfOk};
-ghost use Rattle.epx_components.specs.Partitions.{parts, IsPartitionOf};
+ghost use Rattle.epx_components.specs.between.Partitions.{parts, IsPartitionOf};
 ghost use Rattle.epx_blockers.specs.inner.ReachedNodes.{reached_for, IsReached, HasOther};
 ghost use Rattle.epx_blockers.specs.declared.reached.Reached.TheVariants.{Nothing};
 

@@ -1,6 +1,6 @@
 //! How many instances wait for each missing one alone, and how many for several.
 ghost use Rattle.std.specs.Prelude.{◌≡◌, ℕ, ◌<◌, length, IfOk};
-ghost use Rattle.epx_components.specs.Partitions.{parts, IsPartitionOf};
+ghost use Rattle.epx_components.specs.between.Partitions.{parts, IsPartitionOf};
 ghost use Rattle.epx_blockers.specs.inner.NodeCounts.{AreMissingCounts, IsNodeCount};
 ghost use Rattle.epx_blockers.specs.inner.ReachedNodes.{IsOnlyReached, IsReached};
 ghost use Rattle.epx_blockers.specs.inner.ReachedNodes.{reached_for};

@@ -4,7 +4,7 @@ use Rattle.std.proofs.Common.{refl, ap, ◌∙◌, subst, arith}
 use mathlib.Core.List.{map-append}
 use Rattle.epx_types.proofs.Common.{All, All-nil, All-push, All-append}
 use Rattle.epx_claims.specs.declared.work.PieceValue.{PieceValue}
-use Rattle.epx_claims.specs.Seated.{ClaimsView, SeatView}
+use Rattle.epx_claims.specs.between.Seated.{ClaimsView, SeatView}
 use Rattle.epx_claims.specs.inner.WorkResult.{HasAnswers, IsFresh, piece_of}
 
 -- the seat after a draw
@@ -31,9 +31,9 @@ both_seats s t = record {
 
 module _ {T : Type 0} (answers : ℕ → T → Type 0) (claims : ClaimsView) where
   -- at the start there are no answers
-  pub answers_none : (share : ℕ) (seat : SeatView) (items : List (PieceValue T))
+  pub HasAnswers-none : (share : ℕ) (seat : SeatView) (items : List (PieceValue T))
       → IsFresh claims share seat → items ≡ [] → HasAnswers answers claims share false seat items
-  answers_none share seat items fresh none = record {
+  HasAnswers-none share seat items fresh none = record {
     own = fresh.own;
     share_is = fresh.share_is;
     ended_is = fresh.not_ended;
@@ -43,12 +43,12 @@ module _ {T : Type 0} (answers : ℕ → T → Type 0) (claims : ClaimsView) whe
   }
 
   -- one more piece, with its answer
-  pub answers_push : (share : ℕ) (ended : Bool) (seat seat' : SeatView)
+  pub HasAnswers-push : (share : ℕ) (ended : Bool) (seat seat' : SeatView)
       (items items' : List (PieceValue T)) (a : PieceValue T)
       → HasAnswers answers claims share ended seat items
       → seat' ≡ with_piece seat a.piece → items' ≡ items ++ a ∷ [] → answers a.piece a.value
       → HasAnswers answers claims share ended seat' items'
-  answers_push share ended seat seat' items items' a has seat_is items_is good =
+  HasAnswers-push share ended seat seat' items items' a has seat_is items_is good =
       subst (λ (p : SeatView × List (PieceValue T)). HasAnswers answers claims share ended p.0 p.1)
       (λ i. (sym seat_is i, sym items_is i)) (record {
         own = has.own;
@@ -59,10 +59,10 @@ module _ {T : Type 0} (answers : ℕ → T → Type 0) (claims : ClaimsView) whe
       })
 
   -- no piece is left
-  pub answers_ended : (share : ℕ) (seat seat' : SeatView) (items : List (PieceValue T))
+  pub HasAnswers-at_end : (share : ℕ) (seat seat' : SeatView) (items : List (PieceValue T))
       → HasAnswers answers claims share false seat items → seat' ≡ at_end seat
       → HasAnswers answers claims share true seat' items
-  answers_ended share seat seat' items has seat_is =
+  HasAnswers-at_end share seat seat' items has seat_is =
       subst (λ (s : SeatView). HasAnswers answers claims share true s items) (sym seat_is)
       (record {
         own = has.own;
@@ -73,12 +73,12 @@ module _ {T : Type 0} (answers : ℕ → T → Type 0) (claims : ClaimsView) whe
       })
 
   -- two seats are joined, and their answers appended
-  pub answers_joined : (share one other : ℕ) (s t seat : SeatView)
+  pub HasAnswers-joined : (share one other : ℕ) (s t seat : SeatView)
       (xs ys items : List (PieceValue T))
       → HasAnswers answers claims one true s xs → HasAnswers answers claims other true t ys
       → one + other ≡ share → seat ≡ both_seats s t → items ≡ xs ++ ys
       → HasAnswers answers claims share true seat items
-  answers_joined share one other s t seat xs ys items left right whole seat_is items_is =
+  HasAnswers-joined share one other s t seat xs ys items left right whole seat_is items_is =
       subst (λ (p : SeatView × List (PieceValue T)). HasAnswers answers claims share true p.0 p.1)
       (λ i. (sym seat_is i, sym items_is i)) (record {
         own = left.own;

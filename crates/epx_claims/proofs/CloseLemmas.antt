@@ -7,18 +7,18 @@ use Rattle.atomic_table.specs.Table.{State, Final, Seen}
 use Rattle.epx_claims.specs.declared.seat_state.SeatState.{SeatState}
 use Rattle.epx_claims.specs.declared.seat_state.Terms.{Terms}
 use Rattle.epx_claims.specs.declared.seat_state.View.{View}
-use Rattle.epx_claims.specs.Count.{total, one_if, occurrences, indicator_below}
-use Rattle.epx_claims.specs.ClaimState.{ClaimState}
+use Rattle.epx_claims.specs.between.Count.{total, one_if, occurrences, indicator_below}
+use Rattle.epx_claims.specs.between.ClaimState.{ClaimState}
 use Rattle.epx_claims.specs.inner.Rule.{HasClaimState}
-use Rattle.epx_claims.proofs.StepLemmas.{drawn_in_all, state_by_view}
-use Rattle.epx_claims.proofs.CountLemmas.{positive_from_count}
-use Rattle.epx_claims.proofs.SumLemmas.{others, picked_sum}
+use Rattle.epx_claims.proofs.StepLemmas.{drawn_in_all, ClaimState-by_view}
+use Rattle.epx_claims.proofs.CountLemmas.{one_if-to_positive}
+use Rattle.epx_claims.proofs.SumLemmas.{others, total-picked}
 
 -- seat states whose shares add up to 0 are none
 no_seat_states : (hs : List SeatState) → total (λ h. h.share) hs ≡ 0
     → total (λ h. one_if (eqb h.share 0)) hs ≡ 0 → hs ≡ []
 no_seat_states [] none full = refl
-no_seat_states (h ∷ hs) none full = let p = positive_from_count h.share (omega arith) in
+no_seat_states (h ∷ hs) none full = let p = one_if-to_positive h.share (omega arith) in
     absurd (omega arith)
 
 -- what `close` returns: the length of the list, which has each number below it once; if the seat
@@ -48,7 +48,7 @@ drawn_at_end terms id word v h ws xs is every found final =
     let hs : List SeatState = others s.views id in
     let with_rest : ClaimState terms.pieces terms.workers word (h ∷ hs) =
     subst (λ (p : ℕ × List SeatState). ClaimState terms.pieces terms.workers p.0 (p.1 ++ hs))
-    (λ i. (c i, is i)) (state_by_view terms (get_or s.words 0 0) s.views id v final.1.1
+    (λ i. (c i, is i)) (ClaimState-by_view terms (get_or s.words 0 0) s.views id v final.1.1
     r.claim_state) in
     let shares = with_rest.all_shares in
     let full = with_rest.no_empty_share in
@@ -58,7 +58,7 @@ drawn_at_end terms id word v h ws xs is every found final =
     with_rest in
     record {
       length =
-          let a = picked_sum (λ k. length k.drawn) s.views id v final.1.1 in
+          let a = total-picked (λ k. length k.drawn) s.views id v final.1.1 in
           let b : drawn_in_all v.seat_states ≡ drawn_in_all (h ∷ []) = ap drawn_in_all is in
           let e : drawn_in_all hs ≡ 0 = ap drawn_in_all alone in
           let l = r.lengths in
@@ -71,12 +71,12 @@ drawn_at_end terms id word v h ws xs is every found final =
 
 -- a seat that has every share when the table is closed has drawn all the pieces that were drawn;
 -- `pieces` and `answer` are variables with equations, so that they fit the fields of the claims
-pub drawn_at_close : (terms : Terms) (id word pieces answer : ℕ) (v : View) (h : SeatState)
+pub IsAllDrawn-at_close : (terms : Terms) (id word pieces answer : ℕ) (v : View) (h : SeatState)
     (ws : List ℕ) (xs : List (Unit {0})) → v.seat_states ≡ h ∷ [] → h.share ≡ terms.workers
     → get_elem? ws 0 ≡ some word
     → terms.pieces ≡ pieces → answer ≡ min word pieces
     → Final (Seen (HasClaimState terms) id v) ws xs → IsAllDrawn pieces terms.workers answer h
-drawn_at_close terms id word pieces answer v h ws xs is every found same answer_is final =
+IsAllDrawn-at_close terms id word pieces answer v h ws xs is every found same answer_is final =
     let all = drawn_at_end terms id word v h ws xs is every found final in
     let same_answer : min word terms.pieces ≡ answer = ap (min word) same ∙ sym answer_is in
     subst (λ (p : ℕ × ℕ). IsAllDrawn p.0 terms.workers p.1 h) (λ i. (same i, same_answer i)) all

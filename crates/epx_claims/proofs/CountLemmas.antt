@@ -2,29 +2,29 @@
 use Rattle.std.proofs.Common.{◌≡◌, ◌≢◌, ℕ, ◌+◌, ◌<◌, ◌≤◌, eqb, min, List, [], ◌∷◌, ◌++◌, length}
 use Rattle.std.proofs.Common.{get_or, zero, suc, arith}
 use Rattle.epx_types.proofs.Common.{nat_tests}
-use Rattle.epx_claims.specs.Count.{total, one_if, occurrences, indicator_below}
+use Rattle.epx_claims.specs.between.Count.{total, one_if, occurrences, indicator_below}
 
 -- if the test that a number is 0 counts as 0, it is positive
-pub positive_from_count : (a : ℕ) → one_if (eqb a 0) ≡ 0 → 0 < a
-positive_from_count a e = grind (arith, nat_tests)
+pub one_if-to_positive : (a : ℕ) → one_if (eqb a 0) ≡ 0 → 0 < a
+one_if-to_positive a e = grind (arith, nat_tests)
 
 -- the converse
-pub count_of_positive : (a : ℕ) → 0 < a → one_if (eqb a 0) ≡ 0
-count_of_positive a h = grind (arith, nat_tests)
+pub one_if-positive : (a : ℕ) → 0 < a → one_if (eqb a 0) ≡ 0
+one_if-positive a h = grind (arith, nat_tests)
 
 -- if the bound grows by one, one more number is below it
-pub indicator_below_more : (x c n : ℕ) → c < n
+pub indicator_below-more : (x c n : ℕ) → c < n
     → indicator_below x (min (c + 1) n) ≡ indicator_below x (min c n) + one_if (eqb c x)
-indicator_below_more x c n h = grind (arith, nat_tests)
+indicator_below-more x c n h = grind (arith, nat_tests)
 
 -- a word that grows past the number of pieces changes nothing
-pub indicator_below_full : (x c n : ℕ) → n ≤ c
+pub indicator_below-full : (x c n : ℕ) → n ≤ c
     → indicator_below x (min (c + 1) n) ≡ indicator_below x (min c n)
-indicator_below_full x c n h = grind (arith, nat_tests)
+indicator_below-full x c n h = grind (arith, nat_tests)
 
 -- a number that counts is below the word
-pub below_from_once : (x c n : ℕ) → 1 ≤ indicator_below x (min c n) → x < c
-below_from_once x c n h = grind (arith, nat_tests)
+pub indicator_below-within_min : (x c n : ℕ) → 1 ≤ indicator_below x (min c n) → x < c
+indicator_below-within_min x c n h = grind (arith, nat_tests)
 
 -- the sum over two lists, one appended to the other
 pub total-append : {A : Type 0} (f : A → ℕ) (xs ys : List A)
@@ -33,23 +33,24 @@ total-append f [] ys = omega arith
 total-append f (x ∷ xs) ys = omega (arith, total-append f xs ys)
 
 -- a number that is in the list counts at least once
-pub occurs_at : (xs : List ℕ) (k d : ℕ) → k < length xs → 1 ≤ occurrences (get_or xs k d) xs
-occurs_at [] k d h = absurd (omega arith)
-occurs_at (y ∷ ys) zero d h = grind (arith, nat_tests)
-occurs_at (y ∷ ys) (suc k) d h = omega (arith, occurs_at ys k d (omega arith))
+pub occurrences-at_index : (xs : List ℕ) (k d : ℕ) → k < length xs
+    → 1 ≤ occurrences (get_or xs k d) xs
+occurrences-at_index [] k d h = absurd (omega arith)
+occurrences-at_index (y ∷ ys) zero d h = grind (arith, nat_tests)
+occurrences-at_index (y ∷ ys) (suc k) d h = omega (arith, occurrences-at_index ys k d (omega arith))
 
 -- a number that counts as below the bound is below it
-pub below_from_indicator_below : (x n : ℕ) → 1 ≤ indicator_below x n → x < n
-below_from_indicator_below x n h = grind (arith, nat_tests)
+pub indicator_below-within : (x n : ℕ) → 1 ≤ indicator_below x n → x < n
+indicator_below-within x n h = grind (arith, nat_tests)
 
 -- the converse
-pub indicator_below_yes : (x n : ℕ) → x < n → indicator_below x n ≡ 1
-indicator_below_yes x n h = grind (arith, nat_tests)
+pub indicator_below-if_below : (x n : ℕ) → x < n → indicator_below x n ≡ 1
+indicator_below-if_below x n h = grind (arith, nat_tests)
 
 -- the test that two different numbers are equal counts as 0
-pub other_counts_none : (a b : ℕ) → b ≢ a → one_if (eqb a b) ≡ 0
-other_counts_none a b h = grind (arith, nat_tests)
+pub one_if-other : (a b : ℕ) → b ≢ a → one_if (eqb a b) ≡ 0
+one_if-other a b h = grind (arith, nat_tests)
 
 -- a number counts for the lesser of two bounds at most as often as for the other
-pub below_min : (x c n : ℕ) → indicator_below x (min c n) ≤ indicator_below x n
-below_min x c n = grind (arith, nat_tests)
+pub indicator_below-min : (x c n : ℕ) → indicator_below x (min c n) ≤ indicator_below x n
+indicator_below-min x c n = grind (arith, nat_tests)

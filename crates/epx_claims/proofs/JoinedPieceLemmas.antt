@@ -51,10 +51,10 @@ module _ {X Y Z : Type 0} (cut : ℕ) (fits : 1 ≤ cut) (made : List X → List
       (omega (arith, order))))
 
   -- the parts of all pieces one after another are made of all items
-  pub parts_joined : (parts : List Z) → length parts ≡ piece_count cut (length xs)
+  pub flat_map-parts : (parts : List Z) → length parts ≡ piece_count cut (length xs)
       → ((i : ℕ) → i < piece_count cut (length xs) → (part : Z) × (slice_get parts i ≡ Some part)
       × IsPart i part) → flat_map inside parts ≡ made xs
-  parts_joined parts len each =
+  flat_map-parts parts len each =
       let begin : piece_start cut 0 ≡ 0 = omega arith in
       parts_from 0 parts (omega (arith, len)) (λ i l.
       let at = each i (omega (arith, len)) in

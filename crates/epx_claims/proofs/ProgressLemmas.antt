@@ -18,7 +18,7 @@ past_below (x ∷ xs) p all =
     omega arith
 
 -- each piece moves a seat closer to the end
-pub draw_progress : (xs : List ℕ) (p n : ℕ) → All (λ q. q < p) xs → p < n
+pub next_above-draw : (xs : List ℕ) (p n : ℕ) → All (λ q. q < p) xs → p < n
     → n - next_above (xs ++ p ∷ []) < n - next_above xs
-draw_progress xs p n all inside = let a = next_above-push xs p in let b = past_below xs p all in
+next_above-draw xs p n all inside = let a = next_above-push xs p in let b = past_below xs p all in
     omega arith

@@ -1,6 +1,2 @@
-pub mod Answered
-pub mod Count
-pub mod ClaimState
-pub mod ClaimStep
-pub mod Seated
+pub mod between
 pub mod inner

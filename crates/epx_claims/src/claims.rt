@@ -2,9 +2,9 @@
 ghost use Rattle.std.specs.Prelude.{◌≡◌, ◌<◌, ◌≤◌, ◌^◌, ◌+◌, ◌-◌, ◌/◌, ◌++◌, ◌||◌, [], ◌∷◌, ℕ};
 ghost use Rattle.std.specs.Prelude.{min, true, false, None, length, IfOk, IfSome, IfNone};
 ghost use Rattle.std.specs.List.{All};
-ghost use Rattle.epx_claims.specs.Count.{occurrences, indicator_below};
-ghost use Rattle.epx_claims.specs.ClaimStep.{ClaimStep, IsClaimState};
-ghost use Rattle.epx_claims.specs.Seated.{IsSeatOf, fresh_seat};
+ghost use Rattle.epx_claims.specs.between.Count.{occurrences, indicator_below};
+ghost use Rattle.epx_claims.specs.between.ClaimStep.{ClaimStep, IsClaimState};
+ghost use Rattle.epx_claims.specs.between.Seated.{IsSeatOf, fresh_seat};
 
 use crate::rule::{ClaimsRule, DrawStep, JoinSeat, JoinStep, SplitSeat, SplitStep};
 use crate::seat::ClaimSeat;
@@ -27,7 +27,7 @@ pub struct Claims {
 }
 
 impl Model for Claims {
-    ghost use Rattle.epx_claims.specs.Seated.{ClaimsView};
+    ghost use Rattle.epx_claims.specs.between.Seated.{ClaimsView};
 
     ghost Value = { ClaimsView };
 

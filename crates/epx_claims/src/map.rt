@@ -1,6 +1,6 @@
 //! A parallel map whose workers draw the numbers that they work on.
 ghost use Rattle.std.specs.Prelude.{◌≡◌, ◌<◌, ◌≤◌, ◌^◌, ◌++◌, ◌∷◌, [], ℕ, true, IfOk, IfErr};
-ghost use Rattle.epx_claims.specs.Answered.{AreOrderedAnswers, IsMapFault};
+ghost use Rattle.epx_claims.specs.between.Answered.{AreOrderedAnswers, IsMapFault};
 ghost use Rattle.epx_claims.specs.inner.WorkResult.{AreFresh, HasAnswers, shares};
 ghost use Rattle.epx_types.specs.declared.memory.Memory.{Memory};
 

@@ -15,7 +15,7 @@ pub struct ClaimSeat {
 }
 
 impl Model for ClaimSeat {
-    ghost use Rattle.epx_claims.specs.Seated.{SeatView};
+    ghost use Rattle.epx_claims.specs.between.Seated.{SeatView};
 
     ghost Value = { SeatView };
 

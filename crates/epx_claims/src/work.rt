@@ -1,8 +1,8 @@
 //! The workers of a parallel map: each draws pieces until none is left.
 ghost use Rattle.std.specs.Prelude.{◌≡◌, ◌<◌, ◌+◌, ◌++◌, ◌||◌, ◌∷◌, [], ℕ, true, IfOk, IfErr};
 ghost use Rattle.std.specs.Thread.{IsSync, IsSend};
-ghost use Rattle.epx_claims.specs.Seated.{IsSeatOf};
-ghost use Rattle.epx_claims.specs.Answered.{IsMapFault};
+ghost use Rattle.epx_claims.specs.between.Seated.{IsSeatOf};
+ghost use Rattle.epx_claims.specs.between.Answered.{IsMapFault};
 ghost use Rattle.epx_claims.specs.inner.WorkResult.{AreFresh, HasAnswers, IsFresh, shares};
 ghost use Rattle.epx_types.specs.declared.memory.Memory.{Memory};
 

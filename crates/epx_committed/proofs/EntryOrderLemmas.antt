@@ -1,9 +1,9 @@
 -- The lines of entries in memory are sorted by place.
 use Rattle.std.proofs.Common.{◌≡◌, inl, inr, ℕ, suc, ◌≤◌, List, [], ◌∷◌, Contains, sym, ap, arith}
 use Rattle.epx_types.proofs.Common.{Instance, Placed, Contains-nil, Contains-cons_cases}
-use Rattle.epx_committed.specs.EntryLines.{entry_lines, entry_lines_from}
-use Rattle.epx_committed.specs.LineOrder.{IsSortedByPlace}
-use Rattle.epx_committed.proofs.LineOrderLemmas.{earlier_line}
+use Rattle.epx_committed.specs.between.EntryLines.{entry_lines, entry_lines_from}
+use Rattle.epx_committed.specs.between.LineOrder.{IsSortedByPlace}
+use Rattle.epx_committed.proofs.LineOrderLemmas.{Earlier-same_log}
 
 from_line : (n : ℕ) (es : List Instance) (p : Placed) → Contains (entry_lines_from n es) p
     → (p.place.log ≡ 0) × (n ≤ p.place.line)
@@ -22,9 +22,10 @@ in_order_from : (n : ℕ) (es : List Instance) → IsSortedByPlace (entry_lines_
 in_order_from n [] = tt
 in_order_from n (e ∷ es) = (
   (λ p h. let later = from_line (suc n) es p h in
-      earlier_line (record { log = 0; line = n }) p.place (sym later.0) (omega (arith, later.1))),
+      Earlier-same_log (record { log = 0; line = n }) p.place (sym later.0)
+      (omega (arith, later.1))),
   in_order_from (suc n) es,
 )
 
-pub entries_in_order : (es : List Instance) → IsSortedByPlace (entry_lines es)
-entries_in_order es = in_order_from 1 es
+pub IsSortedByPlace-entry_lines : (es : List Instance) → IsSortedByPlace (entry_lines es)
+IsSortedByPlace-entry_lines es = in_order_from 1 es

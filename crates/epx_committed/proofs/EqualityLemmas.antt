@@ -1,10 +1,10 @@
 -- The equality of two instances is decidable.
 use Rattle.std.proofs.Common.{◌≡◌, ◌≢◌, ◌⊎◌, inl, inr, Bool, List, [], ◌∷◌, ap, refl}
-use Rattle.epx_types.proofs.Common.{Decides, cases_eq, Instance, ids_decide, ops_decide}
-use Rattle.epx_types.proofs.commands.EqualityLemmas.{decided}
+use Rattle.epx_types.proofs.Common.{Decides, cases_eq, Instance, id_eq-Decides, op_eq-Decides}
+use Rattle.epx_types.proofs.commands.EqualityLemmas.{Decides-cases}
 
 by_test : {X : Type 0} (r : Bool) (x y : X) → Decides r (x ≡ y) → (x ≡ y) ⊎ (x ≢ y)
-by_test r x y d = elim (decided r d) [ inl holds ↦ inl holds.1 | inr fails ↦ inr fails.1 ]
+by_test r x y d = elim (Decides-cases r d) [ inl holds ↦ inl holds.1 | inr fails ↦ inr fails.1 ]
 
 list_cases : {X : Type 0} → ((x y : X) → (x ≡ y) ⊎ (x ≢ y)) → (xs ys : List X)
     → (xs ≡ ys) ⊎ (xs ≢ ys)
@@ -20,15 +20,15 @@ list_cases each (x ∷ xs) (y ∷ ys) =
       | inr other ↦ inr (λ e. let first : x ≡ y = cc e in other first)
     ]
 
-pub instance_cases : (d e : Instance) → (d ≡ e) ⊎ (d ≢ e)
-instance_cases d e =
-    elim (by_test _ d.id e.id (ids_decide d.id e.id)) [
+pub Instance-cases : (d e : Instance) → (d ≡ e) ⊎ (d ≢ e)
+Instance-cases d e =
+    elim (by_test _ d.id e.id (id_eq-Decides d.id e.id)) [
       | inr other ↦ inr (λ same. other (ap (λ (i : Instance). i.id) same))
       | inl id ↦ elim (cases_eq d.seq e.seq) [
         | inr other ↦ inr (λ same. other (ap (λ (i : Instance). i.seq) same))
-        | inl seq ↦ elim (list_cases (λ x y. by_test _ x y (ids_decide x y)) d.deps e.deps) [
+        | inl seq ↦ elim (list_cases (λ x y. by_test _ x y (id_eq-Decides x y)) d.deps e.deps) [
           | inr other ↦ inr (λ same. other (ap (λ (i : Instance). i.deps) same))
-          | inl deps ↦ elim (list_cases (λ x y. by_test _ x y (ops_decide x y)) d.ops e.ops) [
+          | inl deps ↦ elim (list_cases (λ x y. by_test _ x y (op_eq-Decides x y)) d.ops e.ops) [
             | inr other ↦ inr (λ same. other (ap (λ (i : Instance). i.ops) same))
             | inl ops ↦ inl (λ i. record { id = id i; seq = seq i; deps = deps i; ops = ops i })
           ]

@@ -9,14 +9,16 @@ use Rattle.epx_types.specs.declared.id.Id.{Id}
 use Rattle.epx_committed.specs.declared.ledger.Disagreement.{Disagreement}
 use Rattle.epx_committed.specs.declared.ledger.FirstLines.{FirstLines}
 use Rattle.epx_committed.specs.declared.rows.Row.{Row}
-use Rattle.epx_committed.specs.Ledgers.{LedgerView, NotesLines}
+use Rattle.epx_committed.specs.between.Ledgers.{LedgerView, NotesLines}
 use Rattle.epx_committed.specs.inner.FirstLines.{AreFirstLines, Extends, ledger_view}
 use Rattle.epx_committed.specs.inner.LineIndexes.{IsIndexOf, mark_of}
-use Rattle.epx_committed.specs.inner.LineRows.{firsts_at, line_at, IsLineRow, NamesItsLine}
+use Rattle.epx_committed.specs.LineRows.{firsts_at, line_at, IsLineRow, NamesItsLine}
 use Rattle.epx_committed.proofs.LedgerLemmas.{keys, NotesLines-new}
-use Rattle.epx_committed.proofs.LineIndexLemmas.{there, not_there, distinct_push, IsIndexOf-push}
+use Rattle.epx_committed.proofs.LineIndexLemmas.{slice_get-at_mark, Contains-no_mark}
+use Rattle.epx_committed.proofs.LineIndexLemmas.{AllPairs-distinct_push, IsIndexOf-push}
 use Rattle.epx_committed.proofs.LineIndexLemmas.{IsIndexOf-same, slice_get-push}
-use Rattle.epx_committed.proofs.LineRowLemmas.{Lists, default_line, keys_under, firsts_under}
+use Rattle.epx_committed.proofs.LineRowLemmas.{Lists, default_line, keys-under_rows}
+use Rattle.epx_committed.proofs.LineRowLemmas.{firsts_at-under_rows}
 use Rattle.epx_committed.proofs.LineRowLemmas.{under_row, firsts_at-list, firsts_at-push}
 use Rattle.epx_committed.proofs.LineRowLemmas.{named-push}
 
@@ -48,25 +50,26 @@ module _ (lists : Lists) (old : FirstLines) (h : AreFirstLines lists old) where
   -- ---- the row of a known Id
 
   -- the row that is read at the position of an Id
-  pub known_row : (x : Id) (k : ℕ) (r : Row) → mark_of old.index x ≡ k + 1 → r ≡ get_or rows k r
+  pub Contains-at_mark : (x : Id) (k : ℕ) (r : Row) → mark_of old.index x ≡ k + 1
+      → r ≡ get_or rows k r
       → Contains rows r × (r.id ≡ x)
-  known_row x k r mark is =
+  Contains-at_mark x k r mark is =
       let q = slice_get-from_map (λ (s : Row). s.id) rows k x
-      (there (names rows) old.index x k h.found mark) in
+      (slice_get-at_mark (names rows) old.index x k h.found mark) in
       let same : q.0 ≡ r = sym (is ∙ get_or_from_slice_get rows k q.0 r q.1) in (
         subst (Contains rows) same (Contains-slice_get rows k q.0 q.1),
         ap (λ (s : Row). s.id) (sym same) ∙ q.2,
       )
 
-  pub named_row : (r : Row) → Contains rows r → NamesItsLine lists r
-  named_row r has = All-contains (NamesItsLine lists) rows r h.named has
+  pub NamesItsLine-contains : (r : Row) → Contains rows r → NamesItsLine lists r
+  NamesItsLine-contains r has = All-contains (NamesItsLine lists) rows r h.named has
 
   -- its line is the first line of the Id
-  pub known_line : (r : Row) (x : Id) (p : Placed) → Contains rows r → r.id ≡ x
+  pub Contains-firsts_at : (r : Row) (x : Id) (p : Placed) → Contains rows r → r.id ≡ x
       → line_at lists r ≡ Some p → Contains (firsts_at lists rows) (x, p)
-  known_line r x p has named is =
+  Contains-firsts_at r x p has named is =
       let first : under_row lists r ≡ (x, p) = λ i. (named i, unwrap_or (is i) default_line) in
-      subst (λ l. Contains l (x, p)) (sym (firsts_under lists rows h.named))
+      subst (λ l. Contains l (x, p)) (sym (firsts_at-under_rows lists rows h.named))
       (subst (Contains (map (under_row lists) rows)) first
       (Contains-map (under_row lists) rows r has))
 
@@ -75,7 +78,7 @@ module _ (lists : Lists) (old : FirstLines) (h : AreFirstLines lists old) where
   module _ (p : Placed) (r : Row) (is : IsLineRow lists p r) (new : mark_of old.index r.id ≡ 0)
     where
       none : ¬ Contains (names rows) r.id
-      none = not_there (names rows) old.index r.id h.found new
+      none = Contains-no_mark (names rows) old.index r.id h.found new
 
       pub AreFirstLines-push : (after : FirstLines) → after.rows.items ≡ rows ++ r ∷ []
           → mark_of after.index r.id ≡ length rows + 1
@@ -92,7 +95,7 @@ module _ (lists : Lists) (old : FirstLines) (h : AreFirstLines lists old) where
             found = subst (λ (l : List Id). IsIndexOf l after.index) (sym longer)
                 (IsIndexOf-push (names rows) r.id old.index after.index h.found mark apart);
             distinct = subst (AllPairs (λ (x y : Id). x ≢ y)) (sym longer)
-                (distinct_push (names rows) r.id h.distinct none);
+                (AllPairs-distinct_push (names rows) r.id h.distinct none);
           }
 
       -- its line is noted
@@ -106,7 +109,7 @@ module _ (lists : Lists) (old : FirstLines) (h : AreFirstLines lists old) where
           record { firsts = firsts_at lists rows; disagreements = disagreements } in
           let end = ap (firsts_at lists) items ∙ firsts_at-push lists rows p r is in
           let ids : names rows ≡ keys (firsts_at lists rows) =
-          sym (ap keys (firsts_under lists rows h.named) ∙ keys_under lists rows) in
+          sym (ap keys (firsts_at-under_rows lists rows h.named) ∙ keys-under_rows lists rows) in
           subst (λ (firsts : List (Id × Placed)). NotesLines (p ∷ []) noted
           (record { firsts = firsts; disagreements = disagreements })) (sym end)
           (NotesLines-new noted p

@@ -1,10 +1,11 @@
 -- The first of the lines for which a fact holds.
 use Rattle.std.proofs.Common.{◌≡◌, ◌⊎◌, inl, inr, List, [], ◌∷◌, ◌++◌, Contains, refl, sym, subst}
 use Rattle.std.proofs.Common.{◌∙◌}
-use Rattle.epx_types.proofs.Common.{Placed, Earlier, place_cmp_total, Contains-nil, Contains-head}
-use Rattle.epx_types.proofs.Common.{Contains-cons, Contains-cons_cases, below_irrefl, below_asymm}
-use Rattle.epx_committed.specs.Ledgers.{IsFirstWhere}
-use Rattle.epx_committed.specs.LineOrder.{IsSortedByPlace}
+use Rattle.epx_types.proofs.Common.{Placed, Earlier, place_cmp-IsTotalOrder, Contains-nil}
+use Rattle.epx_types.proofs.Common.{Contains-head}
+use Rattle.epx_types.proofs.Common.{Contains-cons, Contains-cons_cases, is_lt-irrefl, is_lt-asymm}
+use Rattle.epx_committed.specs.between.Ledgers.{IsFirstWhere}
+use Rattle.epx_committed.specs.between.LineOrder.{IsSortedByPlace}
 
 module _ (P : Placed → Type 0) where
   -- it is one of them
@@ -68,10 +69,10 @@ module _ (P : Placed → Type 0) where
   IsFirstWhere-earliest [] order p h q in_q holds earlier = absurd h
   IsFirstWhere-earliest (x ∷ lines) order p (inl h) q in_q holds earlier =
       elim (Contains-cons_cases x lines q in_q) [
-        | inl same ↦ below_irrefl place_cmp_total q.place
+        | inl same ↦ is_lt-irrefl place_cmp-IsTotalOrder q.place
             (let Q : Placed → Type 0 = λ y. Earlier q.place y.place in
             subst Q (sym h.0 ∙ same) earlier)
-        | inr rest ↦ below_asymm place_cmp_total x.place q.place (order.0 q rest)
+        | inr rest ↦ is_lt-asymm place_cmp-IsTotalOrder x.place q.place (order.0 q rest)
             (let Q : Placed → Type 0 = λ y. Earlier q.place y.place in subst Q (sym h.0) earlier)
       ]
   IsFirstWhere-earliest (x ∷ lines) order p (inr h) q in_q holds earlier =

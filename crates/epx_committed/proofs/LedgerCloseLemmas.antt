@@ -9,14 +9,14 @@ use Rattle.epx_types.specs.declared.id.Id.{Id}
 use Rattle.epx_committed.specs.declared.ledger.Disagreement.{Disagreement}
 use Rattle.epx_committed.specs.InstanceCounts.{AreNamedBy}
 use Rattle.epx_committed.specs.MergedLines.{IsDisagreementAt}
-use Rattle.epx_committed.specs.Ledgers.{LedgerView, IsLineOf, IsLedgerOf}
+use Rattle.epx_committed.specs.between.Ledgers.{LedgerView, IsLineOf, IsLedgerOf}
 use Rattle.epx_committed.specs.inner.LeastDisagreement.{IsLeastDisagreement}
-use Rattle.epx_committed.specs.LineOrder.{IsSortedByPlace}
+use Rattle.epx_committed.specs.between.LineOrder.{IsSortedByPlace}
 use Rattle.epx_committed.proofs.FirstWhereLemmas.{IsFirstWhere-contains, IsFirstWhere-holds}
 use Rattle.epx_committed.proofs.FirstWhereLemmas.{IsFirstWhere-earliest}
-use Rattle.epx_committed.proofs.LedgerLemmas.{keys, key_of_entry}
+use Rattle.epx_committed.proofs.LedgerLemmas.{keys, Contains-keys}
 use Rattle.epx_committed.proofs.LedgerMapLemmas.{same_id}
-use Rattle.epx_committed.proofs.SortedKeyLemmas.{rising_from_sorted, first_is_least}
+use Rattle.epx_committed.proofs.SortedKeyLemmas.{IsRising-from_sorted, UpTo-first}
 
 abbrev pub instances_of : List (Id × Placed) → List Instance
 instances_of es = map (λ e. e.1.instance) es
@@ -77,9 +77,9 @@ module _ (lines : List Placed) (noted : LedgerView) (ledger : IsLedgerOf lines n
     -- the keys are the distinct Ids of the lines
     pub AreNamedBy-sorted : AreNamedBy lines (keys firsts)
     AreNamedBy-sorted = record {
-      rising = rising_from_sorted (keys firsts) sorted distinct;
+      rising = IsRising-from_sorted (keys firsts) sorted distinct;
       whole = λ p h. let f = first_of p h in
-          key_of_entry firsts p.instance.id f.0 (there p.instance.id f.0 f.1);
+          Contains-keys firsts p.instance.id f.0 (there p.instance.id f.0 f.1);
       named = λ x h.
           let e = Contains-from_map (λ (d : Id × Placed). d.0) firsts x h in
           let old = back e.0.0 e.0.1 e.1 in
@@ -90,7 +90,7 @@ module _ (lines : List Placed) (noted : LedgerView) (ledger : IsLedgerOf lines n
     pub IsCommittedBy-sorted : Agree lines → IsCommittedBy lines (instances_of firsts)
     IsCommittedBy-sorted agree = record {
       rising = subst IsRising (keys-named firsts (λ x p h. first_named x p (back x p h)))
-          (rising_from_sorted (keys firsts) sorted distinct);
+          (IsRising-from_sorted (keys firsts) sorted distinct);
       given = λ e h.
           let d = Contains-from_map (λ (f : Id × Placed). f.1.instance) firsts e h in
           (d.0.1, first_line d.0.0 d.0.1 (back d.0.0 d.0.1 d.1), d.2);
@@ -128,11 +128,12 @@ module _ (lines : List Placed) (noted : LedgerView) (ledger : IsLedgerOf lines n
       )
 
 -- the first of sorted disagreements is the least of those before the sort
-pub first_disagreement : (before disagreements : List (Id × Disagreement)) (e : Id × Disagreement)
+pub IsLeastDisagreement-first : (before disagreements : List (Id × Disagreement))
+    (e : Id × Disagreement)
     → slice_get disagreements 0 ≡ Some e → IsPermutation before disagreements
     → IsSorted id_cmp (keys disagreements) → IsLeastDisagreement before (Some e)
-first_disagreement before [] e at moved sorted = absurd (cc at)
-first_disagreement before (d ∷ rest) e at moved sorted =
+IsLeastDisagreement-first before [] e at moved sorted = absurd (cc at)
+IsLeastDisagreement-first before (d ∷ rest) e at moved sorted =
     let first : ◌≡◌ {A = Id × Disagreement} d e = cc at in
     let sorts : List (Id × Disagreement) = d ∷ rest in
     subst (λ (f : Id × Disagreement). IsLeastDisagreement before (Some f)) first (
@@ -142,14 +143,14 @@ first_disagreement before (d ∷ rest) e at moved sorted =
           let has = Contains-from_map (λ (f : Id × Disagreement). f.0) before y h in
           let among = Contains-map (λ (f : Id × Disagreement). f.0) sorts has.0
           (Contains-permutation before sorts has.0 moved has.1) in
-          first_is_least d.0 (keys rest) sorted y (subst (Contains (keys sorts)) has.2 among),
+          UpTo-first d.0 (keys rest) sorted y (subst (Contains (keys sorts)) has.2 among),
     )
 
 -- a list without a first element has no key, nor had it before the sort
-pub no_disagreements : (before disagreements : List (Id × Disagreement))
+pub IsLeastDisagreement-none : (before disagreements : List (Id × Disagreement))
     → slice_get disagreements 0 ≡ None → IsPermutation before disagreements
     → IsLeastDisagreement before None
-no_disagreements before [] none moved x h =
+IsLeastDisagreement-none before [] none moved x h =
     let e = Contains-from_map (λ (d : Id × Disagreement). d.0) before x h in
     Contains-nil e.0 (Contains-permutation before [] e.0 moved e.1)
-no_disagreements before (e ∷ rest) none moved x h = absurd (cc none)
+IsLeastDisagreement-none before (e ∷ rest) none moved x h = absurd (cc none)

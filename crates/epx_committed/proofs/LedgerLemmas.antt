@@ -5,8 +5,9 @@ use Rattle.epx_types.proofs.Common.{Contains-append_left, Contains-push, Contain
 use Rattle.epx_types.proofs.Common.{Placed, Differ, Contains-map, Contains-from_map}
 use Rattle.epx_types.specs.declared.id.Id.{Id}
 use Rattle.epx_committed.specs.declared.ledger.Disagreement.{Disagreement}
-use Rattle.epx_committed.specs.Ledgers.{LedgerView, IsFirstWhere, IsLineOf, IsDisagreementOf}
-use Rattle.epx_committed.specs.Ledgers.{IsLedgerOf, NotesLines}
+use Rattle.epx_committed.specs.between.Ledgers.{LedgerView, IsFirstWhere, IsLineOf}
+use Rattle.epx_committed.specs.between.Ledgers.{IsDisagreementOf}
+use Rattle.epx_committed.specs.between.Ledgers.{IsLedgerOf, NotesLines}
 use Rattle.epx_committed.proofs.FirstWhereLemmas.{IsFirstWhere-holds, IsFirstWhere-unique}
 use Rattle.epx_committed.proofs.FirstWhereLemmas.{IsFirstWhere-append, IsFirstWhere-push}
 
@@ -16,9 +17,9 @@ module _ {V : Type 0} where
   abbrev pub keys : List (Id × V) → List Id
   keys es = map (λ e. e.0) es
 
-  pub key_of_entry : (es : List (Id × V)) (x : Id) (v : V) → Contains es (x, v)
+  pub Contains-keys : (es : List (Id × V)) (x : Id) (v : V) → Contains es (x, v)
       → Contains (keys es) x
-  key_of_entry es x v h = Contains-map (λ (e : Id × V). e.0) es (x, v) h
+  Contains-keys es x v h = Contains-map (λ (e : Id × V). e.0) es (x, v) h
 
   key_kept : (es : List (Id × V)) (e : Id × V) (x : Id) → Contains (keys es) x
       → Contains (keys (es ++ e ∷ [])) x
@@ -86,7 +87,7 @@ NotesLines-new noted p none done h = record {
           | inr last ↦ absurd
               (none (subst (Contains (keys noted.firsts))
               (sym named ∙ ap (λ (s : Placed). s.instance.id) (sym last))
-              (key_of_entry noted.firsts x q old)))
+              (Contains-keys noted.firsts x q old)))
         ]
         | inr new ↦ elim (Contains-push_cases done p r in_r) [
           | inl before ↦ absurd (fresh r before (named ∙ sym (ap (λ (e : Id × Placed). e.0) new)))
@@ -115,7 +116,7 @@ NotesLines-known noted p f known reason done h = record {
   whole = λ q has. elim (Contains-push_cases done p q has) [
     | inl old ↦ h.whole q old
     | inr new ↦ subst (λ (r : Placed). Contains (keys noted.firsts) r.instance.id) new
-        (key_of_entry noted.firsts p.instance.id f known)
+        (Contains-keys noted.firsts p.instance.id f known)
   ];
   disagreements = λ x disagreement has. IsDisagreementOf-push done p x disagreement
       (h.disagreements x disagreement has);
@@ -152,7 +153,7 @@ NotesLines-disagreement noted p f disagreement known differ none first_place sec
       whole = λ q has. elim (Contains-push_cases done p q has) [
         | inl old ↦ h.whole q old
         | inr new ↦ subst (λ (r : Placed). Contains (keys noted.firsts) r.instance.id) new
-            (key_of_entry noted.firsts p.instance.id f known)
+            (Contains-keys noted.firsts p.instance.id f known)
       ];
       disagreements = λ x other has.
           elim (Contains-push_cases noted.disagreements (p.instance.id, disagreement) (x, other)

@@ -2,13 +2,13 @@
 use Rattle.std.proofs.Common.{◌≡◌, ◌≢◌, inl, inr, Bool, true, false, List, [], ◌∷◌, ◌++◌, Contains}
 use Rattle.std.proofs.Common.{Option, None, Some, is_some, refl, sym, ap, subst, ◌∙◌}
 use Rattle.epx_types.proofs.Common.{lookup, cases_Bool, Placed, Contains-nil, Contains-cons_cases}
-use Rattle.epx_types.proofs.Common.{ids_decide}
+use Rattle.epx_types.proofs.Common.{id_eq-Decides}
 use Rattle.epx_types.specs.declared.id.Id.{Id}
 use Rattle.std.proofs.lemmas.Map.Views.{Contains-from_lookup}
 use Rattle.epx_types.specs.contracts.id.IdPartialEq.TheImpl as id_eq
 use Rattle.epx_committed.specs.declared.ledger.Disagreement.{Disagreement}
-use Rattle.epx_committed.specs.Ledgers.{LedgerView, NotesLines}
-use Rattle.epx_committed.proofs.LedgerLemmas.{keys, key_of_entry, NotesLines-known}
+use Rattle.epx_committed.specs.between.Ledgers.{LedgerView, NotesLines}
+use Rattle.epx_committed.proofs.LedgerLemmas.{keys, Contains-keys, NotesLines-known}
 use Rattle.epx_committed.proofs.LedgerLemmas.{NotesLines-disagreement}
 
 -- `==` of Ids
@@ -19,7 +19,8 @@ module _ {V : Type 0} where
   -- a look-up finds an entry
   entry_found : (x : Id) (v : V) (es : List (Id × V)) → lookup (same_id x) es ≡ Some v
       → Contains es (x, v)
-  entry_found x v es e = Contains-from_lookup {eq = same_id} (λ y z t. (ids_decide y z).0 t) x v es
+  entry_found x v es e =
+      Contains-from_lookup {eq = same_id} (λ y z t. (id_eq-Decides y z).0 t) x v es
       e
 
   -- if it finds none there is no entry
@@ -30,7 +31,7 @@ module _ {V : Type 0} where
       elim (cases_Bool (same_id x e.0)) [
         | inl here ↦ let found : Some e.1 ≡ None = rw here at none in cc
         | inr other ↦ elim (Contains-cons_cases e.0 (keys es) x h) [
-          | inl same ↦ let tied = (ids_decide x e.0).1 (sym same) in cc
+          | inl same ↦ let tied = (id_eq-Decides x e.0).1 (sym same) in cc
           | inr rest ↦ no_entry x es (rw other at none) rest
         ]
       ]
@@ -38,7 +39,7 @@ module _ {V : Type 0} where
   by_look_up : (x : Id) (es : List (Id × V)) (o : Option V) → lookup (same_id x) es ≡ o
       → is_some o ≡ true → Contains (keys es) x
   by_look_up x es None e t = absurd (cc t)
-  by_look_up x es (Some v) e t = key_of_entry es x v (entry_found x v es e)
+  by_look_up x es (Some v) e t = Contains-keys es x v (entry_found x v es e)
 
   key_found : (x : Id) (es : List (Id × V)) → is_some (lookup (same_id x) es) ≡ true
       → Contains (keys es) x
@@ -49,9 +50,10 @@ module _ {V : Type 0} where
   by_no_look_up x es None e t = no_entry x es e
   by_no_look_up x es (Some v) e t = absurd (cc t)
 
-  pub no_key : (x : Id) (es : List (Id × V)) → is_some (lookup (same_id x) es) ≡ false
+  pub Contains-lookup_fails : (x : Id) (es : List (Id × V))
+      → is_some (lookup (same_id x) es) ≡ false
       → ¬ Contains (keys es) x
-  no_key x es t = by_no_look_up x es (lookup (same_id x) es) refl t
+  Contains-lookup_fails x es t = by_no_look_up x es (lookup (same_id x) es) refl t
 
 -- ---- one more line of an instance whose first line is known
 
@@ -61,27 +63,28 @@ module _ (firsts : List (Id × Placed)) (disagreements : List (Id × Disagreemen
   noted = record { firsts = firsts; disagreements = disagreements }
 
   -- a line equal to the first line of its instance
-  pub noted_equal : first.instance ≡ line.instance → NotesLines (line ∷ []) noted noted
-  noted_equal same = NotesLines-known noted line first known (inl same)
+  pub NotesLines-equal : first.instance ≡ line.instance → NotesLines (line ∷ []) noted noted
+  NotesLines-equal same = NotesLines-known noted line first known (inl same)
 
   module _ (x : Id) (named : x ≡ line.instance.id) where
     -- a line of an instance that has a disagreement already
-    pub noted_disagreed : is_some (lookup (same_id x) disagreements) ≡ true
+    pub NotesLines-disagreed : is_some (lookup (same_id x) disagreements) ≡ true
         → NotesLines (line ∷ []) noted noted
-    noted_disagreed disagreeing = NotesLines-known noted line first known
+    NotesLines-disagreed disagreeing = NotesLines-known noted line first known
         (inr (subst (Contains (keys disagreements)) named (key_found x disagreements disagreeing)))
 
     -- a first disagreement is appended
-    pub noted_disagreement : (disagreement : Disagreement) (after : List (Id × Disagreement))
+    pub NotesLines-first_disagreed : (disagreement : Disagreement)
+        (after : List (Id × Disagreement))
         → first.instance ≢ line.instance → is_some (lookup (same_id x) disagreements) ≡ false
         → disagreement.first ≡ first.place → disagreement.second ≡ line.place
         → after ≡ disagreements ++ (x, disagreement) ∷ []
         → NotesLines (line ∷ []) noted (record { firsts = firsts; disagreements = after })
-    noted_disagreement disagreement after differ none first_place second_place is =
+    NotesLines-first_disagreed disagreement after differ none first_place second_place is =
         let end : after ≡ disagreements ++ (line.instance.id, disagreement) ∷ [] =
         is ∙ ap (λ (y : Id). disagreements ++ (y, disagreement) ∷ []) named in
         subst (λ (es : List (Id × Disagreement)). NotesLines (line ∷ []) noted
         (record { firsts = firsts; disagreements = es })) (sym end)
         (NotesLines-disagreement noted line first disagreement known differ
         (subst (λ (y : Id). ¬ Contains (keys disagreements) y) named
-        (no_key x disagreements none)) (sym first_place) (sym second_place))
+        (Contains-lookup_fails x disagreements none)) (sym first_place) (sym second_place))

@@ -11,14 +11,14 @@ use Rattle.epx_committed.specs.declared.line_index.LineIndex.{LineIndex}
 use Rattle.epx_committed.specs.inner.LineIndexes.{IsIndexOf, IsMarkIn, mark_of}
 
 -- an Id without a mark is not in the list
-pub not_there : (ids : List Id) (index : LineIndex) (x : Id) → IsIndexOf ids index
+pub Contains-no_mark : (ids : List Id) (index : LineIndex) (x : Id) → IsIndexOf ids index
     → mark_of index x ≡ 0 → ¬ Contains ids x
-not_there ids index x h none = subst (IsMarkIn ids x) none (h x)
+Contains-no_mark ids index x h none = subst (IsMarkIn ids x) none (h x)
 
 -- an Id with a mark is at its position
-pub there : (ids : List Id) (index : LineIndex) (x : Id) (k : ℕ) → IsIndexOf ids index
+pub slice_get-at_mark : (ids : List Id) (index : LineIndex) (x : Id) (k : ℕ) → IsIndexOf ids index
     → mark_of index x ≡ k + 1 → slice_get ids k ≡ Some x
-there ids index x k h is = subst (IsMarkIn ids x) (is ∙ add-one k) (h x)
+slice_get-at_mark ids index x k h is = subst (IsMarkIn ids x) (is ∙ add-one k) (h x)
 
 -- an index in which each Id keeps its mark still has the positions of the list
 pub IsIndexOf-same : (ids : List Id) (old new : LineIndex) → IsIndexOf ids old
@@ -64,8 +64,9 @@ module _ (ids : List Id) (y : Id) (old new : LineIndex) (h : IsIndexOf ids old)
   ]
 
 -- Ids stay distinct
-pub distinct_push : (ids : List Id) (y : Id) → AllPairs (λ x z. x ≢ z) ids → ¬ Contains ids y
+pub AllPairs-distinct_push : (ids : List Id) (y : Id) → AllPairs (λ x z. x ≢ z) ids
+    → ¬ Contains ids y
     → AllPairs (λ x z. x ≢ z) (ids ++ y ∷ [])
-distinct_push ids y distinct none = all_pairs_push (λ x z. x ≢ z) ids y distinct
+AllPairs-distinct_push ids y distinct none = all_pairs_push (λ x z. x ≢ z) ids y distinct
     (λ k d within e. none (subst (Contains ids) e
     (Contains-slice_get ids k (get_or ids k d) (slice_get-get_or ids k d within))))

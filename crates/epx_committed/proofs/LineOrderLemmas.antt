@@ -2,13 +2,13 @@
 use Rattle.std.proofs.Common.{◌≡◌, inl, inr, ◌<◌, List, [], ◌∷◌, ◌++◌, Contains, sym, ap, subst}
 use Rattle.std.proofs.Common.{◌∙◌, arith}
 use Rattle.epx_types.proofs.Common.{nat_tests, Contains-append_cases, Placed, Earlier}
-use Rattle.epx_types.proofs.Common.{HaveDistinctPlaces, place_cmp_total, Contains-head}
-use Rattle.epx_types.proofs.Common.{Contains-cons, Contains-nil, Contains-cons_cases, below_irrefl}
+use Rattle.epx_types.proofs.Common.{HaveDistinctPlaces, place_cmp-IsTotalOrder, Contains-head}
+use Rattle.epx_types.proofs.Common.{Contains-cons, Contains-nil, Contains-cons_cases, is_lt-irrefl}
 use Rattle.epx_types.specs.declared.place.Place.{Place}
-use Rattle.epx_committed.specs.LineOrder.{AreSortedBy, IsSortedByPlace}
+use Rattle.epx_committed.specs.between.LineOrder.{AreSortedBy, IsSortedByPlace}
 
-pub earlier_line : (p q : Place) → p.log ≡ q.log → p.line < q.line → Earlier p q
-earlier_line p q e h = grind (arith, nat_tests)
+pub Earlier-same_log : (p q : Place) → p.log ≡ q.log → p.line < q.line → Earlier p q
+Earlier-same_log p q e h = grind (arith, nat_tests)
 
 -- two sorted lists, where all of the first is before all of the second
 
@@ -25,22 +25,23 @@ AreSortedBy-append at (x ∷ xs) ys a b before = (
 )
 
 -- no two of them have the same place
-pub distinct_places : (lines : List Placed) → IsSortedByPlace lines → HaveDistinctPlaces lines
-distinct_places [] order p q in_p in_q same = absurd (Contains-nil p in_p)
-distinct_places (x ∷ lines) order p q in_p in_q same =
+pub HaveDistinctPlaces-sorted : (lines : List Placed) → IsSortedByPlace lines
+    → HaveDistinctPlaces lines
+HaveDistinctPlaces-sorted [] order p q in_p in_q same = absurd (Contains-nil p in_p)
+HaveDistinctPlaces-sorted (x ∷ lines) order p q in_p in_q same =
     elim (Contains-cons_cases x lines p in_p) [
       | inl is_p ↦ elim (Contains-cons_cases x lines q in_q) [
         | inl is_q ↦ sym is_p ∙ is_q
         | inr rest ↦ absurd
-            (below_irrefl place_cmp_total q.place
+            (is_lt-irrefl place_cmp-IsTotalOrder q.place
             (subst (λ (at : Place). Earlier at q.place) (ap (λ (l : Placed). l.place) is_p ∙ same)
             (order.0 q rest)))
       ]
       | inr rest_p ↦ elim (Contains-cons_cases x lines q in_q) [
         | inl is_q ↦ absurd
-            (below_irrefl place_cmp_total p.place
+            (is_lt-irrefl place_cmp-IsTotalOrder p.place
             (subst (λ (at : Place). Earlier at p.place)
             (ap (λ (l : Placed). l.place) is_q ∙ sym same) (order.0 p rest_p)))
-        | inr rest_q ↦ distinct_places lines order.1 p q rest_p rest_q same
+        | inr rest_q ↦ HaveDistinctPlaces-sorted lines order.1 p q rest_p rest_q same
       ]
     ]

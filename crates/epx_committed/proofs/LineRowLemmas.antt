@@ -5,7 +5,7 @@ use Rattle.std.proofs.Common.{IsPermutation, refl, sym, ap, subst, ◌∙◌, ar
 use Rattle.epx_types.proofs.Common.{IsDistinct, IsSorted, Global, length-map, All-head, All-tail}
 use Rattle.epx_types.proofs.Common.{All-weaker, IsPermutation-map, IsDistinct-IsPermutation}
 use Rattle.epx_types.proofs.Common.{IsDistinct-from_AllPairs, slice_get_within, id_cmp, Instance}
-use Rattle.epx_types.proofs.Common.{Placed, ids_of, IsCommittedBy, ids_decide, ids_flip}
+use Rattle.epx_types.proofs.Common.{Placed, ids_of, IsCommittedBy, id_eq-Decides, id_eq-sym}
 use Rattle.epx_types.proofs.Common.{max_instances}
 use Rattle.epx_types.specs.declared.id.Id.{Id}
 use Rattle.std.proofs.lemmas.List.Elements.{filter_map-append}
@@ -16,17 +16,17 @@ use Rattle.epx_committed.specs.declared.ledger.FirstLines.{FirstLines}
 use Rattle.epx_committed.specs.declared.rows.Row.{Row}
 use Rattle.epx_committed.specs.declared.rows.TheConstants.{NO_LIST}
 use Rattle.epx_committed.specs.InstanceCounts.{AreNamedBy, FewInstances, ManyInstances}
-use Rattle.epx_committed.specs.Ledgers.{IsLedgerOf}
+use Rattle.epx_committed.specs.between.Ledgers.{IsLedgerOf}
 use Rattle.epx_committed.specs.MergedLines.{IsMerged}
 use Rattle.epx_committed.specs.inner.FirstLines.{AreFirstLines, ledger_view}
-use Rattle.epx_committed.specs.inner.LineRows.{line_at, instances_at, firsts_at}
-use Rattle.epx_committed.specs.inner.LineRows.{HasList, IsLineRow, NamesItsLine, AreLineRows}
+use Rattle.epx_committed.specs.LineRows.{line_at, instances_at, firsts_at}
+use Rattle.epx_committed.specs.LineRows.{HasList, IsLineRow, NamesItsLine, AreLineRows}
 use Rattle.epx_committed.proofs.LedgerLemmas.{keys}
 use Rattle.epx_committed.proofs.LedgerMapLemmas.{same_id}
 use Rattle.epx_committed.proofs.LedgerCloseLemmas.{AreNamedBy-sorted, IsCommittedBy-sorted}
 use Rattle.epx_committed.proofs.LedgerCloseLemmas.{Agree-from_ledger}
 use Rattle.epx_committed.proofs.LineIndexLemmas.{slice_get-before_push}
-use Rattle.epx_committed.proofs.SortedKeyLemmas.{rising_from_sorted}
+use Rattle.epx_committed.proofs.SortedKeyLemmas.{IsRising-from_sorted}
 
 abbrev pub Lists : Type 0
 Lists = List (Vec Placed Global)
@@ -45,48 +45,48 @@ under_row lists r = (r.id, unwrap_or (line_at lists r) default_line)
 abbrev pub under_rows : Lists → List Row → List (Id × Placed)
 under_rows lists rows = map (under_row lists) rows
 
-pub keys_under : (lists : Lists) (rows : List Row)
+pub keys-under_rows : (lists : Lists) (rows : List Row)
     → keys (under_rows lists rows) ≡ map (λ r. r.id) rows
-keys_under lists [] = refl
-keys_under lists (r ∷ rows) = ap (λ l. r.id ∷ l) (keys_under lists rows)
+keys-under_rows lists [] = refl
+keys-under_rows lists (r ∷ rows) = ap (λ l. r.id ∷ l) (keys-under_rows lists rows)
 
 -- ---- rows that name their lines
 
 module _ (lists : Lists) where
-  pub firsts_under : (rows : List Row) → All (NamesItsLine lists) rows
+  pub firsts_at-under_rows : (rows : List Row) → All (NamesItsLine lists) rows
       → firsts_at lists rows ≡ under_rows lists rows
-  firsts_under [] named = refl
-  firsts_under (r ∷ rows) named =
+  firsts_at-under_rows [] named = refl
+  firsts_at-under_rows (r ∷ rows) named =
       let h = All-head (NamesItsLine lists) r rows named in
-      let rest = firsts_under rows (All-tail (NamesItsLine lists) r rows named) in
+      let rest = firsts_at-under_rows rows (All-tail (NamesItsLine lists) r rows named) in
       rw h.1.0 (ap (λ l. (r.id, h.0) ∷ l) rest)
 
-  pub instances_under : (rows : List Row) → All (NamesItsLine lists) rows
+  pub instances_at-under_rows : (rows : List Row) → All (NamesItsLine lists) rows
       → instances_at lists rows ≡ map (λ e. e.1.instance) (under_rows lists rows)
-  instances_under [] named = refl
-  instances_under (r ∷ rows) named =
+  instances_at-under_rows [] named = refl
+  instances_at-under_rows (r ∷ rows) named =
       let h = All-head (NamesItsLine lists) r rows named in
-      let rest = instances_under rows (All-tail (NamesItsLine lists) r rows named) in
+      let rest = instances_at-under_rows rows (All-tail (NamesItsLine lists) r rows named) in
       rw h.1.0 (ap (λ l. h.0.instance ∷ l) rest)
 
-  pub ids_under : (rows : List Row) → All (NamesItsLine lists) rows
+  pub ids_of-under_rows : (rows : List Row) → All (NamesItsLine lists) rows
       → ids_of (map (λ e. e.1.instance) (under_rows lists rows)) ≡ map (λ r. r.id) rows
-  ids_under [] named = refl
-  ids_under (r ∷ rows) named =
+  ids_of-under_rows [] named = refl
+  ids_of-under_rows (r ∷ rows) named =
       let h = All-head (NamesItsLine lists) r rows named in
-      let rest = ids_under rows (All-tail (NamesItsLine lists) r rows named) in
+      let rest = ids_of-under_rows rows (All-tail (NamesItsLine lists) r rows named) in
       let first : (unwrap_or (line_at lists r) default_line).instance.id ≡ r.id =
       ap (λ o. (unwrap_or o default_line).instance.id) h.1.0 ∙ h.1.1 in
       λ i. first i ∷ rest i
 
-  pub stands_under : (rows : List Row) → All (NamesItsLine lists) rows
+  pub slice_get-instances_at : (rows : List Row) → All (NamesItsLine lists) rows
       → (k : ℕ) (r : Row) (p : Placed) → slice_get rows k ≡ Some r
       → line_at lists r ≡ Some p → slice_get (instances_at lists rows) k ≡ Some p.instance
-  stands_under rows named k r p at there =
+  slice_get-instances_at rows named k r p at there =
       let row = slice_get-map (under_row lists) rows k r at in
       let instance = slice_get-map (λ (e : Id × Placed). e.1.instance) (under_rows lists rows) k
       (under_row lists r) row in
-      ap (λ (l : List Instance). slice_get l k) (instances_under rows named) ∙ instance
+      ap (λ (l : List Instance). slice_get l k) (instances_at-under_rows rows named) ∙ instance
       ∙ ap (λ o. Some (unwrap_or o default_line).instance) there
 
 -- ---- one more row, or one more list
@@ -101,24 +101,24 @@ firsts_at-push lists rows p r is =
     ∙ ap (λ l. firsts_at lists rows ++ l) last
 
 -- where a row's indices are
-pub line_there : (lists : Lists) (l : Vec Placed Global) (p : Placed) (r : Row)
+pub line_at-from_list : (lists : Lists) (l : Vec Placed Global) (p : Placed) (r : Row)
     → slice_get lists r.list ≡ Some l → slice_get l.items r.at ≡ Some p
     → line_at lists r ≡ Some p
-line_there lists l p r list at = ap (option_and_then (λ m. slice_get m.items r.at)) list ∙ at
+line_at-from_list lists l p r list at = ap (option_and_then (λ m. slice_get m.items r.at)) list ∙ at
 
 -- the list that a row names, and the line in it
-pub list_of : (lists : Lists) (p : Placed) (r : Row) → line_at lists r ≡ Some p
+pub line_at-in_list : (lists : Lists) (p : Placed) (r : Row) → line_at lists r ≡ Some p
     → (l : Vec Placed Global) × (slice_get lists r.list ≡ Some l)
     × (slice_get l.items r.at ≡ Some p)
-list_of lists p r named =
+line_at-in_list lists p r named =
     option_and_then_some (λ (m : Vec Placed Global). slice_get m.items r.at)
     (slice_get lists r.list) p named (λ l list at. (l, list, at))
 
 -- the index of a row's list is below any bound of their number
-pub have_lists : (lists : Lists) (rows : List Row) → length lists ≤ NO_LIST
+pub HasList-all : (lists : Lists) (rows : List Row) → length lists ≤ NO_LIST
     → All (NamesItsLine lists) rows → All HasList rows
-have_lists lists rows few named = All-weaker (NamesItsLine lists) HasList
-    (λ r h. let l = list_of lists h.0 r h.1.0 in
+HasList-all lists rows few named = All-weaker (NamesItsLine lists) HasList
+    (λ r h. let l = line_at-in_list lists h.0 r h.1.0 in
     omega (arith, slice_get_within lists r.list l.0 l.1, few)) rows named
 
 module _ (lists : Lists) (more : Vec Placed Global) where
@@ -127,8 +127,8 @@ module _ (lists : Lists) (more : Vec Placed Global) where
 
   line_kept : (r : Row) (p : Placed) → line_at lists r ≡ Some p → line_at longer r ≡ Some p
   line_kept r p named =
-      let l = list_of lists p r named in
-      line_there longer l.0 p r (slice_get-before_push lists more r.list l.0 l.1) l.2
+      let l = line_at-in_list lists p r named in
+      line_at-from_list longer l.0 p r (slice_get-before_push lists more r.list l.0 l.1) l.2
 
   -- rows keep their lines
   pub named-push : (rows : List Row) → All (NamesItsLine lists) rows
@@ -160,7 +160,7 @@ module _ (lists : Lists) (noted : FirstLines) (rows : List Row)
   under_moved : IsPermutation (firsts_at lists old) (under_rows lists rows)
   under_moved =
       subst (λ (l : List (Id × Placed)). IsPermutation l (under_rows lists rows))
-      (sym (firsts_under lists old are.firsts.named))
+      (sym (firsts_at-under_rows lists old are.firsts.named))
       (IsPermutation-map (under_row lists) old rows are.moved)
 
   named_moved : All (NamesItsLine lists) rows
@@ -170,21 +170,21 @@ module _ (lists : Lists) (noted : FirstLines) (rows : List Row)
   as_many_names = length-map rows (λ (r : Row). r.id)
 
   distinct_rows : IsDistinct same_id (map (λ r. r.id) rows)
-  distinct_rows = IsDistinct-IsPermutation same_id ids_flip (map (λ r. r.id) old)
+  distinct_rows = IsDistinct-IsPermutation same_id id_eq-sym (map (λ r. r.id) old)
       (map (λ r. r.id) rows) (IsPermutation-map (λ (r : Row). r.id) old rows are.moved)
-      (IsDistinct-from_AllPairs {eq = same_id} ids_decide (map (λ r. r.id) old)
+      (IsDistinct-from_AllPairs {eq = same_id} id_eq-Decides (map (λ r. r.id) old)
       are.firsts.distinct)
 
   distinct_keys : IsDistinct same_id (keys (under_rows lists rows))
-  distinct_keys = subst (IsDistinct same_id) (sym (keys_under lists rows)) distinct_rows
+  distinct_keys = subst (IsDistinct same_id) (sym (keys-under_rows lists rows)) distinct_rows
 
   sorted_keys : IsSorted id_cmp (keys (under_rows lists rows))
-  sorted_keys = subst (IsSorted id_cmp) (sym (keys_under lists rows)) are.sorted
+  sorted_keys = subst (IsSorted id_cmp) (sym (keys-under_rows lists rows)) are.sorted
 
   pub AreLineRows-moved : AreLineRows lists rows
   AreLineRows-moved = record {
     named = named_moved;
-    rising = rising_from_sorted (map (λ r. r.id) rows) are.sorted distinct_rows;
+    rising = IsRising-from_sorted (map (λ r. r.id) rows) are.sorted distinct_rows;
   }
 
   -- ---- what the rows say of all noted lines
@@ -192,7 +192,7 @@ module _ (lists : Lists) (noted : FirstLines) (rows : List Row)
   module _ (all : List Placed) (ledger : IsLedgerOf all (ledger_view lists noted)) where
     -- the Ids of the rows are the distinct Ids of the lines
     AreNamedBy-rows : AreNamedBy all (map (λ r. r.id) rows)
-    AreNamedBy-rows = subst (AreNamedBy all) (keys_under lists rows)
+    AreNamedBy-rows = subst (AreNamedBy all) (keys-under_rows lists rows)
         (AreNamedBy-sorted all (ledger_view lists noted) ledger (under_rows lists rows) under_moved
         sorted_keys distinct_keys)
 
@@ -213,7 +213,8 @@ module _ (lists : Lists) (noted : FirstLines) (rows : List Row)
         record {
           small = FewInstances-rows few;
           agree = agree;
-          committed = subst (IsCommittedBy all) (sym (instances_under lists rows named_moved))
+          committed =
+              subst (IsCommittedBy all) (sym (instances_at-under_rows lists rows named_moved))
               (IsCommittedBy-sorted all (ledger_view lists noted) ledger (under_rows lists rows)
               under_moved sorted_keys distinct_keys agree);
         }

@@ -4,18 +4,18 @@ use Rattle.std.proofs.Common.{subst, ◌∙◌}
 use Rattle.epx_types.proofs.Common.{IsRising, UpTo, Instance, Placed, Agree, Differ}
 use Rattle.epx_types.proofs.Common.{IsFirstDisagreement, ids_of, IsCommittedBy, Id-cases}
 use Rattle.epx_types.proofs.Common.{Contains-nil, Contains-head, Contains-cons, Contains-cons_cases}
-use Rattle.epx_types.proofs.Common.{Contains-from_map, some_or_none, least_or_none}
+use Rattle.epx_types.proofs.Common.{Contains-from_map, Contains-some_or_none, IsLeastOf-or_none}
 use Rattle.epx_types.specs.declared.id.Id.{Id}
 use Rattle.epx_types.specs.declared.fault.Fault.{Fault}
 use Rattle.epx_types.specs.declared.fault.Fault.TheVariants.{TooManyInstances, Disagree, Memory}
 use Rattle.epx_committed.specs.InstanceCounts.{AreNamedBy}
-use Rattle.epx_committed.specs.Ledgers.{IsFirstWhere, IsLineOf}
-use Rattle.epx_committed.specs.LineOrder.{IsSortedByPlace}
+use Rattle.epx_committed.specs.between.Ledgers.{IsFirstWhere, IsLineOf}
+use Rattle.epx_committed.specs.between.LineOrder.{IsSortedByPlace}
 use Rattle.epx_committed.specs.MergedLines.{IsMerged, IsMergeFault}
-use Rattle.epx_committed.proofs.EqualityLemmas.{instance_cases}
+use Rattle.epx_committed.proofs.EqualityLemmas.{Instance-cases}
 use Rattle.epx_committed.proofs.FirstWhereLemmas.{IsFirstWhere-contains, IsFirstWhere-holds}
 use Rattle.epx_committed.proofs.FirstWhereLemmas.{IsFirstWhere-earliest, IsFirstWhere-exists}
-use Rattle.epx_committed.proofs.InstanceCountLemmas.{few_or_many}
+use Rattle.epx_committed.proofs.InstanceCountLemmas.{FewInstances-or_many}
 
 -- ---- what lines that agree commit
 
@@ -64,7 +64,7 @@ Differ-cases : (p q : Placed) → Differ p q ⊎ (¬ Differ p q)
 Differ-cases p q =
     elim (Id-cases p.instance.id q.instance.id) [
       | inr other ↦ inr (λ d. other d.0)
-      | inl same ↦ elim (instance_cases p.instance q.instance) [
+      | inl same ↦ elim (Instance-cases p.instance q.instance) [
         | inl equal ↦ inr (λ d. d.1 equal)
         | inr differ ↦ inl (same, differ)
       ]
@@ -79,7 +79,7 @@ module _ (lines : List Placed) where
   IsDoubted-cases x p =
       elim (Id-cases p.instance.id x) [
         | inr other ↦ inr (λ d. other d.0)
-        | inl named ↦ elim (some_or_none (Differ p) (Differ-cases p) lines) [
+        | inl named ↦ elim (Contains-some_or_none (Differ p) (Differ-cases p) lines) [
           | inl some ↦ inl (named, some)
           | inr none ↦ inr (λ d. none d.1.0 d.1.1 d.1.2)
         ]
@@ -90,7 +90,7 @@ module _ (lines : List Placed) where
 
   HasDoubt-cases : (x : Id) → HasDoubt x ⊎ (¬ HasDoubt x)
   HasDoubt-cases x =
-      elim (some_or_none (IsDoubted x) (IsDoubted-cases x) lines)
+      elim (Contains-some_or_none (IsDoubted x) (IsDoubted-cases x) lines)
       [ inl some ↦ inl some | inr none ↦ inr (λ d. none d.0 d.1 d.2) ]
 
   -- the first line of the Id, and the first line that differs from that one
@@ -107,7 +107,7 @@ module _ (lines : List Placed) where
       let named = IsFirstWhere-holds (IsLineOf x) lines first.0 first.1 in
       let q = d.2.1 in
       let other : (r : Placed) × Contains lines r × Differ first.0 r =
-      elim (instance_cases first.0.instance d.0.instance) [
+      elim (Instance-cases first.0.instance d.0.instance) [
         | inl same ↦ (
           q.0,
           q.1,
@@ -146,7 +146,7 @@ module _ (lines : List Placed) where
 
     agree_without : ((x : Id) → Contains ids x → ¬ HasDoubt x) → Agree lines
     agree_without none p q in_p in_q same =
-        elim (instance_cases p.instance q.instance) [
+        elim (Instance-cases p.instance q.instance) [
           | inl equal ↦ equal
           | inr differ ↦ absurd (none p.instance.id (names.whole p in_p)
               (doubted p q in_p in_q (same, differ)))
@@ -154,13 +154,13 @@ module _ (lines : List Placed) where
 
 -- ---- a map or a fault
 
-pub merged_or_fault : (lines : List Placed) → IsSortedByPlace lines
+pub IsMerged-or_fault : (lines : List Placed) → IsSortedByPlace lines
     → ((m : List Instance) × IsMerged lines m)
     ⊎ ((f : Fault) × (f ≢ Memory) × IsMergeFault lines f)
-merged_or_fault lines order =
-    elim (few_or_many lines) [
+IsMerged-or_fault lines order =
+    elim (FewInstances-or_many lines) [
       | inr many ↦ inr (TooManyInstances, (λ same. cc same), many)
-      | inl few ↦ elim (least_or_none (HasDoubt lines) (HasDoubt-cases lines) few.0) [
+      | inl few ↦ elim (IsLeastOf-or_none (HasDoubt lines) (HasDoubt-cases lines) few.0) [
         | inl least ↦
             let d = first_disagreement lines order few.0 few.1 least.0 least.1.0 least.1.1 in
             inr (

@@ -78,11 +78,11 @@ AreRangesIn-same ids old new same are x h =
     ∙ are x (subst (λ r. IsInRange r x.number) (same x) h)
 
 -- the position that the range of an Id has for it
-pub found_in : (ranges : List NumberRange) (x : Id) (range : NumberRange)
+pub slice_get-position_in : (ranges : List NumberRange) (x : Id) (range : NumberRange)
     → range ≡ range_of ranges x → (o : Option ℕ) → IfSome o (λ _. IsInRange range x.number)
     → IfSome o (λ k. k ≡ position_in range x.number)
     → IfSome o (λ k. (ids : List Id) → AreRangesIn ids ranges → slice_get ids k ≡ Some x)
-found_in ranges x range read None within at = tt
-found_in ranges x range read (Some k) within at = λ ids are.
+slice_get-position_in ranges x range read None within at = tt
+slice_get-position_in ranges x range read (Some k) within at = λ ids are.
     ap (slice_get ids) (at ∙ ap (λ r. position_in r x.number) read)
     ∙ are x (subst (λ r. IsInRange r x.number) read within)

@@ -3,8 +3,9 @@ use Rattle.std.proofs.Common.{◌≡◌, inl, inr, ◌+◌, ◌<◌, List, ◌�
 use Rattle.std.proofs.Common.{true≢false, sym, subst, ◌∙◌, arith}
 use Rattle.epx_types.proofs.Common.{IsDistinct, IsSorted, is_lt, sorted_far, ranks_by}
 use Rattle.epx_types.proofs.Common.{AllPairs-from_IsDistinct, id_cmp, Below, UpTo, IsRising}
-use Rattle.epx_types.proofs.Common.{id_cmp_total, id_cmp-IsAntisymmetric, IsRising-from_neighbours}
-use Rattle.epx_types.proofs.Common.{below_cases, ids_decide}
+use Rattle.epx_types.proofs.Common.{id_cmp-IsTotalOrder, id_cmp-IsAntisymmetric}
+use Rattle.epx_types.proofs.Common.{IsRising-from_neighbours}
+use Rattle.epx_types.proofs.Common.{is_lt-cases, id_eq-Decides}
 use Rattle.epx_types.specs.declared.id.Id.{Id}
 use Rattle.epx_committed.proofs.LedgerMapLemmas.{same_id}
 
@@ -12,25 +13,27 @@ not_below : (xs : List Id) → IsSorted id_cmp xs → (i j : _) (d : Id) → i <
     → ¬ Below (get_or xs j d) (get_or xs i d)
 not_below xs sorted i j d l within below =
     true≢false (sym below ∙ sorted_far (λ x y. is_lt (id_cmp x y))
-    (ranks_by id_cmp_total (λ (x : Id). x)) xs sorted i j d (omega arith) within)
+    (ranks_by id_cmp-IsTotalOrder (λ (x : Id). x)) xs sorted i j d (omega arith) within)
 
 -- sorted keys rise if no two are equal
-pub rising_from_sorted : (xs : List Id) → IsSorted id_cmp xs → IsDistinct same_id xs → IsRising xs
-rising_from_sorted xs sorted distinct =
+pub IsRising-from_sorted : (xs : List Id) → IsSorted id_cmp xs → IsDistinct same_id xs → IsRising xs
+IsRising-from_sorted xs sorted distinct =
     IsRising-from_neighbours xs (λ k d within.
-    elim (below_cases id_cmp_total id_cmp-IsAntisymmetric (get_or xs k d) (get_or xs (k + 1) d)) [
+    elim (is_lt-cases id_cmp-IsTotalOrder id_cmp-IsAntisymmetric (get_or xs k d)
+    (get_or xs (k + 1) d)) [
       | inl below ↦ below
       | inr (inl same) ↦ absurd
-          (AllPairs-from_IsDistinct {eq = same_id} ids_decide xs distinct k (k + 1) d (omega arith)
+          (AllPairs-from_IsDistinct {eq = same_id} id_eq-Decides xs distinct k (k + 1) d
+          (omega arith)
           within same)
       | inr (inr above) ↦ absurd (not_below xs sorted k (k + 1) d (omega arith) within above)
     ])
 
 -- the first of sorted keys is at most each key
-pub first_is_least : (x : Id) (xs : List Id) → IsSorted id_cmp (x ∷ xs) → (y : Id)
+pub UpTo-first : (x : Id) (xs : List Id) → IsSorted id_cmp (x ∷ xs) → (y : Id)
     → Contains (x ∷ xs) y → UpTo x y
-first_is_least x xs sorted y h =
-    elim (below_cases id_cmp_total id_cmp-IsAntisymmetric x y) [
+UpTo-first x xs sorted y h =
+    elim (is_lt-cases id_cmp-IsTotalOrder id_cmp-IsAntisymmetric x y) [
       | inl below ↦ inr below
       | inr (inl same) ↦ inl same
       | inr (inr above) ↦ absurd (after h.0 h.1 h.2 above)
@@ -39,5 +42,5 @@ first_is_least x xs sorted y h =
     after : (k : _) → k < length (x ∷ xs) → get_or (x ∷ xs) k y ≡ y → ¬ Below y x
     after k within is above =
         true≢false (sym (subst (λ (z : Id). Below z x) (sym is) above)
-        ∙ sorted_far (λ v w. is_lt (id_cmp v w)) (ranks_by id_cmp_total (λ (v : Id). v))
+        ∙ sorted_far (λ v w. is_lt (id_cmp v w)) (ranks_by id_cmp-IsTotalOrder (λ (v : Id). v))
         (x ∷ xs) sorted 0 k y (omega arith) within)

@@ -1,6 +1,5 @@
 pub mod InstanceCounts
 pub mod MergedLines
-pub mod EntryLines
-pub mod LineOrder
-pub mod Ledgers
+pub mod LineRows
+pub mod between
 pub mod inner

@@ -2,5 +2,4 @@
 pub mod FirstLines
 pub mod LeastDisagreement
 pub mod LineIndexes
-pub mod LineRows
 pub mod NumberRanges

@@ -1,7 +1,7 @@
 //! The committed map of entries in memory, or why they commit none.
 ghost use Rattle.std.specs.Prelude.{MatchResult, OnOk};
-ghost use Rattle.epx_committed.specs.EntryLines.{entry_lines};
-ghost use Rattle.epx_committed.specs.Ledgers.{NotesLines};
+ghost use Rattle.epx_committed.specs.between.EntryLines.{entry_lines};
+ghost use Rattle.epx_committed.specs.between.Ledgers.{NotesLines};
 ghost use Rattle.epx_committed.specs.MergedLines.{IsMerged, IsMergeFault};
 
 use crate::ledger::Ledger;

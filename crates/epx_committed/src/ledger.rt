@@ -3,11 +3,11 @@ ghost use Rattle.std.specs.Prelude.{◌<◌, List, [], ◌∷◌, Contains, IfOk
 ghost use Rattle.std.specs.Prelude.{length, slice_get};
 ghost use Rattle.epx_types.specs.declared.id.Id.{Id};
 ghost use Rattle.epx_types.specs.PlacedLines.{Placed};
-ghost use Rattle.epx_committed.specs.Ledgers.{IsLedgerOf, NotesLines};
+ghost use Rattle.epx_committed.specs.between.Ledgers.{IsLedgerOf, NotesLines};
 ghost use Rattle.epx_committed.specs.inner.FirstLines.{AreFirstLines, Extends, ledger_view};
-ghost use Rattle.epx_committed.specs.inner.LineRows.{IsLineRow};
+ghost use Rattle.epx_committed.specs.LineRows.{IsLineRow};
 ghost use Rattle.epx_committed.specs.inner.LeastDisagreement.{IsLeastDisagreement};
-ghost use Rattle.epx_committed.specs.LineOrder.{IsSortedByPlace};
+ghost use Rattle.epx_committed.specs.between.LineOrder.{IsSortedByPlace};
 ghost use Rattle.epx_committed.specs.MergedLines.{IsMerged, IsMergeFault};
 
 use crate::line_index::LineIndex;
@@ -126,7 +126,7 @@ pub struct Ledger {
 }
 
 impl Model for Ledger {
-    ghost use Rattle.epx_committed.specs.Ledgers.{LedgerView};
+    ghost use Rattle.epx_committed.specs.between.Ledgers.{LedgerView};
     ghost use Rattle.epx_committed.specs.inner.FirstLines.{AreFirstLines, ledger_view};
 
     ghost Value = { LedgerView };

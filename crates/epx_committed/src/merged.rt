@@ -5,8 +5,8 @@ ghost use Rattle.epx_types.specs.CommittedMap.{ids_of, instance_of, position_of}
 ghost use Rattle.epx_types.specs.Ids.{IsRising};
 ghost use Rattle.epx_types.specs.PlacedLines.{Placed};
 ghost use Rattle.epx_committed.specs.declared.rows.Row.{Row};
-ghost use Rattle.epx_committed.specs.inner.LineRows.{AreLineRows, IsLineRow, NamesItsLine};
-ghost use Rattle.epx_committed.specs.inner.LineRows.{instances_at, line_at};
+ghost use Rattle.epx_committed.specs.LineRows.{AreLineRows, IsLineRow, NamesItsLine};
+ghost use Rattle.epx_committed.specs.LineRows.{instances_at, line_at};
 ghost use Rattle.epx_committed.specs.inner.NumberRanges.{AreRangesIn};
 
 use crate::number_ranges::NumberRanges;
@@ -31,7 +31,7 @@ pub struct Merged {
 impl Model for Merged {
     ghost use Rattle.std.specs.Prelude.{List, map};
     ghost use Rattle.epx_types.specs.Instances.{Instance};
-    ghost use Rattle.epx_committed.specs.inner.LineRows.{instances_at, AreLineRows};
+    ghost use Rattle.epx_committed.specs.LineRows.{instances_at, AreLineRows};
     ghost use Rattle.epx_committed.specs.inner.NumberRanges.{AreRangesIn};
 
     ghost Value = { List Instance };

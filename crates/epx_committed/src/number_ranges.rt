@@ -1,5 +1,5 @@
 //! Ranges of consecutive numbers, by which most instances are found at once.
-ghost use Rattle.std.specs.Prelude.{◌≡◌, ◌≤◌, ◌<◌, List, [], Some, IfOk, IfSome, IsTrue, OnOk};
+ghost use Rattle.std.specs.Prelude.{◌≡◌, ◌≤◌, ◌<◌, List, Some, IfOk, IfSome, IsTrue, OnOk};
 ghost use Rattle.std.specs.Prelude.{length, map, slice_get};
 ghost use Rattle.epx_types.specs.declared.id.Id.{Id};
 ghost use Rattle.epx_committed.specs.inner.NumberRanges.{AreRangesIn, IsInRange, Lengthens};

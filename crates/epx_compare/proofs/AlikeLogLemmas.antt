@@ -18,11 +18,12 @@ use Rattle.epx_compare.specs.Comparisons.{HasFindings, bad_text, difference_text
 use Rattle.epx_compare.specs.Comparisons.{for_logs, gaps_text}
 use Rattle.epx_compare.specs.Gaps.{Gap, gaps_of, has_line}
 use Rattle.epx_compare.specs.GapLaws.{first_lacked}
-use Rattle.epx_compare.proofs.GapLawLemmas.{gaps_are}
+use Rattle.epx_compare.proofs.GapLawLemmas.{AreGaps-gaps_of}
 use Rattle.epx_compare.proofs.MemberLemmas.{list_any-found, list_any-from}
-use Rattle.epx_compare.proofs.NoDifferenceLemmas.{left_nil, right_nil, both_nil, line_not_nil}
-use Rattle.epx_compare.proofs.NoDifferenceLemmas.{nothing_differs_iff}
-use Rattle.epx_compare.proofs.OwnLineLemmas.{own_to_all, all_to_own}
+use Rattle.epx_compare.proofs.NoDifferenceLemmas.{append-left_nil, append-right_nil}
+use Rattle.epx_compare.proofs.NoDifferenceLemmas.{append-both_nil, line_of-not_nil}
+use Rattle.epx_compare.proofs.NoDifferenceLemmas.{SaysNothingDiffers-iff}
+use Rattle.epx_compare.proofs.OwnLineLemmas.{Contains-own_to_all, Contains-all_to_own}
 use Rattle.epx_versions.specs.SameInstances.{same_id}
 use Rattle.epx_versions.specs.inner.EqualVersions.{ids_decide}
 
@@ -33,7 +34,7 @@ for_logs_none : (first count : ℕ) (text : ℕ → List ℕ)
 for_logs_none first zero text none = refl
 for_logs_none first (suc count) text none =
     let e : first + 0 ≡ first = omega arith in
-    both_nil (text first) (for_logs (suc first) count text)
+    append-both_nil (text first) (for_logs (suc first) count text)
     (subst (λ (i : ℕ). text i ≡ []) e (none 0 (omega arith)))
     (for_logs_none (suc first) count text (λ i l.
     let e : first + suc i ≡ suc first + i = omega arith in
@@ -44,19 +45,21 @@ each_for_logs : (first count : ℕ) (text : ℕ → List ℕ) → for_logs first
 each_for_logs first zero text none i l = absurd (omega (arith, l))
 each_for_logs first (suc count) text none zero l =
     let e : first ≡ first + 0 = omega arith in
-    subst (λ (i : ℕ). text i ≡ []) e (left_nil (text first) (for_logs (suc first) count text) none)
+    subst (λ (i : ℕ). text i ≡ []) e
+    (append-left_nil (text first) (for_logs (suc first) count text) none)
 each_for_logs first (suc count) text none (suc i) l =
     let e : suc first + i ≡ first + suc i = omega arith in
     subst (λ (i : ℕ). text i ≡ []) e
     (each_for_logs (suc first) count text
-    (right_nil (text first) (for_logs (suc first) count text) none) i (omega (arith, l)))
+    (append-right_nil (text first) (for_logs (suc first) count text) none) i (omega (arith, l)))
 
 no_gap : (log : ℕ) (gaps : List Gap) → flat_map (λ gap. line_of (lacks_data log gap)) gaps ≡ []
     → gaps ≡ []
 no_gap log [] none = refl
 no_gap log (g ∷ gaps) none = absurd
-    (line_not_nil (lacks_data log g)
-    (left_nil (line_of (lacks_data log g)) (flat_map (λ gap. line_of (lacks_data log gap)) gaps)
+    (line_of-not_nil (lacks_data log g)
+    (append-left_nil (line_of (lacks_data log g))
+    (flat_map (λ gap. line_of (lacks_data log gap)) gaps)
     none))
 
 both_hold : (a b : Bool) → (a && b) ≡ true → (a ≡ true) × (b ≡ true)
@@ -103,9 +106,9 @@ module _ (logs : List (List ℕ)) (ids : List Id) (named : AreNamedBy (placed_of
         (lines_all p.0.instance.id (named.whole p.0 p.1)) in
         let same = IsRising-same m accepted.committed.rising q.0.instance p.0.instance
         (accepted.committed.whole q.0 q.1) (accepted.committed.whole p.0 p.1) q.3 in
-        let own = all_to_own logs i log at q.0 q.1 q.2 in
+        let own = Contains-all_to_own logs i log at q.0 q.1 q.2 in
         (own.0, own.1, own.2 ∙ same ∙ p.2);
-    whole = λ p among. let q = own_to_all logs i log at p among in
+    whole = λ p among. let q = Contains-own_to_all logs i log at p among in
         subst (Contains m) q.3 (accepted.committed.whole q.0 q.1);
   } where
     lines_all : (x : Id) → Contains ids x → has_line (placed_of logs) i x ≡ true
@@ -113,7 +116,7 @@ module _ (logs : List (List ℕ)) (ids : List Id) (named : AreNamedBy (placed_of
         elim (cases_Bool (has_line (placed_of logs) i x)) [
           | inl is ↦ is
           | inr lacks ↦
-              let gap = ((gaps_are (has_line (placed_of logs) i) ids named.rising).lacked x
+              let gap = ((AreGaps-gaps_of (has_line (placed_of logs) i) ids named.rising).lacked x
               among).0 lacks in
               absurd (Contains-nil gap.0 (subst (λ (gs : List Gap). Contains gs gap.0) none
               gap.1))
@@ -126,12 +129,12 @@ module _ (logs : List (List ℕ)) (ids : List Id) (named : AreNamedBy (placed_of
         → gaps_of (has_line (placed_of logs) i) ids ≡ []
     by [] e = e
     by (g ∷ gaps) e =
-        let are = gaps_are (has_line (placed_of logs) i) ids named.rising in
+        let are = AreGaps-gaps_of (has_line (placed_of logs) i) ids named.rising in
         let first = (are.ends g (subst (λ (gs : List Gap). Contains gs g) (sym e)
         (Contains-head g gaps))).first in
         let p = named.named (first_lacked g) first.among in
         let r = own.given p.0.instance (accepted.committed.whole p.0 p.1) in
-        let q = own_to_all logs i log at r.0 r.1 in
+        let q = Contains-own_to_all logs i log at r.0 r.1 in
         let is : q.0.instance.id ≡ first_lacked g =
         ap (λ (d : Instance). d.id) (q.3 ∙ r.2) ∙ p.2 in
         let has = subst (λ (x : Id). has_line (placed_of logs) i x ≡ true) is
@@ -180,8 +183,8 @@ nothing_or_findings logs ids named none =
       by (c ∷ text) e = absurd
           (none (record { ids = ids; named = named; some = λ empty. cc (e, empty) }))
 
-pub nothing_found_iff : NothingFoundWhereLogsAreAlike
-nothing_found_iff logs fit few = (there, back) where
+pub NothingFoundWhereLogsAreAlike-iff : NothingFoundWhereLogsAreAlike
+NothingFoundWhereLogsAreAlike-iff logs fit few = (there, back) where
   there : ¬ HasFindings logs → (m : List Instance) × IsAccepted logs m
       × ((log : List ℕ) → Contains logs log → IsCommittedBy (placed_of (log ∷ [])) m)
   there none =
@@ -190,19 +193,19 @@ nothing_found_iff logs fit few = (there, back) where
       let differences = flat_map (difference_text (placed_of logs)) ids in
       let gaps = gaps_text (length logs) (placed_of logs) ids in
       let empty = nothing_or_findings logs ids few.1 none in
-      let rest = right_nil bad (differences ++ gaps) empty in
-      let m = (nothing_differs_iff logs ids fit few few.1).0
-      (left_nil bad (differences ++ gaps) empty, left_nil differences gaps rest) in
-      (m.0, m.1, each_commits logs ids few.1 m.0 m.1 (right_nil differences gaps rest))
+      let rest = append-right_nil bad (differences ++ gaps) empty in
+      let m = (SaysNothingDiffers-iff logs ids fit few few.1).0
+      (append-left_nil bad (differences ++ gaps) empty, append-left_nil differences gaps rest) in
+      (m.0, m.1, each_commits logs ids few.1 m.0 m.1 (append-right_nil differences gaps rest))
 
   back : ((m : List Instance) × IsAccepted logs m
       × ((log : List ℕ) → Contains logs log → IsCommittedBy (placed_of (log ∷ [])) m))
       → ¬ HasFindings logs
   back (m, accepted, each) found =
       let ids = found.ids in
-      let says = (nothing_differs_iff logs ids fit few found.named).1 (m, accepted) in
+      let says = (SaysNothingDiffers-iff logs ids fit few found.named).1 (m, accepted) in
       let differences = flat_map (difference_text (placed_of logs)) ids in
       let gaps = gaps_text (length logs) (placed_of logs) ids in
-      found.some (both_nil (bad_text (bad_lines_of logs)) (differences ++ gaps) says.0
-      (both_nil differences gaps says.1
+      found.some (append-both_nil (bad_text (bad_lines_of logs)) (differences ++ gaps) says.0
+      (append-both_nil differences gaps says.1
       (all_gaps_none logs ids found.named m accepted each)))

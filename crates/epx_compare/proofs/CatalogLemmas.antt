@@ -5,7 +5,7 @@ use Rattle.epx_types.proofs.Common.{AllByRecursion, AllZip, All-from_recursion, 
 use Rattle.epx_types.proofs.Common.{Instance, Placed}
 use Rattle.epx_types.specs.declared.id.Id.{Id}
 use Rattle.epx_versions.specs.declared.noted.NotedLine.{NotedLine}
-use Rattle.epx_versions.specs.NotedRows.{IsRowOf}
+use Rattle.epx_versions.specs.between.NotedRows.{IsRowOf}
 
 module _ (ids : List Id) where
   each_within : (ks : List ℕ) (xs : List Id) → map (slice_get ids) ks ≡ map Some xs
@@ -18,18 +18,19 @@ module _ (ids : List Id) where
       (slice_get_within ids k x here, each_within ks xs rest)
 
   -- positions at which there are Ids
-  pub positions_within : (ks : List ℕ) (xs : List Id) → map (slice_get ids) ks ≡ map Some xs
+  pub All-positions_within : (ks : List ℕ) (xs : List Id) → map (slice_get ids) ks ≡ map Some xs
       → All (λ j. j < length ids) ks
-  positions_within ks xs same = All-from_recursion _ ks (each_within ks xs same)
+  All-positions_within ks xs same = All-from_recursion _ ks (each_within ks xs same)
 
   -- a position for each Id
-  pub as_many : (ks : List ℕ) (xs : List Id) → map (slice_get ids) ks ≡ map Some xs
+  pub length-positions : (ks : List ℕ) (xs : List Id) → map (slice_get ids) ks ≡ map Some xs
       → length ks ≡ length xs
-  as_many [] [] same = refl
-  as_many [] (x ∷ xs) same = absurd (cc same)
-  as_many (k ∷ ks) [] same = absurd (cc same)
-  as_many (k ∷ ks) (x ∷ xs) same =
-      let rest : map (slice_get ids) ks ≡ map Some xs = cc same in ap suc (as_many ks xs rest)
+  length-positions [] [] same = refl
+  length-positions [] (x ∷ xs) same = absurd (cc same)
+  length-positions (k ∷ ks) [] same = absurd (cc same)
+  length-positions (k ∷ ks) (x ∷ xs) same =
+      let rest : map (slice_get ids) ks ≡ map Some xs =
+      cc same in ap suc (length-positions ks xs rest)
 
 module _ (versions : List Instance) where
   each_named : (rows : List NotedLine) (lines : List Placed) → AllZip (IsRowOf versions) rows lines
@@ -42,10 +43,10 @@ module _ (versions : List Instance) where
   )
 
   -- each row names a version
-  pub rows_named : (rows : List NotedLine) (lines : List Placed)
+  pub version-within : (rows : List NotedLine) (lines : List Placed)
       → AllZip (IsRowOf versions) rows lines
       → All (λ r. r.version < length versions) rows
-  rows_named rows lines rel = All-from_recursion _ rows (each_named rows lines rel)
+  version-within rows lines rel = All-from_recursion _ rows (each_named rows lines rel)
 
   each_row_within : (rows : List NotedLine) (lines : List Placed)
       → AllZip (IsRowOf versions) rows lines
@@ -58,7 +59,7 @@ module _ (versions : List Instance) where
   )
 
   -- the versions of rows
-  pub rows_within : (rows : List NotedLine) (lines : List Placed)
+  pub All-versions_within : (rows : List NotedLine) (lines : List Placed)
       → AllZip (IsRowOf versions) rows lines
       → All (λ j. j < length versions) (map (λ r. r.version) rows)
-  rows_within rows lines rel = All-from_recursion _ _ (each_row_within rows lines rel)
+  All-versions_within rows lines rel = All-from_recursion _ _ (each_row_within rows lines rel)

@@ -4,24 +4,24 @@ use Rattle.epx_types.proofs.Common.{cases_lt, max_logs}
 use Rattle.epx_types.specs.declared.fault.Fault.{Fault}
 use Rattle.epx_types.specs.declared.fault.Fault.TheVariants.{TooManyLogs, LogTooLong}
 use Rattle.epx_types.specs.declared.fault.Fault.TheVariants.{TooManyInstances, Memory}
-use Rattle.epx_committed.proofs.InstanceCountLemmas.{few_or_many, not_few_and_many}
+use Rattle.epx_committed.proofs.InstanceCountLemmas.{FewInstances-or_many, ManyInstances-not_few}
 use Rattle.epx_merge.specs.LogLines.{placed_of}
-use Rattle.epx_merge.proofs.ExistenceLemmas.{long_cases}
-use Rattle.epx_merge.proofs.UniquenessLemmas.{same_long}
+use Rattle.epx_merge.proofs.ExistenceLemmas.{NoneTooLong-cases}
+use Rattle.epx_merge.proofs.UniquenessLemmas.{IsFirstTooLong-is_unique}
 use Rattle.epx_compare.specs.ComparisonAnswers.{Compares, IsComparisonOf, IsComparisonRefusal}
-use Rattle.epx_compare.proofs.ComparisonExistenceLemmas.{comparison_existence}
-use Rattle.epx_compare.proofs.ComparisonLawLemmas.{comparison_unique}
+use Rattle.epx_compare.proofs.ComparisonExistenceLemmas.{IsComparison-exists}
+use Rattle.epx_compare.proofs.ComparisonLawLemmas.{IsComparison-is_unique}
 
-pub compares_exists : (logs : List (List ℕ)) → (a : Result (List ℕ) Fault) × (a ≢ Err Memory)
+pub Compares-exists : (logs : List (List ℕ)) → (a : Result (List ℕ) Fault) × (a ≢ Err Memory)
     × Compares logs a
-compares_exists logs =
+Compares-exists logs =
     elim (cases_lt max_logs (length logs)) [
       | inl many ↦ (Err TooManyLogs, (λ same. cc same), many)
-      | inr few ↦ elim (long_cases logs) [
+      | inr few ↦ elim (NoneTooLong-cases logs) [
         | inr long ↦ (Err (LogTooLong long.0), (λ same. cc same), (few, long.1))
-        | inl none ↦ elim (few_or_many (placed_of logs)) [
+        | inl none ↦ elim (FewInstances-or_many (placed_of logs)) [
           | inr many ↦ (Err TooManyInstances, (λ same. cc same), ((few, none), many))
-          | inl small ↦ let text = comparison_existence logs in (
+          | inl small ↦ let text = IsComparison-exists logs in (
             Ok text.0,
             (λ same. cc same),
             record { fit = (few, none); few = small; compared = text.1 },
@@ -37,7 +37,7 @@ compared_not_refused logs text TooManyLogs c r = absurd (omega (arith, r, c.fit.
 compared_not_refused logs text (LogTooLong log) c r =
     absurd (omega (arith, c.fit.1 log r.1.long.0 r.1.long.1, r.1.long.2))
 compared_not_refused logs text TooManyInstances c r =
-    absurd (not_few_and_many (placed_of logs) c.few r.1)
+    absurd (ManyInstances-not_few (placed_of logs) c.few r.1)
 compared_not_refused logs text f c r = absurd r
 
 refusal_unique : (logs : List (List ℕ)) (f g : Fault) → f ≢ Memory → g ≢ Memory
@@ -51,7 +51,7 @@ refusal_unique logs TooManyLogs g nf ng a b = absurd b
 refusal_unique logs (LogTooLong j) Memory nf ng a b = absurd (ng refl)
 refusal_unique logs (LogTooLong j) TooManyLogs nf ng a b = absurd (omega (arith, b, a.0))
 refusal_unique logs (LogTooLong j) (LogTooLong k) nf ng a b =
-    ap LogTooLong (same_long logs j k a.1 b.1)
+    ap LogTooLong (IsFirstTooLong-is_unique logs j k a.1 b.1)
 refusal_unique logs (LogTooLong j) TooManyInstances nf ng a b =
     absurd (omega (arith, b.0.1 j a.1.long.0 a.1.long.1, a.1.long.2))
 refusal_unique logs (LogTooLong j) g nf ng a b = absurd b
@@ -63,13 +63,13 @@ refusal_unique logs TooManyInstances TooManyInstances nf ng a b = refl
 refusal_unique logs TooManyInstances g nf ng a b = absurd b
 refusal_unique logs f g nf ng a b = absurd a
 
-pub compares_unique : (logs : List (List ℕ)) (a b : Result (List ℕ) Fault) → a ≢ Err Memory
+pub Compares-is_unique : (logs : List (List ℕ)) (a b : Result (List ℕ) Fault) → a ≢ Err Memory
     → b ≢ Err Memory → Compares logs a → Compares logs b → a ≡ b
-compares_unique logs (Ok text) (Ok other) s t p q =
-    ap Ok (comparison_unique logs text other p.compared q.compared)
-compares_unique logs (Ok text) (Err f) s t p q =
+Compares-is_unique logs (Ok text) (Ok other) s t p q =
+    ap Ok (IsComparison-is_unique logs text other p.compared q.compared)
+Compares-is_unique logs (Ok text) (Err f) s t p q =
     absurd (t (ap Err (compared_not_refused logs text f p q)))
-compares_unique logs (Err f) (Ok text) s t p q =
+Compares-is_unique logs (Err f) (Ok text) s t p q =
     absurd (s (ap Err (compared_not_refused logs text f q p)))
-compares_unique logs (Err f) (Err g) s t p q =
+Compares-is_unique logs (Err f) (Err g) s t p q =
     ap Err (refusal_unique logs f g (λ e. s (ap Err e)) (λ e. t (ap Err e)) p q)

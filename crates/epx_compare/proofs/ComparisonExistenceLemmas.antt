@@ -1,9 +1,9 @@
 -- All logs have a comparison: the Ids that it prints exist.
 use Rattle.std.proofs.Common.{◌⊎◌, inl, inr, ℕ, List, Contains, length, flat_map, refl}
 use Rattle.epx_types.proofs.Common.{IsEquivalence, list_any, cases_Bool, Contains-from_any}
-use Rattle.epx_types.proofs.Common.{list_any-from_Contains, Placed, id_cmp_total}
+use Rattle.epx_types.proofs.Common.{list_any-from_Contains, Placed, id_cmp-IsTotalOrder}
 use Rattle.epx_types.proofs.Common.{id_cmp-IsAntisymmetric, Contains-flat_map}
-use Rattle.epx_types.proofs.Common.{Contains-from_flat_map, IsRising-from_AllPairs, rising_list}
+use Rattle.epx_types.proofs.Common.{Contains-from_flat_map, IsRising-from_AllPairs, AreThose-exists}
 use Rattle.epx_types.specs.declared.id.Id.{Id}
 use Rattle.std.specs.Cmp.{decided}
 use Rattle.epx_merge.specs.LogLines.{placed_of, bad_lines_of}
@@ -11,7 +11,7 @@ use Rattle.epx_compare.specs.Comparisons.{IsComparison, comparison_text}
 use Rattle.epx_versions.specs.SameInstances.{same_id}
 use Rattle.epx_compare.specs.MissingDeps.{AreMissingDeps}
 use Rattle.epx_versions.specs.inner.EqualVersions.{ids_decide}
-use Rattle.epx_committed.proofs.InstanceCountLemmas.{named_ids}
+use Rattle.epx_committed.proofs.InstanceCountLemmas.{AreNamedBy-exists}
 
 same_id_equiv : IsEquivalence same_id
 same_id_equiv = decided same_id ids_decide
@@ -28,7 +28,7 @@ missing_exist : (lines : List Placed) (ids : List Id)
     → (missing : List Id) × AreMissingDeps lines ids missing
 missing_exist lines ids =
     let deps : Placed → List Id = λ p. p.instance.deps in
-    let found = rising_list id_cmp_total id_cmp-IsAntisymmetric (λ x. ¬ Contains ids x)
+    let found = AreThose-exists id_cmp-IsTotalOrder id_cmp-IsAntisymmetric (λ x. ¬ Contains ids x)
     (lacks_or_has ids) (flat_map deps lines) in (
       found.0,
       record {
@@ -41,11 +41,11 @@ missing_exist lines ids =
       },
     )
 
-pub comparison_existence : (logs : List (List ℕ)) → (text : List ℕ) × IsComparison logs text
-comparison_existence logs =
+pub IsComparison-exists : (logs : List (List ℕ)) → (text : List ℕ) × IsComparison logs text
+IsComparison-exists logs =
     let lines = placed_of logs in
     let bad = bad_lines_of logs in
-    let ids = named_ids lines in
+    let ids = AreNamedBy-exists lines in
     let missing = missing_exist lines ids.0 in (
       comparison_text (length logs) lines bad ids.0 missing.0,
       record {

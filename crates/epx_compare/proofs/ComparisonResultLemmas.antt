@@ -14,12 +14,12 @@ module _ (logs : List (List ℕ)) where
   abbrev pub SaysFound : Result Comparison Fault → Type 0
   SaysFound result = IfOk result (λ c. (c.has_findings ≡ true) ↔ HasFindings logs)
 
-  pub answer_of : (result : Result Comparison Fault) → IsComparisonResult logs result
+  pub HasAnswer-from_result : (result : Result Comparison Fault) → IsComparisonResult logs result
       → HasAnswer result
-  answer_of (Ok c) is = is.0
-  answer_of (Err fault) is = is
+  HasAnswer-from_result (Ok c) is = is.0
+  HasAnswer-from_result (Err fault) is = is
 
-  pub found_of : (result : Result Comparison Fault) → IsComparisonResult logs result
+  pub SaysFound-from_result : (result : Result Comparison Fault) → IsComparisonResult logs result
       → SaysFound result
-  found_of (Ok c) is = is.1
-  found_of (Err fault) is = tt
+  SaysFound-from_result (Ok c) is = is.1
+  SaysFound-from_result (Err fault) is = tt

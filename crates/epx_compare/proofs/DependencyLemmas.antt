@@ -7,11 +7,11 @@ use Rattle.epx_types.proofs.Common.{All-weaker, slice_get_within, IsRising, Inst
 use Rattle.epx_types.proofs.Common.{slice_get-from_Contains, Contains-slice_get, slice_get-from_map}
 use Rattle.epx_types.proofs.Common.{Contains-nil, Contains-head, Contains-cons, Contains-cons_cases}
 use Rattle.epx_types.proofs.Common.{Contains-filter, Contains-from_filter, Contains-flat_map}
-use Rattle.epx_types.proofs.Common.{Contains-from_flat_map, rising_position_is_unique}
+use Rattle.epx_types.proofs.Common.{Contains-from_flat_map, slice_get-rising_is_unique}
 use Rattle.epx_types.specs.declared.id.Id.{Id}
 use Rattle.std.specs.Cmp.{first_so, second_so}
 use Rattle.std.proofs.lemmas.List.Folds.{list_any_at}
-use Rattle.epx_rows.specs.Rows.{row_of}
+use Rattle.epx_rows.specs.between.Rows.{row_of}
 use Rattle.epx_types.proofs.lists.ListPositionLemmas.{slice_get-map}
 use Rattle.epx_merge.specs.LogLines.{BadLineAt}
 use Rattle.epx_compare.specs.declared.catalog.Catalog.{Catalog}
@@ -25,77 +25,82 @@ use Rattle.epx_compare.specs.inner.MissingCounts.{is_missing, deps_at, deps_at_n
 -- ---- tests
 
 -- two tests that imply each other have the same answer
-pub same_answer : (a b : Bool) → (a ≡ true → b ≡ true) → (b ≡ true → a ≡ true) → a ≡ b
-same_answer true true f g = refl
-same_answer true false f g = sym (f refl)
-same_answer false true f g = g refl
-same_answer false false f g = refl
+pub Bool-from_iff : (a b : Bool) → (a ≡ true → b ≡ true) → (b ≡ true → a ≡ true) → a ≡ b
+Bool-from_iff true true f g = refl
+Bool-from_iff true false f g = sym (f refl)
+Bool-from_iff false true f g = g refl
+Bool-from_iff false false f g = refl
 
 -- an element that passes
-pub passing : {X : Type 0} (p : X → Bool) (xs : List X) → list_any p xs ≡ true
+pub Contains-from_list_any : {X : Type 0} (p : X → Bool) (xs : List X) → list_any p xs ≡ true
     → (x : X) × Contains xs x × (p x ≡ true)
-passing p [] h = absurd (cc h)
-passing p (x ∷ xs) h =
+Contains-from_list_any p [] h = absurd (cc h)
+Contains-from_list_any p (x ∷ xs) h =
     elim (cases_Bool (p x)) [
       | inl here ↦ (x, Contains-head x xs, here)
-      | inr other ↦ let rest = passing p xs (rw other at h) in
+      | inr other ↦ let rest = Contains-from_list_any p xs (rw other at h) in
           (rest.0, Contains-cons x xs rest.0 rest.1, rest.2)
     ]
 
-pub from_passing : {X : Type 0} (p : X → Bool) (xs : List X) (x : X) → Contains xs x
+pub list_any-if_one_passes : {X : Type 0} (p : X → Bool) (xs : List X) (x : X) → Contains xs x
     → p x ≡ true → list_any p xs ≡ true
-from_passing p xs x h passes = list_any_at p xs h.0 x h.1 (ap p h.2 ∙ passes)
+list_any-if_one_passes p xs x h passes = list_any_at p xs h.0 x h.1 (ap p h.2 ∙ passes)
 
 -- the test whether an Id is in a list
-pub from_member : (x : Id) (ids : List Id) → Contains ids x
+pub list_any-same_id_flipped : (x : Id) (ids : List Id) → Contains ids x
     → list_any (λ d. same_id d x) ids ≡ true
-from_member x ids h = from_passing (λ d. same_id d x) ids x h ((ids_decide x x).1 refl)
+list_any-same_id_flipped x ids h =
+    list_any-if_one_passes (λ d. same_id d x) ids x h ((ids_decide x x).1 refl)
 
-pub member : (x : Id) (ids : List Id) → list_any (λ d. same_id d x) ids ≡ true → Contains ids x
-member x ids h =
-    let found = passing (λ d. same_id d x) ids h in
+pub Contains-from_same_id_flipped : (x : Id) (ids : List Id)
+    → list_any (λ d. same_id d x) ids ≡ true → Contains ids x
+Contains-from_same_id_flipped x ids h =
+    let found = Contains-from_list_any (λ d. same_id d x) ids h in
     subst (Contains ids) ((ids_decide found.0 x).0 found.2) found.1
 
-pub from_listed : (x : Id) (ids : List Id) → Contains ids x → list_any (same_id x) ids ≡ true
-from_listed x ids h = from_passing (same_id x) ids x h ((ids_decide x x).1 refl)
+pub list_any-same_id : (x : Id) (ids : List Id) → Contains ids x → list_any (same_id x) ids ≡ true
+list_any-same_id x ids h = list_any-if_one_passes (same_id x) ids x h ((ids_decide x x).1 refl)
 
-pub listed : (x : Id) (ids : List Id) → list_any (same_id x) ids ≡ true → Contains ids x
-listed x ids h =
-    let found = passing (same_id x) ids h in
+pub Contains-from_same_id : (x : Id) (ids : List Id) → list_any (same_id x) ids ≡ true
+    → Contains ids x
+Contains-from_same_id x ids h =
+    let found = Contains-from_list_any (same_id x) ids h in
     subst (Contains ids) (sym ((ids_decide x found.0).0 found.2)) found.1
 
-pub both_so : (a b : Bool) → a ≡ true → b ≡ true → (a && b) ≡ true
-both_so a b p q = cc
+pub and-from_both : (a b : Bool) → a ≡ true → b ≡ true → (a && b) ≡ true
+and-from_both a b p q = cc
 
 -- lists with the same elements have the same dependencies
-pub same_missing : (ids deps more : List Id) → ((x : Id) → Contains deps x ↔ Contains more x)
+pub is_missing-same_elements : (ids deps more : List Id)
+    → ((x : Id) → Contains deps x ↔ Contains more x)
     → (x : Id) → is_missing ids deps x ≡ is_missing ids more x
-same_missing ids deps more same x = ap (λ b. not (list_any (same_id x) ids) && b)
-    (same_answer (list_any (λ d. same_id d x) deps) (list_any (λ d. same_id d x) more)
-    (λ h. from_member x more ((same x).0 (member x deps h)))
-    (λ h. from_member x deps ((same x).1 (member x more h))))
+is_missing-same_elements ids deps more same x = ap (λ b. not (list_any (same_id x) ids) && b)
+    (Bool-from_iff (list_any (λ d. same_id d x) deps) (list_any (λ d. same_id d x) more)
+    (λ h. list_any-same_id_flipped x more ((same x).0 (Contains-from_same_id_flipped x deps h)))
+    (λ h. list_any-same_id_flipped x deps ((same x).1 (Contains-from_same_id_flipped x more h))))
 
 -- ---- lines and what they commit
 
 -- a line commits each version
-pub line_of_version : (lines : List Placed) (e : Instance) → Contains (versions_of lines) e
+pub Contains-from_versions_of : (lines : List Placed) (e : Instance)
+    → Contains (versions_of lines) e
     → (p : Placed) × Contains lines p × (p.instance ≡ e)
-line_of_version [] e h = absurd (Contains-nil e h)
-line_of_version (p ∷ lines) e h =
+Contains-from_versions_of [] e h = absurd (Contains-nil e h)
+Contains-from_versions_of (p ∷ lines) e h =
     let others = λ (d : Instance). not (same_instance p.instance d) in
     elim (Contains-cons_cases p.instance (filter others (versions_of lines)) e h) [
       | inl is ↦ (p, Contains-head p lines, is)
       | inr rest ↦
-          let found = line_of_version lines e
+          let found = Contains-from_versions_of lines e
           (Contains-from_filter others (versions_of lines) e rest) in
           (found.0, Contains-cons p lines found.0 found.1, found.2)
     ]
 
 -- each line commits a version
-pub version_of_line : (lines : List Placed) (p : Placed) → Contains lines p
+pub Contains-versions_of : (lines : List Placed) (p : Placed) → Contains lines p
     → Contains (versions_of lines) p.instance
-version_of_line [] p h = absurd (Contains-nil p h)
-version_of_line (q ∷ lines) p h =
+Contains-versions_of [] p h = absurd (Contains-nil p h)
+Contains-versions_of (q ∷ lines) p h =
     let others = λ (d : Instance). not (same_instance q.instance d) in
     let all : List Instance = q.instance ∷ filter others (versions_of lines) in
     let first : Contains all q.instance =
@@ -105,7 +110,8 @@ version_of_line (q ∷ lines) p h =
       | inr rest ↦ elim (cases_Bool (same_instance q.instance p.instance)) [
         | inl same ↦ subst (Contains all) (same_by_test q.instance p.instance same) first
         | inr other ↦ Contains-cons q.instance (filter others (versions_of lines)) p.instance
-            (Contains-filter others (versions_of lines) p.instance (version_of_line lines p rest)
+            (Contains-filter others (versions_of lines) p.instance
+            (Contains-versions_of lines p rest)
             (ap not other))
       ]
     ]
@@ -153,9 +159,9 @@ module _ (lines : List Placed) (bad : List BadLineAt) (c : Catalog)
       (version.0, version.1, sym own.2 ∙ ap Some (sym version.2))
 
   -- the numbers of an instance are of versions
-  pub numbers_known : (k : ℕ)
+  pub All-numbers_known : (k : ℕ)
       → All (λ n. n < length c.noted.versions.keys) (row_of c.versions k)
-  numbers_known k = All-weaker (Contains (row_of c.versions k))
+  All-numbers_known k = All-weaker (Contains (row_of c.versions k))
       (λ n. n < length c.noted.versions.keys)
       (λ n h. let version = position_version n k ((catalogs.versions.exact k n).0 h) in
       let within = slice_get_within (versions_of lines) n version.0 version.1 in
@@ -169,14 +175,15 @@ module _ (lines : List Placed) (bad : List BadLineAt) (c : Catalog)
     from_line h =
         let test = λ (p : Placed). same_id p.instance.id y
         && list_any (λ d. same_id d x) p.instance.deps in
-        let found = passing test lines h in
+        let found = Contains-from_list_any test lines h in
         let e = found.0.instance in
         let id : e.id ≡ y = (ids_decide e.id y).0 (first_so (same_id e.id y) _ found.2) in
-        let dep : Contains e.deps x = member x e.deps (second_so (same_id e.id y) _ found.2) in
+        let dep : Contains e.deps x =
+        Contains-from_same_id_flipped x e.deps (second_so (same_id e.id y) _ found.2) in
         let at = slice_get-from_Contains (versions_of lines) e
-        (version_of_line lines found.0 found.1) in
+        (Contains-versions_of lines found.0 found.1) in
         let position = version_position at.0 e at.1 in
-        let same : position.0 ≡ k = rising_position_is_unique c.ids rising position.0 k y
+        let same : position.0 ≡ k = slice_get-rising_is_unique c.ids rising position.0 k y
         (position.2 ∙ ap Some id) here in
         let number : Contains (row_of c.versions k) at.0 =
         (catalogs.versions.exact k at.0).1 (position.1 ∙ ap Some same) in
@@ -198,20 +205,22 @@ module _ (lines : List Placed) (bad : List BadLineAt) (c : Catalog)
         let is : own.0 ≡ version.0 = cc same in
         let id : Some version.0.id ≡ Some y = sym version.2 ∙ here in
         let named : version.0.id ≡ y = cc id in
-        let line = line_of_version lines version.0
+        let line = Contains-from_versions_of lines version.0
         (Contains-slice_get (versions_of lines) n version.0 version.1) in
         let e = line.0.instance in
         let whole : own.0 ≡ e = is ∙ sym line.2 in
         let dep : Contains e.deps x = subst (λ (d : Instance). Contains d.deps x) whole own.2 in
         let own_id : e.id ≡ y = ap (λ (d : Instance). d.id) line.2 ∙ named in
-        from_passing (λ p. same_id p.instance.id y && list_any (λ d. same_id d x) p.instance.deps)
-        lines line.0 line.1 (both_so (same_id e.id y) (list_any (λ d. same_id d x) e.deps)
-        ((ids_decide e.id y).1 own_id) (from_member x e.deps dep))
+        list_any-if_one_passes
+        (λ p. same_id p.instance.id y && list_any (λ d. same_id d x) p.instance.deps)
+        lines line.0 line.1 (and-from_both (same_id e.id y) (list_any (λ d. same_id d x) e.deps)
+        ((ids_decide e.id y).1 own_id) (list_any-same_id_flipped x e.deps dep))
 
     -- an instance depends on x exactly where its versions do
-    pub depends_here : depends_on lines x y
+    pub depends_on-by_numbers : depends_on lines x y
         ≡ list_any (λ d. same_id d x) (deps_at_numbers c.noted.versions.keys (row_of c.versions k))
-    depends_here =
+    depends_on-by_numbers =
         let deps = deps_at_numbers c.noted.versions.keys (row_of c.versions k) in
-        same_answer (depends_on lines x y) (list_any (λ d. same_id d x) deps)
-        (λ h. from_member x deps (from_line h)) (λ h. to_line (member x deps h))
+        Bool-from_iff (depends_on lines x y) (list_any (λ d. same_id d x) deps)
+        (λ h. list_any-same_id_flipped x deps (from_line h))
+        (λ h. to_line (Contains-from_same_id_flipped x deps h))

@@ -12,15 +12,15 @@ use Rattle.epx_versions.specs.LineVersions.{versions_of}
 use Rattle.epx_versions.specs.SameInstances.{same_id, same_instance}
 use Rattle.epx_versions.specs.declared.noted.NotedLine.{NotedLine}
 use Rattle.epx_versions.specs.inner.EqualVersions.{same_by_test, instances_decide}
-use Rattle.epx_versions.specs.NotedRows.{IsRowOf}
+use Rattle.epx_versions.specs.between.NotedRows.{IsRowOf}
 
 -- ---- filters
 
-pub filter_within : {X : Type 0} (p q : X → Bool) → ((x : X) → q x ≡ true → p x ≡ true)
+pub filter-within : {X : Type 0} (p q : X → Bool) → ((x : X) → q x ≡ true → p x ≡ true)
     → (xs : List X) → filter q (filter p xs) ≡ filter q xs
-filter_within p q implies [] = refl
-filter_within {X} p q implies (x ∷ xs) =
-    by p q x xs (filter_within p q implies xs) (p x) (q x) refl refl (implies x) where
+filter-within p q implies [] = refl
+filter-within {X} p q implies (x ∷ xs) =
+    by p q x xs (filter-within p q implies xs) (p x) (q x) refl refl (implies x) where
       by : (p q : X → Bool) (x : X) (xs : List X) → filter q (filter p xs) ≡ filter q xs
           → (b c : Bool) → p x ≡ b → q x ≡ c → (q x ≡ true → p x ≡ true)
           → filter q (cond b (x ∷ filter p xs) (filter p xs))
@@ -31,10 +31,10 @@ filter_within {X} p q implies (x ∷ xs) =
       by p q x xs rest false true at_p at_q h = absurd (let e = h at_q in cc)
       by p q x xs rest false false at_p at_q h = rest
 
-pub filter_swap : {X : Type 0} (p q : X → Bool) (xs : List X)
+pub filter-swap : {X : Type 0} (p q : X → Bool) (xs : List X)
     → filter q (filter p xs) ≡ filter p (filter q xs)
-filter_swap p q [] = refl
-filter_swap {X} p q (x ∷ xs) = by p q x xs (filter_swap p q xs) (p x) (q x) refl refl where
+filter-swap p q [] = refl
+filter-swap {X} p q (x ∷ xs) = by p q x xs (filter-swap p q xs) (p x) (q x) refl refl where
   by : (p q : X → Bool) (x : X) (xs : List X) → filter q (filter p xs) ≡ filter p (filter q xs)
       → (b c : Bool) → p x ≡ b → q x ≡ c
       → filter q (cond b (x ∷ filter p xs) (filter p xs))
@@ -77,10 +77,10 @@ versions_of-own (p ∷ lines) x =
           (filter (λ e. not (same_instance p.instance e)) (versions_of lines)))
       by p lines x rest true own =
           ap (λ es. p.instance ∷ es) (ap (filter (λ e. not (same_instance p.instance e))) rest
-          ∙ filter_swap (λ e. same_id e.id x) (λ e. not (same_instance p.instance e))
+          ∙ filter-swap (λ e. same_id e.id x) (λ e. not (same_instance p.instance e))
           (versions_of lines))
       by p lines x rest false other =
-          rest ∙ sym (filter_within (λ e. not (same_instance p.instance e)) (λ e. same_id e.id x)
+          rest ∙ sym (filter-within (λ e. not (same_instance p.instance e)) (λ e. same_id e.id x)
           (λ e. not_same p.instance e x other) (versions_of lines))
 
 -- no two versions are the same
@@ -97,9 +97,9 @@ versions_differ (p ∷ lines) =
     (versions_differ lines))
 
 -- a version has one number
-pub one_number : (lines : List Placed) (i j : ℕ) (e : Instance)
+pub versions_of-number_is_unique : (lines : List Placed) (i j : ℕ) (e : Instance)
     → slice_get (versions_of lines) i ≡ Some e → slice_get (versions_of lines) j ≡ Some e → i ≡ j
-one_number lines i j e at_i at_j =
+versions_of-number_is_unique lines i j e at_i at_j =
     let same = (instances_decide e e).1 refl in
     elim (cases_lt i j) [
       | inl less ↦
@@ -118,15 +118,15 @@ one_number lines i j e at_i at_j =
 -- ---- places
 
 -- the rows of a version have the places of its lines
-pub places_by_number : (lines : List Placed) (v : ℕ) (e : Instance)
+pub places_of-by_number : (lines : List Placed) (v : ℕ) (e : Instance)
     → slice_get (versions_of lines) v ≡ Some e → (rows : List NotedLine) (some : List Placed)
     → AllZip (IsRowOf (versions_of lines)) rows some
     → map (λ r. r.place) (filter (λ r. r.version == v) rows) ≡ places_of some e
-places_by_number lines v e at [] [] rel = refl
-places_by_number lines v e at [] (p ∷ some) rel = absurd rel
-places_by_number lines v e at (row ∷ rows) [] rel = absurd rel
-places_by_number lines v e at (row ∷ rows) (p ∷ some) rel =
-    by lines v e at row rows p some rel.0 (places_by_number lines v e at rows some rel.1)
+places_of-by_number lines v e at [] [] rel = refl
+places_of-by_number lines v e at [] (p ∷ some) rel = absurd rel
+places_of-by_number lines v e at (row ∷ rows) [] rel = absurd rel
+places_of-by_number lines v e at (row ∷ rows) (p ∷ some) rel =
+    by lines v e at row rows p some rel.0 (places_of-by_number lines v e at rows some rel.1)
     (row.version == v) (same_instance e p.instance) refl refl where
       by : (lines : List Placed) (v : ℕ) (e : Instance) → slice_get (versions_of lines) v ≡ Some e
           → (row : NotedLine) (rows : List NotedLine) (p : Placed) (some : List Placed)
@@ -149,7 +149,8 @@ places_by_number lines v e at (row ∷ rows) (p ∷ some) rel =
           absurd (cc)
       by lines v e at row rows p some rel rest false true number same =
           let equal = same_by_test e p.instance same in
-          let n = one_number lines row.version v e (rel.version ∙ ap Some (sym equal)) at in
+          let n = versions_of-number_is_unique lines row.version v e
+          (rel.version ∙ ap Some (sym equal)) at in
           let yes = eq-eqb row.version v n in
           absurd (cc)
 
@@ -157,6 +158,6 @@ places_by_number lines v e at (row ∷ rows) (p ∷ some) rel =
 pub places_of-own : (lines : List Placed) (x : Id) (e : Instance) → same_id e.id x ≡ true
     → places_of (lines_of_id lines x) e ≡ places_of lines e
 places_of-own lines x e own =
-    ap (map (λ p. p.place)) (filter_within (λ p. same_id p.instance.id x)
+    ap (map (λ p. p.place)) (filter-within (λ p. same_id p.instance.id x)
     (λ p. same_instance e p.instance)
     (λ p same. ap (λ d. same_id d.id x) (sym (same_by_test e p.instance same)) ∙ own) lines)

@@ -39,24 +39,24 @@ no_float-written x d names groups members group numbers written same grouped =
     ap has_float (written ∙ differs-parts x names members groups places same
     (grouped ∙ sym (map-map group_data group numbers))) ∙ no_float-differs x members places
 
-pub no_names : (names : List Data) (members : List (List ℕ)) → names ≡ map string members
+pub map-from_nil : (names : List Data) (members : List (List ℕ)) → names ≡ map string members
     → names ≡ [] → members ≡ []
-no_names names [] same none = refl
-no_names names (m ∷ members) same none = absurd (cc)
+map-from_nil names [] same none = refl
+map-from_nil names (m ∷ members) same none = absurd (cc)
 
 -- nothing is appended where no member differs
-pub no_difference : (lines : List Placed) (x : Id) (text : List ℕ)
+pub difference_text-if_none : (lines : List Placed) (x : Id) (text : List ℕ)
     → differing_members (lines_of_id lines x) ≡ [] → text ≡ text ++ difference_text lines x
-no_difference lines x text none =
+difference_text-if_none lines x text none =
     sym (ap (λ ms. text ++ difference_in ms x (lines_of_id lines x)) none ∙ append-nil text)
 
 -- the line where some member differs
-pub a_difference : (lines : List Placed) (x : Id) (members : List (List ℕ)) (d : Data)
+pub difference_text-if_some : (lines : List Placed) (x : Id) (members : List (List ℕ)) (d : Data)
     (names : List Data) → differing_members (lines_of_id lines x) ≡ members
     → names ≡ map string members → ¬ (names ≡ [])
     → d ≡ array_of (differs_data x members (groups_of (lines_of_id lines x)))
     → compact_text d ++ line_feed ∷ [] ≡ difference_text lines x
-a_difference lines x [] d names are same some written = absurd (some same)
-a_difference lines x (m ∷ members) d names are same some written =
+difference_text-if_some lines x [] d names are same some written = absurd (some same)
+difference_text-if_some lines x (m ∷ members) d names are same some written =
     ap (λ e. compact_text e ++ line_feed ∷ []) written
     ∙ sym (ap (λ ms. difference_in ms x (lines_of_id lines x)) are)

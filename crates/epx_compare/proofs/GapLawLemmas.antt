@@ -329,14 +329,14 @@ module _ (has : Id → Bool) where
       (widen x (y ∷ ids) (above_all x (y ∷ ids) rising) first.0 first.1 lack rest'
       (sym parts.0 ∙ sym first.3) least)
 
-  pub gaps_are : (ids : List Id) → IsRising ids → AreGaps has ids (gaps_of has ids)
-  gaps_are [] rising = record {
+  pub AreGaps-gaps_of : (ids : List Id) → IsRising ids → AreGaps has ids (gaps_of has ids)
+  AreGaps-gaps_of [] rising = record {
     lacked = λ x h. absurd (Contains-nil x h);
     ends = λ g h. absurd (Contains-nil g h);
     apart = λ i j d l k. absurd (omega arith);
   }
-  gaps_are (x ∷ ids) rising =
-      let rest = gaps_are ids rising.1 in
+  AreGaps-gaps_of (x ∷ ids) rising =
+      let rest = AreGaps-gaps_of ids rising.1 in
       let above = above_all x ids rising in
       elim (gaps_cases x ids) [
         | inl c ↦ subst (AreGaps has (x ∷ ids)) (sym c.1)

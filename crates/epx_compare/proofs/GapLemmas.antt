@@ -32,7 +32,7 @@ module _ (has : Id → Bool) (ids : List Id) (n : ℕ) (d : Id) (within : n < le
       } ∷ gaps_of has (drop (n + 1) ids)))) h
 
   -- an Id that is lacked begins a gap, or the gap of the next one begins with it
-  pub gaps_lacked : has (get_or ids n d) ≡ false → gaps_of has (drop n ids)
+  pub gaps_of-lacked : has (get_or ids n d) ≡ false → gaps_of has (drop n ids)
       ≡ if goes_on has (get_or ids n d).replica (drop (n + 1) ids)
       then widened (get_or ids n d).number (gaps_of has (drop (n + 1) ids)) else
       (record {
@@ -40,18 +40,19 @@ module _ (has : Id → Bool) (ids : List Id) (n : ℕ) (d : Id) (within : n < le
         from = (get_or ids n d).number;
         to = (get_or ids n d).number;
       } ∷ gaps_of has (drop (n + 1) ids))
-  gaps_lacked h = by_test false h
+  gaps_of-lacked h = by_test false h
 
   -- one that is not lacked is in no gap
-  pub gaps_had : has (get_or ids n d) ≡ true → gaps_of has (drop n ids)
+  pub gaps_of-had : has (get_or ids n d) ≡ true → gaps_of has (drop n ids)
       ≡ gaps_of has (drop (n + 1) ids)
-  gaps_had h = by_test true h
+  gaps_of-had h = by_test true h
 
-  pub goes_on_here : (replica : ℕ) → goes_on has replica (drop n ids)
+  pub goes_on-drop : (replica : ℕ) → goes_on has replica (drop n ids)
       ≡ ((get_or ids n d).replica == replica && not (has (get_or ids n d)))
-  goes_on_here replica = ap (goes_on has replica) from_here
+  goes_on-drop replica = ap (goes_on has replica) from_here
 
   -- the mark of an Id
-  pub marked_here : (log : ℕ) (marks : List LogSet) → IsMarking has log ids marks
+  pub is_log_marked-here : (log : ℕ) (marks : List LogSet) → IsMarking has log ids marks
       → has (get_or ids n d) ≡ is_log_marked log marks n
-  marked_here log marks marking = marking n (get_or ids n d) (slice_get-get_or ids n d within)
+  is_log_marked-here log marks marking =
+      marking n (get_or ids n d) (slice_get-get_or ids n d within)

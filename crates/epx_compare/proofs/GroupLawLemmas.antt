@@ -9,8 +9,8 @@ use Rattle.epx_types.specs.declared.id.Id.{Id}
 use Rattle.epx_types.specs.declared.place.Place.{Place}
 use Rattle.epx_compare.specs.Differences.{groups_of, places_of}
 use Rattle.epx_compare.specs.GroupLaws.{AreGroups, DependentsHaveLines}
-use Rattle.epx_compare.proofs.DependencyLemmas.{line_of_version, version_of_line}
-use Rattle.epx_compare.proofs.DifferenceLemmas.{one_number}
+use Rattle.epx_compare.proofs.DependencyLemmas.{Contains-from_versions_of, Contains-versions_of}
+use Rattle.epx_compare.proofs.DifferenceLemmas.{versions_of-number_is_unique}
 use Rattle.epx_compare.proofs.MemberLemmas.{list_any-found, list_any-from}
 use Rattle.epx_versions.specs.LineVersions.{versions_of}
 use Rattle.epx_versions.specs.SameInstances.{same_id, same_instance}
@@ -43,11 +43,12 @@ module _ (lines : List Placed) (distinct : HaveDistinctPlaces lines) where
       let one = distinct q.0 p q.1 among q.2 in
       q.3 ∙ ap (λ (r : Placed). r.instance) one
 
-  pub groups_are : AreGroups lines (groups_of lines)
-  groups_are = record {
+  pub AreGroups-groups_of : AreGroups lines (groups_of lines)
+  AreGroups-groups_of = record {
     whole = λ p h. (
       places_of lines p.instance,
-      Contains-map (places_of lines) (versions_of lines) p.instance (version_of_line lines p h),
+      Contains-map (places_of lines) (versions_of lines) p.instance
+          (Contains-versions_of lines p h),
       in_places p h,
     );
     apart = AllPairs-from_slice_get (λ g h. (x : Place) → Contains g x → ¬ Contains h x)
@@ -59,7 +60,7 @@ module _ (lines : List Placed) (distinct : HaveDistinctPlaces lines) where
         (subst (Contains (places_of lines f.0)) (sym p.2)
         (subst (λ (ps : List Place). Contains ps x) (sym f.2) in_h)) in
         let same : e.0 ≡ f.0 = p.3 ∙ sym other in
-        let number = one_number lines i j f.0
+        let number = versions_of-number_is_unique lines i j f.0
         (subst (λ (d : Instance). slice_get (versions_of lines) i ≡ Some d) same e.1) f.1 in
         omega (arith, number, l));
     only = λ group h x among.
@@ -68,7 +69,7 @@ module _ (lines : List Placed) (distinct : HaveDistinctPlaces lines) where
         (p.0, p.1, p.2);
     some = λ group h.
         let e = Contains-from_map (places_of lines) (versions_of lines) group h in
-        let p = line_of_version lines e.0 e.1 in
+        let p = Contains-from_versions_of lines e.0 e.1 in
         let here = subst (λ (d : Instance). Contains (places_of lines d) p.0.place) p.2
         (in_places p.0 p.1) in
         (p.0.place, subst (λ (ps : List Place). Contains ps p.0.place) e.2 here);
@@ -89,8 +90,8 @@ both_hold true true e = (refl, refl)
 both_hold true false e = absurd (cc e)
 both_hold false b e = absurd (cc e)
 
-pub dependents_have_lines : DependentsHaveLines
-dependents_have_lines lines x y = (there, back) where
+pub DependentsHaveLines-holds : DependentsHaveLines
+DependentsHaveLines-holds lines x y = (there, back) where
   there : list_any (λ p. same_id p.instance.id y && list_any (λ d. same_id d x) p.instance.deps)
       lines ≡ true
       → (p : Placed) × Contains lines p × (p.instance.id ≡ y) × Contains p.instance.deps x

@@ -11,16 +11,16 @@ module _ {X : Type 0} (log_of : X → ℕ) (xs : List X) (i : ℕ) (d : X) (with
     (counted : (l : ℕ) → l < logs
     → get_or counts l 0 ≡ count_by (λ x. log_of x == l) (take i xs)) where
   -- no count is greater than the number of items
-  pub count_small : (l : ℕ) → l < logs → get_or counts l 0 ≤ i
-  count_small l inside =
+  pub get_or-count_small : (l : ℕ) → l < logs → get_or counts l 0 ≤ i
+  get_or-count_small l inside =
       let few = count_by-le-length (λ x. log_of x == l) (take i xs) in
       omega (arith, counted l inside, length-take-le i xs (omega arith))
 
   -- the count of the item's log is one more
-  pub count_more : (log : ℕ) → log_of (get_or xs i d) ≡ log → log < length counts → (l : ℕ)
+  pub get_or-count_more : (log : ℕ) → log_of (get_or xs i d) ≡ log → log < length counts → (l : ℕ)
       → l < logs → get_or (set counts log (get_or counts log 0 + 1)) l 0
       ≡ count_by (λ x. log_of x == l) (take (i + 1) xs)
-  count_more log own room l inside =
+  get_or-count_more log own room l inside =
       elim (cases_Bool (log == l)) [
         | inl same ↦
             let is : log ≡ l = eqb-true log l same in
@@ -38,8 +38,8 @@ module _ {X : Type 0} (log_of : X → ℕ) (xs : List X) (i : ℕ) (d : X) (with
       ]
 
   -- an item of another log changes no count
-  pub count_same : logs ≤ log_of (get_or xs i d) → (l : ℕ) → l < logs
+  pub get_or-count_same : logs ≤ log_of (get_or xs i d) → (l : ℕ) → l < logs
       → get_or counts l 0 ≡ count_by (λ x. log_of x == l) (take (i + 1) xs)
-  count_same past l inside = counted l inside
+  get_or-count_same past l inside = counted l inside
       ∙ sym (count_by_more_no (λ x. log_of x == l) xs i d within
       (ne_eqb (log_of (get_or xs i d)) l (λ e. omega arith)))

@@ -9,7 +9,7 @@ use Rattle.epx_versions.specs.declared.noted.NotedBadLine.{NotedBadLine}
 use Rattle.epx_versions.specs.declared.noted.NotedLine.{NotedLine}
 use Rattle.epx_compare.specs.Comparisons.{for_logs}
 use Rattle.epx_compare.specs.LogCounts.{lines_in, bad_lines_in}
-use Rattle.epx_versions.specs.NotedRows.{IsRowOf, bad_line_at}
+use Rattle.epx_versions.specs.between.NotedRows.{IsRowOf, bad_line_at}
 
 snoc : (first count next : ℕ) (text : ℕ → List ℕ) → next ≡ first + count
     → for_logs first (suc count) text ≡ for_logs first count text ++ text next
@@ -46,10 +46,11 @@ length-rows_of_log versions log (row ∷ rows) (p ∷ lines) rel =
     (ap (λ (at : Place). at.log == log) rel.0.place)
     (length-rows_of_log versions log rows lines rel.1)
 
-pub rows_count : (versions : List Instance) (log : ℕ) (rows : List NotedLine) (lines : List Placed)
+pub count_by-rows : (versions : List Instance) (log : ℕ) (rows : List NotedLine)
+    (lines : List Placed)
     → AllZip (IsRowOf versions) rows lines
     → count_by (λ r. r.place.log == log) rows ≡ lines_in lines log
-rows_count versions log rows lines rel = sym (length-filter (λ r. r.place.log == log) rows)
+count_by-rows versions log rows lines rel = sym (length-filter (λ r. r.place.log == log) rows)
     ∙ length-rows_of_log versions log rows lines rel
 
 -- of the noted bad lines, so many are of a log as `bad_lines_in` says
@@ -59,7 +60,7 @@ bad_filtered log [] = refl
 bad_filtered log (b ∷ noted) = same_length (b.place.log == log) (b.place.log == log) b
     (bad_line_at b) _ _ refl (bad_filtered log noted)
 
-pub bad_count : (log : ℕ) (noted : List NotedBadLine)
+pub count_by-bad_lines : (log : ℕ) (noted : List NotedBadLine)
     → count_by (λ b. b.place.log == log) noted ≡ bad_lines_in (map bad_line_at noted) log
-bad_count log noted =
+count_by-bad_lines log noted =
     sym (length-filter (λ b. b.place.log == log) noted) ∙ bad_filtered log noted

@@ -3,7 +3,7 @@ use Rattle.std.proofs.Common.{◌≡◌, ◌∙◌, ◌==◌, ◌&&◌, ◌||◌
 use Rattle.std.proofs.Common.{slice_get, slice_index, refl, sym, ap, arith}
 use Rattle.std.proofs.lemmas.Bool.Decides.{Decides-eqb}
 use Rattle.epx_types.proofs.Common.{list_any, AllZip, Decides, IsRising, Instance}
-use Rattle.epx_types.proofs.Common.{Placed, rising_position_is_unique}
+use Rattle.epx_types.proofs.Common.{Placed, slice_get-rising_is_unique}
 use Rattle.epx_types.specs.declared.id.Id.{Id}
 use Rattle.epx_types.specs.declared.place.Place.{Place}
 use Rattle.std.specs.Bool.{one_answer}
@@ -12,22 +12,22 @@ use Rattle.epx_compare.specs.Gaps.{has_line}
 use Rattle.epx_versions.specs.SameInstances.{same_id}
 use Rattle.epx_versions.specs.inner.EqualVersions.{ids_decide}
 use Rattle.epx_compare.specs.inner.LogMarks.{is_line_in}
-use Rattle.epx_versions.specs.NotedRows.{IsRowOf}
+use Rattle.epx_versions.specs.between.NotedRows.{IsRowOf}
 
 -- the position of a version, and the Id there
-pub position_at : (ids : List Id) (versions : List Instance) (positions : List ℕ)
+pub slice_get-position : (ids : List Id) (versions : List Instance) (positions : List ℕ)
     → map (slice_get ids) positions ≡ map Some (map (λ e. e.id) versions)
     → (v : ℕ) (e : Instance) → slice_get versions v ≡ Some e
     → slice_get ids (slice_index positions v) ≡ Some e.id
-position_at ids [] positions same v e at = absurd (cc at)
-position_at ids (d ∷ versions) [] same v e at = absurd (cc same)
-position_at ids (d ∷ versions) (k ∷ positions) same zero e at =
+slice_get-position ids [] positions same v e at = absurd (cc at)
+slice_get-position ids (d ∷ versions) [] same v e at = absurd (cc same)
+slice_get-position ids (d ∷ versions) (k ∷ positions) same zero e at =
     let here : slice_get ids k ≡ Some d.id = cc same in
     let own : d ≡ e = cc at in
     here ∙ ap (λ (i : Instance). Some i.id) own
-position_at ids (d ∷ versions) (k ∷ positions) same (suc v) e at =
+slice_get-position ids (d ∷ versions) (k ∷ positions) same (suc v) e at =
     let rest : map (slice_get ids) positions ≡ map Some (map (λ i. i.id) versions) = cc same in
-    position_at ids versions positions rest v e at
+    slice_get-position ids versions positions rest v e at
 
 module _ (ids : List Id) (rising : IsRising ids) where
   module _ (versions : List Instance) (positions : List ℕ)
@@ -37,12 +37,12 @@ module _ (ids : List Id) (rising : IsRising ids) where
     position_decides : (v : ℕ) (e : Instance) → slice_get versions v ≡ Some e
         → Decides (slice_index positions v == k) (e.id ≡ x)
     position_decides v e found =
-        let own = position_at ids versions positions same v e found in (
+        let own = slice_get-position ids versions positions same v e found in (
           λ h. let there : slice_index positions v ≡ k = (Decides-eqb _ _).0 h in
               let both : Some e.id ≡ Some x =
               sym own ∙ (ap (slice_get ids) there ∙ at) in cc both,
           λ e_is. (Decides-eqb _ _).1
-              (rising_position_is_unique ids rising (slice_index positions v) k x
+              (slice_get-rising_is_unique ids rising (slice_index positions v) k x
               (own ∙ ap Some e_is)
               at),
         )
@@ -58,13 +58,13 @@ module _ (ids : List Id) (rising : IsRising ids) where
         λ i. first i && second i
 
     -- a row of the log and the instance is there exactly if a line is
-    pub marks_lines : (rows : List NotedLine) (lines : List Placed)
+    pub has_line-by_rows : (rows : List NotedLine) (lines : List Placed)
         → AllZip (IsRowOf versions) rows lines
         → has_line lines log x ≡ list_any (is_line_in positions log k) rows
-    marks_lines [] [] rel = refl
-    marks_lines [] (p ∷ lines) rel = absurd rel
-    marks_lines (row ∷ rows) [] rel = absurd rel
-    marks_lines (row ∷ rows) (p ∷ lines) rel =
+    has_line-by_rows [] [] rel = refl
+    has_line-by_rows [] (p ∷ lines) rel = absurd rel
+    has_line-by_rows (row ∷ rows) [] rel = absurd rel
+    has_line-by_rows (row ∷ rows) (p ∷ lines) rel =
         let here = row_test row p rel.0 in
-        let rest = marks_lines rows lines rel.1 in
+        let rest = has_line-by_rows rows lines rel.1 in
         λ i. sym here i || rest i

@@ -34,8 +34,8 @@ module _ {A : Type 0} (same : Instance → Instance → Bool) (part : Instance �
       let here = list_any-from (differs p) lines q second (not_same p q other _ refl) in
       list_any-from (λ (p : Placed). list_any (differs p) lines) lines p first here
 
-pub members_are_of_the_different : MembersAreOfTheDifferent
-members_are_of_the_different = record {
+pub MembersAreOfTheDifferent-holds : MembersAreOfTheDifferent
+MembersAreOfTheDifferent-holds = record {
   seq = λ lines. (
     two_differ same_seq (λ e. e.seq) seqs_decide lines,
     some_differs same_seq (λ e. e.seq) seqs_decide lines,

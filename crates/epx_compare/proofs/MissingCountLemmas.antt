@@ -6,7 +6,7 @@ use Rattle.std.proofs.Common.{is_eq}
 use Rattle.epx_types.proofs.Common.{IsEquivalence, list_any, cases_Bool, count_by_more_no}
 use Rattle.epx_types.proofs.Common.{count_by_more_yes, slice_get_within, get_or_from_slice_get}
 use Rattle.epx_types.proofs.Common.{Below, IsRising, id_cmp, AllPairs-head, Contains-slice_get}
-use Rattle.epx_types.proofs.Common.{AllPairs-from_IsRising, ids_decide as eq_decides}
+use Rattle.epx_types.proofs.Common.{AllPairs-from_IsRising, id_eq-Decides}
 use Rattle.epx_types.specs.declared.id.Id.{Id}
 use Rattle.std.specs.Cmp.{decided}
 use Rattle.std.proofs.lemmas.List.Folds.{list_any_more}
@@ -14,10 +14,10 @@ use Rattle.epx_types.specs.contracts.id.IdPartialEq.TheImpl as id_eq
 use Rattle.epx_versions.specs.SameInstances.{same_id}
 use Rattle.epx_versions.specs.inner.EqualVersions.{ids_decide}
 use Rattle.epx_compare.specs.inner.MissingCounts.{stored, AreCounts, with_one, is_missing}
-use Rattle.epx_compare.proofs.DependencyLemmas.{from_listed, listed}
+use Rattle.epx_compare.proofs.DependencyLemmas.{list_any-same_id, Contains-from_same_id}
 
-pub eq_laws : IsEquivalence id_eq.eq-value.it
-eq_laws = decided id_eq.eq-value.it eq_decides
+pub IsEquivalence-id_eq : IsEquivalence id_eq.eq-value.it
+IsEquivalence-id_eq = decided id_eq.eq-value.it id_eq-Decides
 
 -- entries with the counts of f are those of g too, if f and g count each Id alike
 pub AreCounts-agree : (f g : Id → ℕ) (es : List (Id × ℕ)) → ((x : Id) → f x ≡ g x) → AreCounts f es
@@ -25,15 +25,15 @@ pub AreCounts-agree : (f g : Id → ℕ) (es : List (Id × ℕ)) → ((x : Id) �
 AreCounts-agree f g es same counts x = counts x ∙ ap stored (same x)
 
 -- one more instance
-pub one_more : (p : Id → Bool) (ids : List Id) (k : ℕ) (y : Id) (b : Bool)
+pub count_by-take_more : (p : Id → Bool) (ids : List Id) (k : ℕ) (y : Id) (b : Bool)
     → slice_get ids k ≡ Some y → b ≡ p y
     → (if b then count_by p (take k ids) + 1 else count_by p (take k ids))
     ≡ count_by p (take (k + 1) ids)
-one_more p ids k y true here same =
+count_by-take_more p ids k y true here same =
     let within = slice_get_within ids k y here in
     let test = ap p (get_or_from_slice_get ids k y y here) ∙ sym same in
     sym (count_by_more_yes p ids k y within test)
-one_more p ids k y false here same =
+count_by-take_more p ids k y false here same =
     let within = slice_get_within ids k y here in
     let test = ap p (get_or_from_slice_get ids k y y here) ∙ sym same in
     sym (count_by_more_no p ids k y within test)
@@ -83,21 +83,21 @@ module _ (ids deps : List Id) (i : ℕ) (d : Id) (here : slice_get deps i ≡ So
       (get_or_from_slice_get deps i d d here)
 
   -- a committed one changes no count
-  pub committed_next : Contains ids d → (counted : Id → ℕ) (x : Id)
+  pub with_one-committed : Contains ids d → (counted : Id → ℕ) (x : Id)
       → with_one (is_missing ids (take i deps)) counted x
       ≡ with_one (is_missing ids (take (i + 1) deps)) counted x
-  committed_next among counted x =
+  with_one-committed among counted x =
       ap (λ b. if b then counted x + 1 else counted x)
       (skip_test (list_any (same_id x) ids) (list_any (λ e. same_id e x) (take i deps))
-      (same_id d x) (λ same. from_listed x ids
+      (same_id d x) (λ same. list_any-same_id x ids
       (subst (Contains ids) ((ids_decide d x).0 same) among))
       ∙ ap (λ b. not (list_any (same_id x) ids) && b) (sym (with_next x)))
 
   -- one that is not committed is counted once more
-  pub missing_next : IsRising deps → ¬ Contains ids d → (counted : Id → ℕ) (x : Id)
+  pub with_one-missing : IsRising deps → ¬ Contains ids d → (counted : Id → ℕ) (x : Id)
       → with_one (same_id d) (with_one (is_missing ids (take i deps)) counted) x
       ≡ with_one (is_missing ids (take (i + 1) deps)) counted x
-  missing_next rising missing counted x =
+  with_one-missing rising missing counted x =
       count_test (list_any (same_id x) ids) (list_any (λ e. same_id e x) (take i deps))
       (same_id d x) (counted x) (λ same. not_listed x (λ h. missing
       (subst (Contains ids) (sym ((ids_decide d x).0 same)) h)))
@@ -108,14 +108,15 @@ module _ (ids deps : List Id) (i : ℕ) (d : Id) (here : slice_get deps i ≡ So
     where
       not_listed : (y : Id) → ¬ Contains ids y → list_any (same_id y) ids ≡ false
       not_listed y none = elim (cases_Bool (list_any (same_id y) ids)) [
-        | inl has ↦ absurd (none (listed y ids has))
+        | inl has ↦ absurd (none (Contains-from_same_id y ids has))
         | inr not_has ↦ not_has
       ]
 
   -- it is not counted yet
-  pub not_counted : IsRising deps → (counted : Id → ℕ)
+  pub with_one-not_counted : IsRising deps → (counted : Id → ℕ)
       → with_one (is_missing ids (take i deps)) counted d ≡ counted d
-  not_counted rising counted = ap (λ b. if not (list_any (same_id d) ids) && b then counted d + 1
+  with_one-not_counted rising counted =
+      ap (λ b. if not (list_any (same_id d) ids) && b then counted d + 1
       else counted d) (not_before deps rising i d here)
       ∙ none_added (list_any (same_id d) ids)
     where

@@ -5,10 +5,10 @@ use Rattle.std.proofs.Common.{Some, refl, sym, ap, subst, arith, true≢false, i
 use Rattle.std.specs.Cmp.{first_so, second_so}
 use Rattle.epx_types.proofs.Common.{list_any, IsDistinct, IsSorted, keys_of, cases_Bool, sorted_far}
 use Rattle.epx_types.proofs.Common.{ranks_by, sum_by-cons, AllPairs-from_IsDistinct, Below}
-use Rattle.epx_types.proofs.Common.{IsRising, id_cmp, Instance, Placed, id_cmp_total}
+use Rattle.epx_types.proofs.Common.{IsRising, id_cmp, Instance, Placed, id_cmp-IsTotalOrder}
 use Rattle.epx_types.proofs.Common.{id_cmp-IsAntisymmetric, Contains-head, Contains-cons}
 use Rattle.epx_types.proofs.Common.{Contains-map, Contains-from_map, IsRising-from_neighbours}
-use Rattle.epx_types.proofs.Common.{below_cases, ids_decide as eq_decides}
+use Rattle.epx_types.proofs.Common.{is_lt-cases, id_eq-Decides}
 use Rattle.epx_types.specs.declared.id.Id.{Id}
 use Rattle.std.proofs.lemmas.Bool.{not-true}
 use Rattle.std.proofs.lemmas.List.Concat.{flat_map-cons}
@@ -26,9 +26,12 @@ use Rattle.epx_compare.specs.MissingDeps.{depends_on, dependents_of, AreMissingD
 use Rattle.epx_compare.specs.inner.Catalogs.{IsCatalogOf}
 use Rattle.epx_versions.specs.inner.EqualVersions.{ids_decide}
 use Rattle.epx_compare.specs.inner.MissingCounts.{stored, AreCounts, missing_count}
-use Rattle.epx_compare.proofs.DependencyLemmas.{passing, from_passing, member, from_member}
-use Rattle.epx_compare.proofs.DependencyLemmas.{from_listed, listed, both_so, version_of_line}
-use Rattle.epx_compare.proofs.MissingCountLemmas.{eq_laws}
+use Rattle.epx_compare.proofs.DependencyLemmas.{Contains-from_list_any, list_any-if_one_passes}
+use Rattle.epx_compare.proofs.DependencyLemmas.{Contains-from_same_id_flipped}
+use Rattle.epx_compare.proofs.DependencyLemmas.{list_any-same_id_flipped}
+use Rattle.epx_compare.proofs.DependencyLemmas.{list_any-same_id, Contains-from_same_id}
+use Rattle.epx_compare.proofs.DependencyLemmas.{and-from_both, Contains-versions_of}
+use Rattle.epx_compare.proofs.MissingCountLemmas.{IsEquivalence-id_eq}
 
 -- ---- counts that are not zero
 
@@ -75,17 +78,18 @@ not_below : (xs : List Id) → IsSorted id_cmp xs → (i j : ℕ) (d : Id) → i
     → ¬ Below (get_or xs j d) (get_or xs i d)
 not_below xs sorted i j d l within below =
     true≢false (sym below ∙ sorted_far (λ x y. is_lt (id_cmp x y))
-    (ranks_by id_cmp_total (λ (x : Id). x)) xs sorted i j d (omega arith) within)
+    (ranks_by id_cmp-IsTotalOrder (λ (x : Id). x)) xs sorted i j d (omega arith) within)
 
 -- sorted keys rise if no two are equal
 rising_keys : (xs : List Id) → IsSorted id_cmp xs → IsDistinct id_eq.eq-value.it xs
     → IsRising xs
 rising_keys xs sorted distinct =
     IsRising-from_neighbours xs (λ k d within.
-    elim (below_cases id_cmp_total id_cmp-IsAntisymmetric (get_or xs k d) (get_or xs (k + 1) d)) [
+    elim (is_lt-cases id_cmp-IsTotalOrder id_cmp-IsAntisymmetric (get_or xs k d)
+    (get_or xs (k + 1) d)) [
       | inl below ↦ below
       | inr (inl same) ↦ absurd
-          (AllPairs-from_IsDistinct {eq = id_eq.eq-value.it} eq_decides xs distinct k (k + 1) d
+          (AllPairs-from_IsDistinct {eq = id_eq.eq-value.it} id_eq-Decides xs distinct k (k + 1) d
           (omega arith) within same)
       | inr (inr above) ↦ absurd (not_below xs sorted k (k + 1) d (omega arith) within above)
     ])
@@ -110,12 +114,13 @@ module _ (lines : List Placed) (bad : List BadLineAt) (c : Catalog)
   entry_count : (x : Id) (n : ℕ) → Contains es (x, n)
       → (missing_count lines c.ids c.ids x ≡ n) × (0 < missing_count lines c.ids c.ids x)
   entry_count x n h = stored_some (missing_count lines c.ids c.ids x) n
-      (sym (counts x) ∙ lookup-from_Contains {eq = id_eq.eq-value.it} eq_laws x n es distinct h)
+      (sym (counts x)
+      ∙ lookup-from_Contains {eq = id_eq.eq-value.it} IsEquivalence-id_eq x n es distinct h)
 
   -- an instance that needs the Id of an entry
   dependent : (x : Id) (n : ℕ) → Contains es (x, n)
       → (y : Id) × Contains c.ids y × (needs x y ≡ true)
-  dependent x n h = passing (needs x) c.ids
+  dependent x n h = Contains-from_list_any (needs x) c.ids
       (counted_some (needs x) c.ids (entry_count x n h).1)
 
   not_committed : (x : Id) (n : ℕ) → Contains es (x, n)
@@ -130,12 +135,12 @@ module _ (lines : List Placed) (bad : List BadLineAt) (c : Catalog)
       let found = dependent x n h in
       let test = second_so (not (list_any (same_id x) c.ids)) (depends_on lines x found.0)
       found.2 in
-      let line = passing (λ p. same_id p.instance.id found.0
+      let line = Contains-from_list_any (λ p. same_id p.instance.id found.0
       && list_any (λ d. same_id d x) p.instance.deps) lines test in
       let dep = second_so (same_id line.0.instance.id found.0)
       (list_any (λ d. same_id d x) line.0.instance.deps) line.2 in (
-        (line.0, line.1, member x line.0.instance.deps dep),
-        λ among. true≢false (sym (from_listed x c.ids among) ∙ not_committed x n h),
+        (line.0, line.1, Contains-from_same_id_flipped x line.0.instance.deps dep),
+        λ among. true≢false (sym (list_any-same_id x c.ids among) ∙ not_committed x n h),
       )
 
   missing_entry : (x : Id) (p : Placed) → Contains lines p → Contains p.instance.deps x
@@ -144,26 +149,29 @@ module _ (lines : List Placed) (bad : List BadLineAt) (c : Catalog)
       let y = p.instance.id in
       let among : Contains c.ids y = (catalogs.named y).1
       (Contains-map (λ (e : Instance). e.id) (versions_of lines) p.instance
-      (version_of_line lines p line)) in
-      let depends : depends_on lines x y ≡ true = from_passing (λ q. same_id q.instance.id y
+      (Contains-versions_of lines p line)) in
+      let depends : depends_on lines x y ≡ true =
+      list_any-if_one_passes (λ q. same_id q.instance.id y
       && list_any (λ d. same_id d x) q.instance.deps) lines p line
-      (both_so (same_id y y) (list_any (λ d. same_id d x) p.instance.deps)
-      ((ids_decide y y).1 refl) (from_member x p.instance.deps dep)) in
+      (and-from_both (same_id y y) (list_any (λ d. same_id d x) p.instance.deps)
+      ((ids_decide y y).1 refl) (list_any-same_id_flipped x p.instance.deps dep)) in
       let missing : list_any (same_id x) c.ids ≡ false =
       elim (cases_Bool (list_any (same_id x) c.ids)) [
-        | inl has ↦ absurd (none (listed x c.ids has))
+        | inl has ↦ absurd (none (Contains-from_same_id x c.ids has))
         | inr not_has ↦ not_has
       ] in
-      let test : needs x y ≡ true = both_so (not (list_any (same_id x) c.ids))
+      let test : needs x y ≡ true = and-from_both (not (list_any (same_id x) c.ids))
       (depends_on lines x y) (ap not missing) depends in
       let n = missing_count lines c.ids c.ids x in
-      let some = some_counted (needs x) c.ids (from_passing (needs x) c.ids y among test) in
+      let some =
+      some_counted (needs x) c.ids (list_any-if_one_passes (needs x) c.ids y among test) in
       let entry : Contains es (x, n) = Contains-from_lookup {eq = id_eq.eq-value.it}
-      (λ v w t. (eq_decides v w).0 t) x n es (counts x ∙ some_stored n some) in
+      (λ v w t. (id_eq-Decides v w).0 t) x n es (counts x ∙ some_stored n some) in
       Contains-map (λ (e : Id × ℕ). e.0) es (x, n) entry
 
-  pub entries_missing : IsSorted id_cmp (keys_of es) → AreMissingDeps lines c.ids (keys_of es)
-  entries_missing sorted = record {
+  pub AreMissingDeps-entries : IsSorted id_cmp (keys_of es)
+      → AreMissingDeps lines c.ids (keys_of es)
+  AreMissingDeps-entries sorted = record {
     rising = rising_keys (keys_of es) sorted distinct;
     each = λ x. (
       λ h. let found = Contains-from_map (λ (e : Id × ℕ). e.0) es x h in
@@ -181,9 +189,9 @@ module _ (lines : List Placed) (bad : List BadLineAt) (c : Catalog)
       ∙ ap (λ b. count_by (λ y. not b && depends_on lines e.0 y) c.ids)
       (not_committed e.0 e.1 h))
 
-  pub entries_text : flat_map (λ e. line_of (missing_count_data e.0 e.1)) es
+  pub flat_map-missing_counts : flat_map (λ e. line_of (missing_count_data e.0 e.1)) es
       ≡ missing_counts_text lines c.ids (keys_of es)
-  entries_text =
+  flat_map-missing_counts =
       let line : Id → List ℕ = λ x. line_of (missing_count_data x (dependents_of lines c.ids x)) in
       flat_map-agree (λ e. line_of (missing_count_data e.0 e.1)) (λ e. line e.0) es entry_line
       ∙ sym (flat_map-map line (λ (e : Id × ℕ). e.0) es)

@@ -11,9 +11,9 @@ use Rattle.epx_types.specs.declared.fault.Fault.TheVariants.{BadBase, Memory, Wr
 use Rattle.epx_types.specs.declared.id.Id.{Id}
 use Rattle.serde_json.specs.Data.{Data}
 use Rattle.serde_json.specs.Written.{compact_text}
-use Rattle.epx_committed.proofs.InstanceCountLemmas.{not_few_and_many}
+use Rattle.epx_committed.proofs.InstanceCountLemmas.{ManyInstances-not_few}
 use Rattle.epx_committed.specs.InstanceCounts.{AreNamedBy, FewInstances}
-use Rattle.epx_merge.proofs.ExistenceLemmas.{answered_always}
+use Rattle.epx_merge.proofs.ExistenceLemmas.{IsAccepted-or_refused}
 use Rattle.epx_merge.specs.Acceptance.{IsAccepted}
 use Rattle.epx_merge.specs.LogLines.{BadLineAt, placed_of, bad_lines_of}
 use Rattle.epx_merge.specs.Refusals.{FitLimits, IsRefusal}
@@ -30,48 +30,50 @@ use Rattle.epx_versions.specs.inner.EqualVersions.{commands_decide}
 
 -- ---- texts that are empty
 
-pub left_nil : {X : Type 0} (xs ys : List X) → xs ++ ys ≡ [] → xs ≡ []
-left_nil [] ys none = refl
-left_nil (x ∷ xs) ys none = absurd (cc none)
+pub append-left_nil : {X : Type 0} (xs ys : List X) → xs ++ ys ≡ [] → xs ≡ []
+append-left_nil [] ys none = refl
+append-left_nil (x ∷ xs) ys none = absurd (cc none)
 
-pub right_nil : {X : Type 0} (xs ys : List X) → xs ++ ys ≡ [] → ys ≡ []
-right_nil [] ys none = none
-right_nil (x ∷ xs) ys none = absurd (cc none)
+pub append-right_nil : {X : Type 0} (xs ys : List X) → xs ++ ys ≡ [] → ys ≡ []
+append-right_nil [] ys none = none
+append-right_nil (x ∷ xs) ys none = absurd (cc none)
 
-pub both_nil : {X : Type 0} (xs ys : List X) → xs ≡ [] → ys ≡ [] → xs ++ ys ≡ []
-both_nil xs ys first rest = λ i. first i ++ rest i
+pub append-both_nil : {X : Type 0} (xs ys : List X) → xs ≡ [] → ys ≡ [] → xs ++ ys ≡ []
+append-both_nil xs ys first rest = λ i. first i ++ rest i
 
 each_nil : {X Y : Type 0} (f : X → List Y) (xs : List X) → flat_map f xs ≡ [] → (x : X)
     → Contains xs x → f x ≡ []
 each_nil f [] none x among = absurd (omega (arith, among.1))
 each_nil f (y ∷ xs) none x among =
     elim (Contains-cons_cases y xs x among) [
-      | inl same ↦ subst (λ z. f z ≡ []) same (left_nil (f y) (flat_map f xs) none)
-      | inr later ↦ each_nil f xs (right_nil (f y) (flat_map f xs) none) x later
+      | inl same ↦ subst (λ z. f z ≡ []) same (append-left_nil (f y) (flat_map f xs) none)
+      | inr later ↦ each_nil f xs (append-right_nil (f y) (flat_map f xs) none) x later
     ]
 
 all_nil : {X Y : Type 0} (f : X → List Y) (xs : List X)
     → ((x : X) → Contains xs x → f x ≡ []) → flat_map f xs ≡ []
 all_nil f [] none = refl
 all_nil f (x ∷ xs) none =
-    both_nil (f x) (flat_map f xs) (none x (Contains-head x xs))
+    append-both_nil (f x) (flat_map f xs) (none x (Contains-head x xs))
     (all_nil f xs (λ y among. none y (Contains-cons x xs y among)))
 
 -- a line ends with a line feed
-pub line_not_nil : (ds : List Data) → ¬ (line_of ds ≡ [])
-line_not_nil ds none =
-    let rest = right_nil (compact_text (array_of ds)) (line_feed ∷ []) none in absurd (cc rest)
+pub line_of-not_nil : (ds : List Data) → ¬ (line_of ds ≡ [])
+line_of-not_nil ds none =
+    let rest =
+    append-right_nil (compact_text (array_of ds)) (line_feed ∷ []) none in absurd (cc rest)
 
 no_bad_line : (bad : List BadLineAt) → bad_text bad ≡ [] → bad ≡ []
 no_bad_line [] none = refl
 no_bad_line (b ∷ bad) none =
-    absurd (line_not_nil (bad_data b) (left_nil (line_of (bad_data b)) (bad_text bad) none))
+    absurd
+    (line_of-not_nil (bad_data b) (append-left_nil (line_of (bad_data b)) (bad_text bad) none))
 
 no_member : (members : List (List ℕ)) (x : Id) (own : List Placed)
     → difference_in members x own ≡ [] → members ≡ []
 no_member [] x own none = refl
 no_member (m ∷ members) x own none =
-    absurd (line_not_nil (differs_data x (m ∷ members) (groups_of own)) none)
+    absurd (line_of-not_nil (differs_data x (m ∷ members) (groups_of own)) none)
 
 -- ---- lines that differ in no member
 
@@ -114,12 +116,12 @@ same_instances lines none p q first second ids =
     let deps_name = named_if (some_differ same_deps lines) (codes "deps") in
     let ops_name = named_if (some_differ same_ops lines) (codes "ops") in
     let no_seq = not_named (some_differ same_seq lines) (codes "seq")
-    (left_nil seq_name (deps_name ++ ops_name) none) in
-    let rest = right_nil seq_name (deps_name ++ ops_name) none in
+    (append-left_nil seq_name (deps_name ++ ops_name) none) in
+    let rest = append-right_nil seq_name (deps_name ++ ops_name) none in
     let no_deps = not_named (some_differ same_deps lines) (codes "deps")
-    (left_nil deps_name ops_name rest) in
+    (append-left_nil deps_name ops_name rest) in
     let no_ops = not_named (some_differ same_ops lines) (codes "ops")
-    (right_nil deps_name ops_name rest) in
+    (append-right_nil deps_name ops_name rest) in
     let seqs = same_where_none_differ same_seq (λ e. e.seq) seqs_decide lines no_seq p q first
     second in
     let deps = same_where_none_differ same_deps (λ e. e.deps) deps_decide lines no_deps p q first
@@ -182,7 +184,7 @@ not_refused logs fit few clean agree (LogTooLong log) other r = let first = r.1 
 not_refused logs fit few clean agree (BadLine place why) other r = let some = r.1.1 in
     absurd (cc (sym clean ∙ some))
 not_refused logs fit few clean agree TooManyInstances other r =
-    not_few_and_many (placed_of logs) few r.1
+    ManyInstances-not_few (placed_of logs) few r.1
 not_refused logs fit few clean agree (Disagree id first second) other r = let d = r.2.2 in
     d.differ.1 (agree r.2.0 r.2.1 d.has_first d.has_second d.differ.0)
 not_refused logs fit few clean agree (Read log) other r = r
@@ -192,16 +194,16 @@ not_refused logs fit few clean agree (BadBase line) other r = r
 accepted_where_agree : (logs : List (List ℕ)) → FitLimits logs → FewInstances (placed_of logs)
     → bad_lines_of logs ≡ [] → Agree (placed_of logs) → (m : List Instance) × IsAccepted logs m
 accepted_where_agree logs fit few clean agree =
-    elim (answered_always logs) [
+    elim (IsAccepted-or_refused logs) [
       | inl accepted ↦ accepted
       | inr refused ↦ absurd
           (not_refused logs fit few clean agree refused.0 refused.1 refused.2)
     ]
 
-pub nothing_differs_iff : (logs : List (List ℕ)) (ids : List Id) → FitLimits logs
+pub SaysNothingDiffers-iff : (logs : List (List ℕ)) (ids : List Id) → FitLimits logs
     → FewInstances (placed_of logs) → AreNamedBy (placed_of logs) ids
     → SaysNothingDiffers logs ids ↔ ((m : List Instance) × IsAccepted logs m)
-nothing_differs_iff logs ids fit few named = (
+SaysNothingDiffers-iff logs ids fit few named = (
   λ says. accepted_where_agree logs fit few (no_bad_line (bad_lines_of logs) says.0)
       (agree_where_nothing_differs (placed_of logs) ids named says.1),
   λ accepted. (

@@ -125,10 +125,10 @@ module _ (logs : List (List ℕ)) (i : ℕ) (log : List ℕ) (at : slice_get log
   alone = ap placed_among (append-nil (meanings_in 0 1 (lines_of log)))
 
   -- what it commits alone it commits among all
-  pub own_to_all : (p : Placed) → Contains (placed_of (log ∷ [])) p
+  pub Contains-own_to_all : (p : Placed) → Contains (placed_of (log ∷ [])) p
       → (q : Placed) × Contains (placed_of logs) q × (q.place.log ≡ i)
       × (q.instance ≡ p.instance)
-  own_to_all p h =
+  Contains-own_to_all p h =
       let own = subst (λ (ps : List Placed). Contains ps p) alone h in
       let q = placed_in 0 i 1 (lines_of log) p own in
       let e : i ≡ 0 + i = omega arith in (
@@ -140,9 +140,9 @@ module _ (logs : List (List ℕ)) (i : ℕ) (log : List ℕ) (at : slice_get log
       )
 
   -- and the other way round
-  pub all_to_own : (q : Placed) → Contains (placed_of logs) q → q.place.log ≡ i
+  pub Contains-all_to_own : (q : Placed) → Contains (placed_of logs) q → q.place.log ≡ i
       → (p : Placed) × Contains (placed_of (log ∷ [])) p × (p.instance ≡ q.instance)
-  all_to_own q h numbered =
+  Contains-all_to_own q h numbered =
       let found = placed_log 0 logs q h in
       let e : found.0 ≡ i = omega (arith, numbered, found.2.1) in
       let here = found.2.0 in

@@ -77,20 +77,20 @@ module _ {X : Type 0} (at : ℕ → Option X) (test : X → Bool) (n : ℕ) wher
   by_test x xs here rest false ps fails h = rest ps (without_first ps x here fails h)
 
 -- the elements at these positions are those that pass, in order
-pub at_passing : {X : Type 0} (at : ℕ → Option X) (test : X → Bool) (xs : List X) (n : ℕ)
+pub map-passing : {X : Type 0} (at : ℕ → Option X) (test : X → Bool) (xs : List X) (n : ℕ)
     (ps : List ℕ) → ((i : ℕ) → at (n + i) ≡ slice_get xs i) → ArePassing at test n ps
     → map at ps ≡ map Some (filter test xs)
-at_passing at test [] n [] same h = refl
-at_passing at test [] n (p ∷ ps) same h =
+map-passing at test [] n [] same h = refl
+map-passing at test [] n (p ∷ ps) same h =
     let found = h.only p (Contains-head p ps) in
     let upto : n ≤ p = found.0 in
     let index : p ≡ n + (p - n) = omega arith in
     let none : at p ≡ None = ap at index ∙ same (p - n) in
     absurd (cc (none, found.1.1))
-at_passing at test (x ∷ xs) n ps same h =
+map-passing at test (x ∷ xs) n ps same h =
     let start : n ≡ n + 0 = omega arith in
     let here : at n ≡ Some x = ap at start ∙ same 0 in
     let later = λ (i : ℕ). let e : suc n + i ≡ n + suc i = omega arith in
     ap at e ∙ same (suc i) in
-    by_test at test n x xs here (λ qs k. at_passing at test xs (suc n) qs later k)
+    by_test at test n x xs here (λ qs k. map-passing at test xs (suc n) qs later k)
     (test x) ps refl h

@@ -1,7 +1,7 @@
 //! The lines of the bad lines.
 ghost use Rattle.std.specs.Prelude.{◌≡◌, ◌++◌, map, OnOk};
 ghost use Rattle.epx_compare.specs.Comparisons.{bad_text};
-ghost use Rattle.epx_versions.specs.NotedRows.{bad_line_at};
+ghost use Rattle.epx_versions.specs.between.NotedRows.{bad_line_at};
 
 use crate::comparison_lines::append_bad;
 use epx_types::Memory;

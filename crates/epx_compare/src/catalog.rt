@@ -3,7 +3,7 @@ ghost use Rattle.std.specs.Prelude.{◌≡◌, List, map, IfOk};
 ghost use Rattle.epx_types.specs.PlacedLines.{Placed};
 ghost use Rattle.epx_merge.specs.LogLines.{BadLineAt};
 ghost use Rattle.epx_compare.specs.inner.Catalogs.{IsCatalogOf};
-ghost use Rattle.epx_versions.specs.NotedRows.{AreNoted};
+ghost use Rattle.epx_versions.specs.between.NotedRows.{AreNoted};
 
 use crate::committed_ids::{CommittedIds, version_ids};
 use epx_rows::Rows;

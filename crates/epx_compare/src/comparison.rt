@@ -4,7 +4,7 @@ ghost use Rattle.std.specs.Prelude.{IfOk, OnOk, MatchResult, Ok, Err};
 ghost use Rattle.epx_types.specs.PlacedLines.{Placed};
 ghost use Rattle.epx_types.specs.Limits.{max_logs};
 ghost use Rattle.epx_merge.specs.LogLines.{BadLineAt, bytes_of};
-ghost use Rattle.epx_merge.specs.SourceReadings.{EndsMaking};
+ghost use Rattle.epx_merge.specs.between.SourceReadings.{EndsMaking};
 ghost use Rattle.epx_compare.specs.ComparisonAnswers.{Compares, IsComparisonResult};
 ghost use Rattle.epx_compare.specs.Comparisons.{HasFindings, findings_text};
 ghost use Rattle.epx_compare.specs.inner.Catalogs.{IsCatalogOf, IsCatalogComparison};

@@ -1,31 +1,19 @@
 //! Writes the lines of a comparison: JSON (RFC 8259) in compact form, each ended by a line feed.
-ghost use Rattle.std.specs.Prelude.{◌≡◌, ◌++◌, ◌∷◌, [], false, map, IfOk, OnOk};
+ghost use Rattle.std.specs.Prelude.{◌≡◌, ◌++◌, ◌∷◌, false, map, IfOk, OnOk};
 ghost use Rattle.serde_json.specs.Data.{string};
 ghost use Rattle.serde_json.specs.View.{view};
-ghost use Rattle.serde_json.specs.Written.{has_float, compact_text};
-ghost use Rattle.epx_report.specs.ReportLines.{array_of, data_of_number, line_feed, line_of};
+ghost use Rattle.serde_json.specs.Written.{has_float};
+ghost use Rattle.epx_report.specs.ReportLines.{array_of, data_of_number, line_of};
 ghost use Rattle.epx_compare.specs.ComparisonLines.{log_data, bad_data, lacks_data};
 ghost use Rattle.epx_compare.specs.ComparisonLines.{missing_count_data};
-ghost use Rattle.epx_versions.specs.NotedRows.{bad_line_at};
+ghost use Rattle.epx_versions.specs.between.NotedRows.{bad_line_at};
 
 use crate::gaps::Gap;
+use epx_report::append_line;
 use epx_types::{Id, Memory};
 use epx_versions::NotedBadLine;
 use serde_json::{Value, json};
 use std::alloc::{AllocError, Global};
-
-const LINE_FEED: u8 = 10;
-
-/// Appends the line of a value.
-pub(crate) fn append_line(alloc: Global, text: &mut Vec<u8>, value: &Value) -> Result<(), Memory>
-    requires { has_float (view value.now) ≡ false }
-    ensures { OnOk result (text.new.items
-        ≡ text.old.items ++ (compact_text (view value.now) ++ line_feed ∷ [])) }
-{
-    text.extend_from_slice(&value.to_vec(alloc)?)?;
-    text.push(LINE_FEED)?;
-    Ok(())
-}
 
 /// The array of a name and numbers.
 fn numbers_value(alloc: Global, name: &str, numbers: &[u64]) -> Result<Value, AllocError>

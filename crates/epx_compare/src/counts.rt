@@ -4,7 +4,7 @@ ghost use Rattle.std.specs.Prelude.{IfOk, OnOk};
 ghost use Rattle.epx_types.specs.PlacedLines.{Placed};
 ghost use Rattle.epx_merge.specs.LogLines.{BadLineAt};
 ghost use Rattle.epx_compare.specs.Comparisons.{counts_text};
-ghost use Rattle.epx_versions.specs.NotedRows.{AreNoted};
+ghost use Rattle.epx_versions.specs.between.NotedRows.{AreNoted};
 
 use crate::comparison_lines::append_log;
 use epx_types::Memory;

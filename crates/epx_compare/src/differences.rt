@@ -7,7 +7,7 @@ ghost use Rattle.epx_types.specs.declared.id.Id.{Id};
 ghost use Rattle.epx_types.specs.PlacedLines.{Placed};
 ghost use Rattle.epx_merge.specs.LogLines.{BadLineAt};
 ghost use Rattle.epx_report.specs.ReportLines.{array_of, data_of_number};
-ghost use Rattle.epx_rows.specs.Rows.{row_of};
+ghost use Rattle.epx_rows.specs.between.Rows.{row_of};
 ghost use Rattle.epx_compare.specs.ComparisonLines.{place_data, group_data};
 ghost use Rattle.epx_compare.specs.Comparisons.{difference_text};
 ghost use Rattle.epx_compare.specs.Differences.{named_if};
@@ -15,8 +15,8 @@ ghost use Rattle.epx_compare.specs.inner.Catalogs.{IsCatalogOf};
 ghost use Rattle.epx_compare.specs.inner.NumberedVersions.{place_at, names_of};
 
 use crate::catalog::Catalog;
-use crate::comparison_lines::append_line;
 use crate::members::Members;
+use epx_report::append_line;
 use epx_rows::Rows;
 use epx_types::{Id, Memory, Place};
 use epx_versions::NotedLine;

@@ -18,12 +18,12 @@ Closes-by s c (Open p) y un open' closed = open' p refl
 Closes-by s c (Closed d) y un open' closed = closed d refl
 
 -- the nodes of a group are closed, and no others
-pub closes_group : (visits new : List Visit) (opened : List ℕ) (s c : ℕ) → IsRow visits opened
+pub Closes-group : (visits new : List Visit) (opened : List ℕ) (s c : ℕ) → IsRow visits opened
     → ((i : ℕ) → i < length (drop s opened) → visit_of new (get_or (drop s opened) i 0) ≡ Closed c)
     → ((k : ℕ) → ((i : ℕ) → i < length (drop s opened) → get_or (drop s opened) i 0 ≢ k)
     → visit_of new k ≡ visit_of visits k) → (k : ℕ)
     → Closes s c (visit_of visits k) (visit_of new k)
-closes_group visits new opened s c r closed others k =
+Closes-group visits new opened s c r closed others k =
     let is_open_at : (i : ℕ) → i < length (drop s opened)
     → visit_of visits (get_or (drop s opened) i 0) ≡ Open (s + i) = λ i l.
     rw (get_or-drop s opened i 0) (r.is_open_at (s + i) (omega (arith, length-drop s opened))) in
@@ -51,50 +51,52 @@ closes_group visits new opened s c r closed others k =
     (λ d e. kept (λ q _ f. let wrong : Closed d ≡ Open q = sym e ∙ f in cc) ∙ e)
 
 -- the state of a node before
-pub was_unseen : (s c : ℕ) (x y : Visit) → Closes s c x y → y ≡ Unseen → x ≡ Unseen
-was_unseen s c Unseen y h e = refl
-was_unseen s c (Open p) y h e =
+pub Closes-was_unseen : (s c : ℕ) (x y : Visit) → Closes s c x y → y ≡ Unseen → x ≡ Unseen
+Closes-was_unseen s c Unseen y h e = refl
+Closes-was_unseen s c (Open p) y h e =
     ⊎_elim (λ (f : (p < s) × (y ≡ Open p)). let wrong : Open p ≡ Unseen = sym f.1 ∙ e in cc)
     (λ (f : (s ≤ p) × (y ≡ Closed c)). let wrong : Closed c ≡ Unseen = sym f.1 ∙ e in cc) h
-was_unseen s c (Closed d) y h e = sym h ∙ e
+Closes-was_unseen s c (Closed d) y h e = sym h ∙ e
 
-pub was_open : (s c : ℕ) (x y : Visit) (p : ℕ) → Closes s c x y → y ≡ Open p
+pub Closes-was_open : (s c : ℕ) (x y : Visit) (p : ℕ) → Closes s c x y → y ≡ Open p
     → (x ≡ Open p) × (p < s)
-was_open s c Unseen y p h e = let wrong : Unseen ≡ Open p = sym h ∙ e in absurd (cc)
-was_open s c (Open q) y p h e = ⊎_elim
+Closes-was_open s c Unseen y p h e = let wrong : Unseen ≡ Open p = sym h ∙ e in absurd (cc)
+Closes-was_open s c (Open q) y p h e = ⊎_elim
     (λ (f : (q < s) × (y ≡ Open q)). let same : Open q ≡ Open p = sym f.1 ∙ e in
     let at : q ≡ p = cc in (same, omega arith))
     (λ (f : (s ≤ q) × (y ≡ Closed c)). let wrong : Closed c ≡ Open p = sym f.1 ∙ e in absurd (cc))
     h
-was_open s c (Closed d) y p h e = let wrong : Closed d ≡ Open p = sym h ∙ e in absurd (cc)
+Closes-was_open s c (Closed d) y p h e = let wrong : Closed d ≡ Open p = sym h ∙ e in absurd (cc)
 
 abbrev pub WasOpen : ℕ → ℕ → Visit → ℕ → Type 0
 WasOpen s c x d = (p : ℕ) × (x ≡ Open p) × (s ≤ p) × (d ≡ c)
 
-pub was_closed : (s c : ℕ) (x y : Visit) (d : ℕ) → Closes s c x y → y ≡ Closed d
+pub Closes-was_closed : (s c : ℕ) (x y : Visit) (d : ℕ) → Closes s c x y → y ≡ Closed d
     → (x ≡ Closed d) ⊎ WasOpen s c x d
-was_closed s c Unseen y d h e = let wrong : Unseen ≡ Closed d = sym h ∙ e in absurd (cc)
-was_closed s c (Open q) y d h e = ⊎_elim
+Closes-was_closed s c Unseen y d h e = let wrong : Unseen ≡ Closed d = sym h ∙ e in absurd (cc)
+Closes-was_closed s c (Open q) y d h e = ⊎_elim
     (λ (f : (q < s) × (y ≡ Open q)). let wrong : Open q ≡ Closed d = sym f.1 ∙ e in absurd (cc))
     (λ (f : (s ≤ q) × (y ≡ Closed c)). let same : Closed c ≡ Closed d = sym f.1 ∙ e in
     let at : c ≡ d = cc in inr (q, refl, f.0, sym at))
     h
-was_closed s c (Closed b) y d h e = inl (sym h ∙ e)
+Closes-was_closed s c (Closed b) y d h e = inl (sym h ∙ e)
 
 -- the state of a node after
-pub stays_open : (s c : ℕ) (x y : Visit) (p : ℕ) → Closes s c x y → x ≡ Open p → p < s → y ≡ Open p
-stays_open s c x y p h e l = let f = rw e at h in
+pub Closes-stays_open : (s c : ℕ) (x y : Visit) (p : ℕ) → Closes s c x y → x ≡ Open p → p < s
+    → y ≡ Open p
+Closes-stays_open s c x y p h e l = let f = rw e at h in
     ⊎_elim (λ (g : (p < s) × (y ≡ Open p)). g.1)
     (λ (g : (s ≤ p) × (y ≡ Closed c)). absurd (omega arith)) f
 
-pub is_closed : (s c : ℕ) (x y : Visit) (p : ℕ) → Closes s c x y → x ≡ Open p → s ≤ p
+pub Closes-is_closed : (s c : ℕ) (x y : Visit) (p : ℕ) → Closes s c x y → x ≡ Open p → s ≤ p
     → y ≡ Closed c
-is_closed s c x y p h e l = let f = rw e at h in
+Closes-is_closed s c x y p h e l = let f = rw e at h in
     ⊎_elim (λ (g : (p < s) × (y ≡ Open p)). absurd (omega arith))
     (λ (g : (s ≤ p) × (y ≡ Closed c)). g.1) f
 
-pub stays_closed : (s c : ℕ) (x y : Visit) (d : ℕ) → Closes s c x y → x ≡ Closed d → y ≡ Closed d
-stays_closed s c x y d h e = rw e at h
+pub Closes-stays_closed : (s c : ℕ) (x y : Visit) (d : ℕ) → Closes s c x y → x ≡ Closed d
+    → y ≡ Closed d
+Closes-stays_closed s c x y d h e = rw e at h
 
 -- an edge after the last group is closed: n is the last group, which starts at s
 pub MayLead-close : (starts : List ℕ) (n s c : ℕ) (x y x' y' : Visit) → n < length starts

@@ -4,23 +4,25 @@ use Rattle.std.proofs.Common.{length, get_or, replicate, refl, sym, subst, ◌�
 use Rattle.epx_types.proofs.Common.{cases_eq, cases_lt, get_or_default, get_or_past}
 use Rattle.epx_types.proofs.Common.{get_or-replicate, length-replicate, Contains-get_or}
 use Rattle.epx_graph.proofs.Common.{IsNodePath, NodeReaches}
-use Rattle.epx_components.specs.Collections.{LeadsOut, LeadsDown, AreCollected}
-use Rattle.epx_components.specs.Partitions.{ComponentParts, IsPartition, component_of, node_at}
-use Rattle.epx_components.proofs.NodePathLemmas.{reach_falls, reaches_edge, reaches_itself}
-use Rattle.epx_components.proofs.NodePathLemmas.{reaches_on}
-use Rattle.epx_components.proofs.PartitionLemmas.{node_below}
+use Rattle.epx_components.specs.between.Collections.{LeadsOut, LeadsDown, AreCollected}
+use Rattle.epx_components.specs.between.Partitions.{ComponentParts, IsPartition, component_of}
+use Rattle.epx_components.specs.between.Partitions.{node_at}
+use Rattle.epx_components.proofs.NodePathLemmas.{NodeReaches-falls, NodeReaches-edge}
+use Rattle.epx_components.proofs.NodePathLemmas.{NodeReaches-itself}
+use Rattle.epx_components.proofs.NodePathLemmas.{NodeReaches-trans}
+use Rattle.epx_components.proofs.PartitionLemmas.{node_at-within}
 
 -- one thing more
-pub or_more : (F A A' D D' X : Type 0) → A ↔ (F ⊎ D) → D' ↔ (D ⊎ X) → A' ↔ (A ⊎ X)
+pub iff-or_more : (F A A' D D' X : Type 0) → A ↔ (F ⊎ D) → D' ↔ (D ⊎ X) → A' ↔ (A ⊎ X)
     → A' ↔ (F ⊎ D')
-or_more F A A' D D' X old more new = grind arith
+iff-or_more F A A' D D' X old more new = grind arith
 
 -- after one more target
-pub leads_out_more : (component : List ℕ) (own : ℕ) (targets : List ℕ) (n : ℕ) (P : ℕ → Type 0)
+pub LeadsOut-next : (component : List ℕ) (own : ℕ) (targets : List ℕ) (n : ℕ) (P : ℕ → Type 0)
     → LeadsOut component own targets (n + 1) P ↔ (LeadsOut component own targets n P
     ⊎ ((get_or component (get_or targets n 0) 0 ≢ own)
     × P (get_or component (get_or targets n 0) 0)))
-leads_out_more component own targets n P = (
+LeadsOut-next component own targets n P = (
   λ (i, l, ne, holds). elim (cases_lt i n) [
     | inl past ↦ inl (i, past, ne, holds)
     | inr here ↦
@@ -35,9 +37,9 @@ leads_out_more component own targets n P = (
   ],
 )
 
-pub none_at_first : (first : List ℕ) (n t c : ℕ) → first ≡ replicate n 0
+pub get_or-replicate_zero : (first : List ℕ) (n t c : ℕ) → first ≡ replicate n 0
     → ¬ (t < get_or first c 0)
-none_at_first first n t c zeros h = elim (cases_lt c n) [
+get_or-replicate_zero first n t c zeros h = elim (cases_lt c n) [
   | inl within ↦ omega (
     arith,
     h,
@@ -97,15 +99,15 @@ module _ (edges : ℕ → List ℕ) (p : ComponentParts) (is : IsPartition edges
       ],
     )
 
-    pub collected_more : (H : A → Type 0) (First : ℕ → Type 0)
+    pub AreCollected-next : (H : A → Type 0) (First : ℕ → Type 0)
         → H (new (component_of p (node_at p n)))
         ↔ (H (old (component_of p (node_at p n)))
         ⊎ LeadsOut p.component (component_of p (node_at p n)) (edges (node_at p n))
         (length (edges (node_at p n))) (λ c. G c (old c)))
         → AreCollected edges p n First (λ c. G c (old c)) (λ c. H (old c))
         → AreCollected edges p (n + 1) First (λ c. G c (new c)) (λ c. H (new c))
-    collected_more H First now was c =
-        or_more _ _ _ _ _ _ (was c) (leads_down_more c)
+    AreCollected-next H First now was c =
+        iff-or_more _ _ _ _ _ _ (was c) (leads_down_more c)
         (elim (cases_eq (component_of p (node_at p n)) c) [
           | inl here ↦ subst (λ c. H (new c) ↔ (H (old c) ⊎ Added c)) here (
             λ h. elim (now.0 h) [ inl before ↦ inl before | inr out ↦ inr (refl, out) ],
@@ -134,22 +136,23 @@ module _ (edges : ℕ → List ℕ) (p : ComponentParts) (is : IsPartition edges
         → Has (component_of p k) → (j : ℕ) × NodeReaches edges k j × Source k j
     has_source zero k lm l h = absurd (omega (arith, lm))
     has_source (suc m) k lm l h = elim ((all (component_of p k)).0 h) [
-      | inl first ↦ (k, reaches_itself edges k k refl, inl first)
+      | inl first ↦ (k, NodeReaches-itself edges k k refl, inl first)
       | inr (q, lq, at, (i, li, ne, g)) ↦
           let b = node_at p q in
           let j = get_or (edges b) i 0 in
           let edge : Contains (edges b) j = Contains-get_or (edges b) i 0 li in
-          let to = reaches_on edges k b j (is.joined k b l (node_below edges p is q lq) (sym at))
-          (reaches_edge edges b j edge) in
+          let to = NodeReaches-trans edges k b j
+          (is.joined k b l (node_at-within edges p is q lq) (sym at))
+          (NodeReaches-edge edges b j edge) in
           let down = is.falls b j edge in
           elim ((gives (component_of p j)).0 g) [
             | inl fact ↦ (j, to, inr (fact, ne))
             | inr has ↦
                 let (t, there, source) = has_source m j (omega (arith, lm, at, down, ne))
                 (is.within b j edge) has in
-                let further = reach_falls edges p.component is.falls j t there in (
+                let further = NodeReaches-falls edges p.component is.falls j t there in (
                   t,
-                  reaches_on edges k j t to there,
+                  NodeReaches-trans edges k j t to there,
                   elim source [
                     | inl first ↦ inl first
                     | inr (fact, other) ↦
@@ -195,20 +198,20 @@ module _ (edges : ℕ → List ℕ) (p : ComponentParts) (is : IsPartition edges
               ))
         ]
 
-    pub collects_from_reached : (k : ℕ) → k < length p.component
+    pub AreCollected-from_reached : (k : ℕ) → k < length p.component
         → Has (component_of p k) ↔ ((j : ℕ) × NodeReaches edges k j × Source k j)
-    collects_from_reached k l = (
+    AreCollected-from_reached k l = (
       has_source (component_of p k + 1) k (omega arith) l,
       λ (j, there, source). source_found k j there.0 l there.1 source,
     )
 
   -- If a component gives what it has, then a component has what it or a component that it reaches
   -- had at first.
-  pub collects_same : (First Has : ℕ → Type 0)
+  pub AreCollected-same : (First Has : ℕ → Type 0)
       → AreCollected edges p (length p.order) First Has Has → (k : ℕ) → k < length p.component
       → Has (component_of p k) ↔ ((j : ℕ) × NodeReaches edges k j × First (component_of p j))
-  collects_same First Has all k l =
-      let both = collects_from_reached First (λ _. ⊥) Has Has all
+  AreCollected-same First Has all k l =
+      let both = AreCollected-from_reached First (λ _. ⊥) Has Has all
       (λ c. (inr, λ h. elim h [ inl never ↦ absurd never | inr has ↦ has ])) k l in (
         λ h.
             let (j, there, source) = both.0 h in
@@ -218,18 +221,19 @@ module _ (edges : ℕ → List ℕ) (p : ComponentParts) (is : IsPartition edges
 
   -- If a component gives a fact and what it has, and no component had anything at first, then a
   -- component has the facts of the other components that it reaches.
-  pub collects_from_others : (first : List ℕ) (n t : ℕ) (Fact Gives Has : ℕ → Type 0)
+  pub AreCollected-from_others : (first : List ℕ) (n t : ℕ) (Fact Gives Has : ℕ → Type 0)
       → first ≡ replicate n 0
       → AreCollected edges p (length p.order) (λ c. t < get_or first c 0) Gives Has
       → ((c : ℕ) → Gives c ↔ (Fact c ⊎ Has c)) → (k : ℕ) → k < length p.component
       → Has (component_of p k) ↔ ((j : ℕ) × NodeReaches edges k j × Fact (component_of p j)
       × (component_of p j ≢ component_of p k))
-  collects_from_others first n t Fact Gives Has zeros all gives k l =
-      let both = collects_from_reached (λ c. t < get_or first c 0) Fact Gives Has all gives k l in (
+  AreCollected-from_others first n t Fact Gives Has zeros all gives k l =
+      let both =
+      AreCollected-from_reached (λ c. t < get_or first c 0) Fact Gives Has all gives k l in (
         λ h.
             let (j, there, source) = both.0 h in
             elim source [
-              | inl never ↦ absurd (none_at_first first n t _ zeros never)
+              | inl never ↦ absurd (get_or-replicate_zero first n t _ zeros never)
               | inr (fact, other) ↦ (j, there, fact, other)
             ],
         λ (j, there, fact, other). both.1 (j, there, inr (fact, other)),

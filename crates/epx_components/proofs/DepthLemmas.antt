@@ -3,12 +3,13 @@ use Rattle.std.proofs.Common.{◌≡◌, ◌≢◌, ◌↔◌, inl, inr, ℕ, ze
 use Rattle.std.proofs.Common.{List, [], ◌∷◌, length, get_or, replicate, refl, ap, arith}
 use Rattle.epx_types.proofs.Common.{cases_lt, get_or_past, Contains-get_or}
 use Rattle.epx_graph.proofs.Common.{NodeReaches}
-use Rattle.epx_components.specs.Collections.{AreCollected}
-use Rattle.epx_components.specs.NodeDepths.{NodeDescends, IsNodeDepth}
-use Rattle.epx_components.specs.Partitions.{ComponentParts, IsPartition, component_of, node_at}
-use Rattle.epx_components.specs.Partitions.{number_for}
-use Rattle.epx_components.proofs.CollectionLemmas.{collects_from_others, none_at_first}
-use Rattle.epx_components.proofs.NodePathLemmas.{reach_below, reach_falls}
+use Rattle.epx_components.specs.between.Collections.{AreCollected}
+use Rattle.epx_components.specs.between.NodeDepths.{NodeDescends, IsNodeDepth}
+use Rattle.epx_components.specs.between.Partitions.{ComponentParts, IsPartition, component_of}
+use Rattle.epx_components.specs.between.Partitions.{node_at}
+use Rattle.epx_components.specs.between.Partitions.{number_for}
+use Rattle.epx_components.proofs.CollectionLemmas.{AreCollected-from_others, get_or-replicate_zero}
+use Rattle.epx_components.proofs.NodePathLemmas.{NodeReaches-within, NodeReaches-falls}
 
 module _ (edges : ℕ → List ℕ) (p : ComponentParts) (is : IsPartition edges p) (depths : List ℕ)
     (len : length depths ≡ p.count) (fits : p.count < 2 ^ 64) (first : List ℕ)
@@ -20,7 +21,7 @@ module _ (edges : ℕ → List ℕ) (p : ComponentParts) (is : IsPartition edges
   low zero c l = absurd (omega (arith, l))
   low (suc m) c l = elim (cases_lt c (get_or depths c 0)) [
     | inl deep ↦ elim ((all c c).0 deep) [
-      | inl some ↦ absurd (none_at_first first p.count c c zeros some)
+      | inl some ↦ absurd (get_or-replicate_zero first p.count c c zeros some)
       | inr (q, lq, at, (i, li, ne, more)) ↦
           let b = node_at p q in
           let down = is.falls b _ (Contains-get_or (edges b) i 0 li) in
@@ -46,7 +47,7 @@ module _ (edges : ℕ → List ℕ) (p : ComponentParts) (is : IsPartition edges
   deeper : (t k : ℕ) → k < length p.component → (t < number_for p depths k)
       ↔ ((j : ℕ) × NodeReaches edges k j × (t ≤ number_for p depths j)
       × (component_of p j ≢ component_of p k))
-  deeper t = collects_from_others edges p is first p.count t (λ c. t ≤ get_or depths c 0)
+  deeper t = AreCollected-from_others edges p is first p.count t (λ c. t ≤ get_or depths c 0)
       (λ c. t < min (get_or depths c 0 + 1) (2 ^ 64 - 1))
       (λ c. t < get_or depths c 0) zeros (all t) (λ c. (
         (λ h. inl (omega (arith, h))),
@@ -62,12 +63,12 @@ module _ (edges : ℕ → List ℕ) (p : ComponentParts) (is : IsPartition edges
   descent zero k l le = ([], tt, refl)
   descent (suc d) k l le =
       let (j, there, enough, other) = (deeper d k l).0 (omega (arith, le)) in
-      let within = reach_below edges (length p.component) is.within k j l there in
+      let within = NodeReaches-within edges (length p.component) is.within k j l there in
       let (cs, rest, of) = descent d j within enough in
       let apart : ¬ NodeReaches edges j k = λ back. other (omega (
         arith,
-        reach_falls edges p.component is.falls k j there,
-        reach_falls edges p.component is.falls j k back,
+        NodeReaches-falls edges p.component is.falls k j there,
+        NodeReaches-falls edges p.component is.falls j k back,
       )) in
       (j ∷ cs, (there, apart, rest), ap suc of)
 
@@ -75,14 +76,14 @@ module _ (edges : ℕ → List ℕ) (p : ComponentParts) (is : IsPartition edges
       → length cs ≤ number_for p depths k
   descent_short k [] l h = omega arith
   descent_short k (c ∷ cs) l (there, apart, rest) =
-      let within = reach_below edges (length p.component) is.within k c l there in
+      let within = NodeReaches-within edges (length p.component) is.within k c l there in
       let other : component_of p c ≢ component_of p k = λ same.
       apart (is.joined c k within l same) in
       (deeper (length cs) k l).1 (c, there, descent_short c cs within rest, other)
 
-  pub depths_exact : (k : ℕ) → k < length p.component
+  pub IsNodeDepth-from_depths : (k : ℕ) → k < length p.component
       → IsNodeDepth edges k (number_for p depths k)
-  depths_exact k l = record {
+  IsNodeDepth-from_depths k l = record {
     descent = descent (number_for p depths k) k l (omega arith);
     longest = λ cs. descent_short k cs l;
   }

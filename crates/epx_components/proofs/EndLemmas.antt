@@ -2,8 +2,8 @@
 use Rattle.std.proofs.Common.{◌≡◌, ℕ, ◌<◌, ◌≤◌, List, length, get_or, refl, sym, ◌∙◌, ap, arith}
 use Rattle.std.proofs.Common.{Contains}
 use Rattle.epx_types.proofs.Common.{get_or_default, All-from_get_or}
-use Rattle.epx_components.proofs.VisitLemmas.{placed_below}
-use Rattle.epx_components.specs.Partitions.{IsPartition}
+use Rattle.epx_components.proofs.VisitLemmas.{visit_of-within}
+use Rattle.epx_components.specs.between.Partitions.{IsPartition}
 use Rattle.epx_components.specs.inner.SearchInvariants.{IsSearch, MayLead}
 use Rattle.epx_components.specs.inner.SearchStates.{SearchState, visit_of}
 use Rattle.epx_components.specs.declared.visit.Visit.{Visit}
@@ -17,9 +17,9 @@ closed_at edges n k s (Open p) e w none l =
     absurd (omega (arith, (w.row.placed k p e).0, w.grouped))
 closed_at edges n k s (Closed c) e w none l = (c, e)
 
-pub all_closed : (edges : ℕ → List ℕ) (n : ℕ) (s : SearchState) → IsSearch edges n n s
+pub visit_of-all_closed : (edges : ℕ → List ℕ) (n : ℕ) (s : SearchState) → IsSearch edges n n s
     → length s.starts ≡ 0 → (k : ℕ) → k < n → (c : ℕ) × (visit_of s.visits k ≡ Closed c)
-all_closed edges n s w none k l = closed_at edges n k s _ refl w none l
+visit_of-all_closed edges n s w none k l = closed_at edges n k s _ refl w none l
 
 -- a closed node is below n
 closed_below : (edges : ℕ → List ℕ) (n seen : ℕ) (s : SearchState) (k c : ℕ)
@@ -28,7 +28,7 @@ closed_below edges n seen s k c w h =
     omega (
       arith,
       w.all_visits,
-      placed_below s.visits k
+      visit_of-within s.visits k
           (λ e. let wrong : Closed c ≡ Unseen = sym h ∙ e in cc),
     )
 
@@ -38,12 +38,12 @@ MayLead-closed starts c Unseen h = absurd h
 MayLead-closed starts c (Open q) h = absurd h
 MayLead-closed starts c (Closed d) h = (d, refl, h)
 
-pub end_partition : (edges : ℕ → List ℕ) (n : ℕ) (s : SearchState) (component : List ℕ)
+pub IsPartition-at_end : (edges : ℕ → List ℕ) (n : ℕ) (s : SearchState) (component : List ℕ)
     → ((k j : ℕ) → Contains (edges k) j → k < n) → ((k j : ℕ) → Contains (edges k) j → j < n)
     → IsSearch edges n n s → length component ≡ n
     → ((k : ℕ) → k < n → visit_of s.visits k ≡ Closed (get_or component k 0))
     → IsPartition edges (record { component = component; order = s.order; count = s.count })
-end_partition edges n s component from to w len is =
+IsPartition-at_end edges n s component from to w len is =
     let number : (k c : ℕ) → visit_of s.visits k ≡ Closed c → get_or component k 0 ≡ c = λ k c h.
     let same : Closed (get_or component k 0) ≡ Closed c =
     sym (is k (closed_below edges n n s k c w h)) ∙ h in cc in

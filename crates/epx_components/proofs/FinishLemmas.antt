@@ -6,10 +6,13 @@ use Rattle.epx_types.proofs.Common.{get_or-take, get_or_append_left, get_or-drop
 use Rattle.epx_types.proofs.Common.{get_or_default, Contains-append_left, Contains-append_right}
 use Rattle.epx_types.proofs.Common.{cases_lt}
 use Rattle.std.proofs.lemmas.List.{get_or-append_right}
-use Rattle.epx_components.proofs.CloseLemmas.{WasOpen, was_unseen, was_open, was_closed}
-use Rattle.epx_components.proofs.CloseLemmas.{stays_open, is_closed, stays_closed, MayLead-close}
-use Rattle.epx_components.proofs.PathEndLemmas.{rising_last}
-use Rattle.epx_components.proofs.StartLemmas.{IsInGroupFrom-untake, AreRisingBelow-take, first_take}
+use Rattle.epx_components.proofs.CloseLemmas.{WasOpen, Closes-was_unseen, Closes-was_open}
+use Rattle.epx_components.proofs.CloseLemmas.{Closes-was_closed}
+use Rattle.epx_components.proofs.CloseLemmas.{Closes-stays_open, Closes-is_closed}
+use Rattle.epx_components.proofs.CloseLemmas.{Closes-stays_closed, MayLead-close}
+use Rattle.epx_components.proofs.PathEndLemmas.{AreRisingBelow-last}
+use Rattle.epx_components.proofs.StartLemmas.{IsInGroupFrom-untake, AreRisingBelow-take}
+use Rattle.epx_components.proofs.StartLemmas.{get_or-take_first}
 use Rattle.epx_components.specs.inner.SearchInvariants.{AreFinished, IsSearch}
 use Rattle.epx_components.specs.inner.SearchStates.{SearchState, visit_of}
 use Rattle.epx_components.specs.inner.SearchSteps.{Closes, IsFinished}
@@ -29,7 +32,7 @@ finish_last_group edges n seen s visits start w at in' last off =
     let all = s.order ++ group in
     let was : (k c : ℕ) → visit_of visits k ≡ Closed c
     → (visit_of s.visits k ≡ Closed c) ⊎ WasOpen start s.count (visit_of s.visits k) c =
-    λ k c e. was_closed start s.count _ _ c (at k) e in
+    λ k c e. Closes-was_closed start s.count _ _ c (at k) e in
     let counted : (k c : ℕ) → visit_of visits k ≡ Closed c
     → c < s.count + 1 = λ k c e. elim (was k c e)
     [ inl h ↦ omega (arith, w.finished.counted k c h) | inr h ↦ omega (arith, h.3) ] in
@@ -41,7 +44,7 @@ finish_last_group edges n seen s visits start w at in' last off =
       c.0,
       c.1,
       rw (get_or_append_left s.order group 0 i l)
-          (stays_closed start s.count _ _ c.0 (at _) c.1),
+          (Closes-stays_closed start s.count _ _ c.0 (at _) c.1),
     ) in
     let now : (i : ℕ) → length s.order ≤ i → i < length all
     → visit_of visits (get_or all i 0) ≡ Closed s.count = λ i le l.
@@ -49,7 +52,7 @@ finish_last_group edges n seen s visits start w at in' last off =
       get_or-append_right s.order group (length s.order) i 0 refl le,
       get_or-drop start s.opened (i - length s.order) 0,
     )
-    (is_closed start s.count _ _ _ (at _)
+    (Closes-is_closed start s.count _ _ _ (at _)
     (w.row.is_open_at (start + (i - length s.order))
     (omega (arith, length-append s.order group, length-drop start s.opened))) (omega arith)) in
     let was_open : (i : ℕ) → length s.order ≤ i → i < length all
@@ -135,7 +138,7 @@ finish_last_group edges n seen s visits start w at in' last off =
       each = λ c l. elim (cases_lt c s.count) [
         | inl less ↦
             let e = w.finished.each c less in
-            (e.0, stays_closed start s.count _ _ c (at _) e.1)
+            (e.0, Closes-stays_closed start s.count _ _ c (at _) e.1)
         | inr more ↦
             let is : s.count ≡ c = omega arith in
             let first = now (length s.order) (omega arith)
@@ -150,10 +153,10 @@ finish_last_group edges n seen s visits start w at in' last off =
       );
     }
 
-pub finish_keeps : (edges : ℕ → List ℕ) (n seen : ℕ) (s new : SearchState)
+pub IsSearch-finish : (edges : ℕ → List ℕ) (n seen : ℕ) (s new : SearchState)
     → IsSearch edges n seen s → (f : IsFinished s new)
     → ((i : ℕ) → i < length s.path → get_or s.path i 0 < f.start) → IsSearch edges n seen new
-finish_keeps edges n seen s new w f off =
+IsSearch-finish edges n seen s new w f off =
     let start = f.start in
     let last = length s.starts - 1 in
     let is_last : last < length s.starts = omega (arith, f.last) in
@@ -162,25 +165,25 @@ finish_keeps edges n seen s new w f off =
     let at : (k : ℕ) → Closes start s.count (visit_of s.visits k) (visit_of new.visits k) =
     f.closes in
     let before : (k p : ℕ) → visit_of new.visits k ≡ Open p → (visit_of s.visits k ≡ Open p)
-    × (p < start) = λ k p e. was_open start s.count _ _ p (at k) e in
+    × (p < start) = λ k p e. Closes-was_open start s.count _ _ p (at k) e in
     let low : (i : ℕ) → i < last → i < length s.starts → get_or s.starts i 0 < start =
     λ i l h. omega (arith, w.starts.rises i last l is_last, f.last) in
     let all_low : IsInLastGroup s.starts start =
-    λ i l. omega (arith, rising_last s.starts (length s.opened) w.starts i l, f.last.1) in
+    λ i l. omega (arith, AreRisingBelow-last s.starts (length s.opened) w.starts i l, f.last.1) in
     let P : SearchState → Type 0 = λ x. IsSearch edges n seen x in
     subst P (sym f.same) (record {
       all_visits = f.all_visits ∙ w.all_visits;
       looks = w.looks;
-      seen_below = λ k l e. w.seen_below k l (was_unseen start s.count _ _ (at k) e);
+      seen_below = λ k l e. w.seen_below k l (Closes-was_unseen start s.count _ _ (at k) e);
       row = record {
         is_open_at = λ p l. let l' : p < start = omega arith in
             rw (get_or-take start s.opened p 0)
-            (stays_open start s.count _ _ p (at _) (w.row.is_open_at p (omega arith)) l');
+            (Closes-stays_open start s.count _ _ p (at _) (w.row.is_open_at p (omega arith)) l');
         placed = λ k p e. let b = before k p e in
             (omega (arith, b.1), get_or-take start s.opened p 0 b.1 ∙ (w.row.placed k p b.0).1);
       };
       starts = AreRisingBelow-take s.starts last _ _ w.starts (λ i l h. omega (arith, low i l h));
-      begins = first_take s.starts last w.begins;
+      begins = get_or-take_first s.starts last w.begins;
       grouped = λ h. elim (cases_lt 0 last) [
         | inl l ↦ omega (arith, length-take last s.starts)
         | inr l ↦ let e : last ≡ 0 = omega arith in

@@ -1,8 +1,9 @@
 -- The least node of each component, from the last node down.
 use Rattle.std.proofs.Common.{◌≡◌, ℕ, ◌<◌, ◌≤◌, List, length, get_or, sym, ap, arith}
-use Rattle.epx_components.specs.NodeComponents.{IsNodeLeader}
-use Rattle.epx_components.specs.Partitions.{ComponentParts, IsPartition, component_of, number_for}
-use Rattle.epx_components.proofs.NodePathLemmas.{reach_falls, reach_below}
+use Rattle.epx_components.specs.between.NodeComponents.{IsNodeLeader}
+use Rattle.epx_components.specs.between.Partitions.{ComponentParts, IsPartition, component_of}
+use Rattle.epx_components.specs.between.Partitions.{number_for}
+use Rattle.epx_components.proofs.NodePathLemmas.{NodeReaches-falls, NodeReaches-within}
 
 -- the least of the nodes from start on in each component
 pub record AreLeadersFrom (p : ComponentParts) (leaders : List ℕ) (start : ℕ) : Type 0 where
@@ -10,11 +11,11 @@ pub record AreLeadersFrom (p : ComponentParts) (leaders : List ℕ) (start : ℕ
   pub member : (k : ℕ) → start ≤ k → k < length p.component
       → component_of p (number_for p leaders k) ≡ component_of p k
 
-pub leaders_all : (edges : ℕ → List ℕ) (p : ComponentParts) (leaders : List ℕ)
+pub IsNodeLeader-from_leaders : (edges : ℕ → List ℕ) (p : ComponentParts) (leaders : List ℕ)
     → IsPartition edges p
     → AreLeadersFrom p leaders 0 → (k : ℕ) → k < length p.component
     → IsNodeLeader edges k (number_for p leaders k)
-leaders_all edges p leaders is all k l =
+IsNodeLeader-from_leaders edges p leaders is all k l =
     let low = all.least k (omega arith) l in
     let same = all.member k (omega arith) l in
     record {
@@ -23,13 +24,13 @@ leaders_all edges p leaders is all k l =
           let e : component_of p j ≡ component_of p k =
           omega (
             arith,
-            reach_falls edges p.component is.falls k j h.0,
-            reach_falls edges p.component is.falls j k h.1,
+            NodeReaches-falls edges p.component is.falls k j h.0,
+            NodeReaches-falls edges p.component is.falls j k h.1,
           ) in
           omega (
             arith,
             all.least j (omega arith)
-                (reach_below edges (length p.component) is.within k j l h.0),
+                (NodeReaches-within edges (length p.component) is.within k j l h.0),
             ap (λ c. get_or leaders c 0) e,
           );
     }

@@ -4,25 +4,25 @@ use Rattle.std.proofs.Common.{get_or, set, take, sym, subst, ◌∙◌, ap, arit
 use Rattle.std.proofs.Common.{length-set}
 use Rattle.epx_types.proofs.Common.{get_or-take, get_or_default, get_or-set_same, get_or-set_other}
 use Rattle.epx_types.proofs.Common.{cases_eq, cases_lt}
-use Rattle.epx_components.proofs.VisitLemmas.{placed_below}
+use Rattle.epx_components.proofs.VisitLemmas.{visit_of-within}
 use Rattle.epx_components.proofs.StartLemmas.{AreRisingBelow-take}
 use Rattle.epx_components.specs.inner.SearchInvariants.{IsSearch, MayLead}
 use Rattle.epx_components.specs.inner.SearchStates.{SearchState, visit_of}
 use Rattle.epx_components.specs.inner.SearchSteps.{IsTopNode}
 use Rattle.epx_components.specs.declared.visit.Visit.TheVariants.{Closed, Open, Unseen}
 
-pub look_keeps : (edges : ℕ → List ℕ) (n seen : ℕ) (s : SearchState) (k p : ℕ)
+pub IsSearch-look : (edges : ℕ → List ℕ) (n seen : ℕ) (s : SearchState) (k p : ℕ)
     → IsSearch edges n seen s → visit_of s.visits k ≡ Open p
     → get_or s.looked_at k 0 < length (edges k)
     → MayLead s.starts (visit_of s.visits k)
     (visit_of s.visits (get_or (edges k) (get_or s.looked_at k 0) 0))
     → IsSearch edges n seen
     (record s { looked_at = set s.looked_at k (get_or s.looked_at k 0 + 1) })
-look_keeps edges n seen s k p w is left leads =
+IsSearch-look edges n seen s k p w is left leads =
     let in' : k < length s.looked_at =
     omega (
       arith,
-      placed_below s.visits k (λ e. let wrong : Open p ≡ Unseen = sym is ∙ e in cc),
+      visit_of-within s.visits k (λ e. let wrong : Open p ≡ Unseen = sym is ∙ e in cc),
       w.all_visits,
       w.looks,
     ) in
@@ -80,10 +80,10 @@ look_keeps edges n seen s k p w is left leads =
     }
 
 -- the last position leaves the path, since its node has no edge left
-pub pop_keeps : (edges : ℕ → List ℕ) (n seen : ℕ) (s : SearchState) (k : ℕ)
+pub IsSearch-pop : (edges : ℕ → List ℕ) (n seen : ℕ) (s : SearchState) (k : ℕ)
     → IsSearch edges n seen s → IsTopNode s k → length (edges k) ≤ get_or s.looked_at k 0
     → IsSearch edges n seen (record s { path = take (length s.path - 1) s.path })
-pop_keeps edges n seen s k w top none =
+IsSearch-pop edges n seen s k w top none =
     let last = length s.path - 1 in
     record {
       all_visits = w.all_visits;

@@ -4,10 +4,12 @@ use Rattle.std.proofs.Common.{length, get_or, set, sym, subst, ◌∙◌, ap, ar
 use Rattle.epx_types.proofs.Common.{get_or-set_same, get_or-set_other, get_or_append_left}
 use Rattle.epx_types.proofs.Common.{get_or_push, length_push, Contains-push, Contains-append_left}
 use Rattle.epx_graph.proofs.Common.{NodeReaches}
-use Rattle.epx_components.proofs.NodePathLemmas.{reaches_itself}
-use Rattle.epx_components.proofs.VisitLemmas.{MayLead-from, MayLead-push, MayLead-to, set_cases}
+use Rattle.epx_components.proofs.NodePathLemmas.{NodeReaches-itself}
+use Rattle.epx_components.proofs.VisitLemmas.{MayLead-from, MayLead-push, MayLead-to}
+use Rattle.epx_components.proofs.VisitLemmas.{visit_of-set_cases}
 use Rattle.epx_components.proofs.StartLemmas.{IsInGroupFrom-pushed, IsInGroupFrom-unpush}
-use Rattle.epx_components.proofs.StartLemmas.{AreRisingBelow-push, first_push, push_cases}
+use Rattle.epx_components.proofs.StartLemmas.{AreRisingBelow-push, get_or-push_first}
+use Rattle.epx_components.proofs.StartLemmas.{get_or-push_cases}
 use Rattle.epx_components.specs.inner.SearchInvariants.{AreFinished, IsRow, IsSearch}
 use Rattle.epx_components.specs.inner.SearchStates.{SearchState, visit_of}
 use Rattle.epx_components.specs.inner.SearchSteps.{after_enter}
@@ -21,7 +23,7 @@ enter_row visits opened k r l un =
     let m = length opened in
     let new = set visits k (Open m) in
     record {
-      is_open_at = push_cases opened k (λ p j. visit_of new j ≡ Open p)
+      is_open_at = get_or-push_cases opened k (λ p j. visit_of new j ≡ Open p)
           (λ p h. get_or-set_other visits k _ _ Unseen
           (λ e. let wrong : Open p ≡ Unseen =
           sym (r.is_open_at p h) ∙ (ap (visit_of visits) e ∙ un) in
@@ -37,7 +39,7 @@ enter_row visits opened k r l un =
             omega (arith, old.0, length_push opened k),
             get_or_append_left opened (k ∷ []) 0 p old.0 ∙ old.1,
           ))
-          (set_cases visits k (Open m) j l);
+          (visit_of-set_cases visits k (Open m) j l);
     }
 
 -- the finished components stay the same
@@ -51,7 +53,7 @@ enter_finished edges visits looked_at order count k m d l un =
     (λ (e : (j ≡ k) × (visit_of new j ≡ Open m)). let wrong : Open m ≡ Closed c = sym e.1 ∙ h in
     cc)
     (λ (e : (j ≢ k) × (visit_of new j ≡ visit_of visits j)). sym e.1 ∙ h)
-    (set_cases visits k (Open m) j l)
+    (visit_of-set_cases visits k (Open m) j l)
     in
     let on : (j c : ℕ) → visit_of visits j ≡ Closed c → visit_of new j ≡ Closed c = λ j c h.
     get_or-set_other visits k j _ Unseen (λ e. let wrong : Closed c ≡ Unseen =
@@ -69,17 +71,17 @@ enter_finished edges visits looked_at order count k m d l un =
       count_below = d.count_below;
     }
 
-pub enter_keeps : (edges : ℕ → List ℕ) (n seen : ℕ) (s : SearchState) (k : ℕ)
+pub IsSearch-enter : (edges : ℕ → List ℕ) (n seen : ℕ) (s : SearchState) (k : ℕ)
     → IsSearch edges n seen s → k < n → visit_of s.visits k ≡ Unseen
     → ((j p : ℕ) → visit_of s.visits j ≡ Open p → NodeReaches edges j k)
     → IsSearch edges n seen (after_enter s k)
-enter_keeps edges n seen s k w l un all =
+IsSearch-enter edges n seen s k w l un all =
     let m = length s.opened in
     let in' : k < length s.visits = omega (arith, w.all_visits) in
     let new = set s.visits k (Open m) in
     let cases : (j : ℕ) → ((j ≡ k) × (visit_of new j ≡ Open m))
     ⊎ ((j ≢ k) × (visit_of new j ≡ visit_of s.visits j)) =
-    λ j. set_cases s.visits k (Open m) j in' in
+    λ j. visit_of-set_cases s.visits k (Open m) j in' in
     let kept : (j : ℕ) → visit_of s.visits j ≢ Unseen → visit_of new j ≡ visit_of s.visits j =
     λ j h. get_or-set_other s.visits k j _ Unseen (λ e. h (ap (visit_of s.visits) e ∙ un)) in
     record {
@@ -88,7 +90,7 @@ enter_keeps edges n seen s k w l un all =
       seen_below = λ j h e. w.seen_below j h (sym (kept j (w.seen_below j h)) ∙ e);
       row = enter_row s.visits s.opened k w.row in' un;
       starts = AreRisingBelow-push s.starts m _ w.starts (omega (arith, length_push s.opened k));
-      begins = first_push s.starts m w.begins w.grouped;
+      begins = get_or-push_first s.starts m w.begins w.grouped;
       grouped = λ _. omega (arith, length_push s.starts m);
       path = AreRisingBelow-push s.path m _ w.path (omega (arith, length_push s.opened k));
       finished = enter_finished edges s.visits s.looked_at s.order s.count k m w.finished in' un;
@@ -108,7 +110,8 @@ enter_keeps edges n seen s k w l un all =
           rw (from, to) (MayLead-push s.starts m _ _ (λ p e. (w.row.placed j p e).0) old);
       reaches = λ i j p q hi hj from. ⊎_elim
           (λ (e : (i ≡ k) × (visit_of new i ≡ Open m)). ⊎_elim
-          (λ (f : (j ≡ k) × (visit_of new j ≡ Open m)). reaches_itself edges i j (e.0 ∙ sym f.0))
+          (λ (f : (j ≡ k) × (visit_of new j ≡ Open m)). NodeReaches-itself edges i j
+          (e.0 ∙ sym f.0))
           (λ (f : (j ≢ k) × (visit_of new j ≡ visit_of s.visits j)).
           let same : Open m ≡ Open p = sym e.1 ∙ hi in
           let at : m ≡ p = cc in

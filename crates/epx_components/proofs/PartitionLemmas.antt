@@ -2,25 +2,27 @@
 use Rattle.std.proofs.Common.{◌≡◌, ◌≢◌, ◌⊎◌, inl, inr, ⊎_elim, ℕ, ◌<◌, List, length, get_or, set}
 use Rattle.std.proofs.Common.{ap, ◌∙◌}
 use Rattle.epx_types.proofs.Common.{cases_eq, get_or-set_same, get_or-set_other, All-get_or}
-use Rattle.epx_components.specs.Partitions.{ComponentParts, IsPartition, component_of, node_at}
+use Rattle.epx_components.specs.between.Partitions.{ComponentParts, IsPartition, component_of}
+use Rattle.epx_components.specs.between.Partitions.{node_at}
 
-pub node_below : (edges : ℕ → List ℕ) (p : ComponentParts) → IsPartition edges p → (i : ℕ)
+pub node_at-within : (edges : ℕ → List ℕ) (p : ComponentParts) → IsPartition edges p → (i : ℕ)
     → i < length p.order → node_at p i < length p.component
-node_below edges p is i l = All-get_or (λ k. k < length p.component) p.order i 0 l is.nodes
+node_at-within edges p is i l = All-get_or (λ k. k < length p.component) p.order i 0 l is.nodes
 
-pub component_below : (edges : ℕ → List ℕ) (p : ComponentParts) → IsPartition edges p → (k : ℕ)
+pub component_of-within : (edges : ℕ → List ℕ) (p : ComponentParts) → IsPartition edges p → (k : ℕ)
     → k < length p.component → component_of p k < p.count
-component_below edges p is k l = All-get_or (λ c. c < p.count) p.component k 0 l is.counted
+component_of-within edges p is k l = All-get_or (λ c. c < p.count) p.component k 0 l is.counted
 
 -- the value of a node after a write for the component of b
-pub value_after_set : {A : Type 0} (none : A) (p : ComponentParts) (xs : List A) (b : ℕ) (x : A)
+pub get_or-set_component : {A : Type 0} (none : A) (p : ComponentParts) (xs : List A) (b : ℕ)
+    (x : A)
     → component_of p b < length xs → (k : ℕ)
     → ((component_of p k ≡ component_of p b)
     × (get_or (set xs (component_of p b) x) (component_of p k) none ≡ x))
     ⊎ ((component_of p k ≢ component_of p b)
     × (get_or (set xs (component_of p b) x) (component_of p k) none
     ≡ get_or xs (component_of p k) none))
-value_after_set none p xs b x l k =
+get_or-set_component none p xs b x l k =
     let own = component_of p b in
     ⊎_elim
     (λ (e : component_of p k ≡ own). inl

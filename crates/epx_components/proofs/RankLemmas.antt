@@ -6,12 +6,12 @@ use Rattle.epx_types.proofs.Common.{slice_get-get_or, Ranked, ranked_ids, compon
 use Rattle.epx_types.specs.declared.id.Id.{Id}
 use Rattle.std.proofs.lemmas.List.{get_or-map, map_more}
 use Rattle.epx_types.proofs.lists.ListPositionLemmas.{slice_get-map}
-use Rattle.epx_components.specs.Ranks.{ranked, ranked_all}
+use Rattle.epx_components.specs.between.Ranks.{ranked, ranked_all}
 use Rattle.epx_components.specs.declared.rank.Rank.{Rank}
 
-pub rank_at : (ranks : List Rank) (i : ℕ) (r : Rank) → i < length (ranked_all ranks)
+pub ranked_all-at : (ranks : List Rank) (i : ℕ) (r : Rank) → i < length (ranked_all ranks)
     → r ≡ get_or ranks i r → slice_get (ranked_all ranks) i ≡ Some (ranked r)
-rank_at ranks i r l at = slice_get-map ranked ranks i r
+ranked_all-at ranks i r l at = slice_get-map ranked ranks i r
     (slice_get-get_or ranks i r (omega (arith, length-map ranks ranked)) ∙ ap Some (sym at))
 
 -- whether two Ids are equal
@@ -35,22 +35,23 @@ module _ (ranks : List Rank) (i : ℕ) (d : Rank) (l : i < length ranks) where
       ≡ same_id (get_or ranks i d).id (get_or ranks i d).leader
   test = ap leads here ∙ same_id-is_eq (get_or ranks i d).id (get_or ranks i d).leader
 
-  pub ids_push : (ids : List Id) → ids ≡ ranked_ids (take i (ranked_all ranks))
+  pub ranked_ids-push : (ids : List Id) → ids ≡ ranked_ids (take i (ranked_all ranks))
       → ids ++ (get_or ranks i d).id ∷ [] ≡ ranked_ids (take (i + 1) (ranked_all ranks))
-  ids_push ids old =
+  ranked_ids-push ids old =
       ap (λ xs. xs ++ (get_or ranks i d).id ∷ []) old
       ∙ ap (λ (r : Ranked). ranked_ids (take i (ranked_all ranks)) ++ r.id ∷ []) (sym here)
       ∙ sym (map_more (λ (r : Ranked). r.id) (ranked_all ranks) i (ranked d) within)
 
   -- one more leader
-  pub leader_more : same_id (get_or ranks i d).id (get_or ranks i d).leader ≡ true
+  pub component_count-leader : same_id (get_or ranks i d).id (get_or ranks i d).leader ≡ true
       → component_count (take (i + 1) (ranked_all ranks))
       ≡ component_count (take i (ranked_all ranks)) + 1
-  leader_more same = count_by_more_yes leads (ranked_all ranks) i (ranked d) within (test ∙ same)
+  component_count-leader same =
+      count_by_more_yes leads (ranked_all ranks) i (ranked d) within (test ∙ same)
 
   -- or no leader
-  pub leader_no_more : same_id (get_or ranks i d).id (get_or ranks i d).leader ≡ false
+  pub component_count-no_leader : same_id (get_or ranks i d).id (get_or ranks i d).leader ≡ false
       → component_count (take (i + 1) (ranked_all ranks))
       ≡ component_count (take i (ranked_all ranks))
-  leader_no_more other = count_by_more_no leads (ranked_all ranks) i (ranked d) within
+  component_count-no_leader other = count_by_more_no leads (ranked_all ranks) i (ranked d) within
       (test ∙ other)

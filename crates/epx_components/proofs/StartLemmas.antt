@@ -6,10 +6,10 @@ use Rattle.epx_types.proofs.Common.{get_or_past, cases_lt}
 use Rattle.epx_components.specs.inner.Starts.{IsInGroupFrom, AreRisingBelow}
 
 -- an element of a list with one more at its end
-pub push_cases : (xs : List ℕ) (x : ℕ) (P : ℕ → ℕ → Type 0)
+pub get_or-push_cases : (xs : List ℕ) (x : ℕ) (P : ℕ → ℕ → Type 0)
     → ((i : ℕ) → i < length xs → P i (get_or xs i 0)) → P (length xs) x → (i : ℕ)
     → i < length (xs ++ x ∷ []) → P i (get_or (xs ++ x ∷ []) i 0)
-push_cases xs x P old new i h =
+get_or-push_cases xs x P old new i h =
     ⊎_elim
     (λ (l : i < length xs). subst (P i) (sym (get_or_append_left xs (x ∷ []) 0 i l)) (old i l))
     (λ (l : length xs ≤ i). let e : length xs ≡ i = omega (arith, length_push xs x) in
@@ -20,8 +20,8 @@ push_cases xs x P old new i h =
 pub AreRisingBelow-push : (xs : List ℕ) (x n : ℕ) → AreRisingBelow xs x → x < n
     → AreRisingBelow (xs ++ x ∷ []) n
 AreRisingBelow-push xs x n old lt = record {
-  below = push_cases xs x (λ _ y. y < n) (λ i l. omega (arith, old.below i l)) lt;
-  rises = λ i j le l. push_cases xs x (λ b y. i < b → get_or (xs ++ x ∷ []) i 0 < y)
+  below = get_or-push_cases xs x (λ _ y. y < n) (λ i l. omega (arith, old.below i l)) lt;
+  rises = λ i j le l. get_or-push_cases xs x (λ b y. i < b → get_or (xs ++ x ∷ []) i 0 < y)
       (λ b in' h. let k : i < length xs = omega arith in
       rw get_or_append_left (old.rises i b h in'))
       (λ h. rw get_or_append_left (old.below i h))
@@ -42,21 +42,21 @@ AreRisingBelow-take xs m n k old low = record {
 }
 
 -- the first of the numbers, or 0
-pub first_take : (xs : List ℕ) (m : ℕ) → get_or xs 0 0 ≡ 0 → get_or (take m xs) 0 0 ≡ 0
-first_take xs m h = ⊎_elim (λ (l : 0 < m). get_or-take m xs 0 0 l ∙ h)
+pub get_or-take_first : (xs : List ℕ) (m : ℕ) → get_or xs 0 0 ≡ 0 → get_or (take m xs) 0 0 ≡ 0
+get_or-take_first xs m h = ⊎_elim (λ (l : 0 < m). get_or-take m xs 0 0 l ∙ h)
     (λ (l : m ≤ 0). get_or_past (take m xs) 0 0 (omega (arith, length-take m xs))) (cases_lt 0 m)
 
-pub first_push : (xs : List ℕ) (x : ℕ) → get_or xs 0 0 ≡ 0 → (0 < x → 0 < length xs)
+pub get_or-push_first : (xs : List ℕ) (x : ℕ) → get_or xs 0 0 ≡ 0 → (0 < x → 0 < length xs)
     → get_or (xs ++ x ∷ []) 0 0 ≡ 0
-first_push [] x h some = let none : x ≡ 0 =
+get_or-push_first [] x h some = let none : x ≡ 0 =
     ⊎_elim (λ (l : 0 < x). absurd (omega (arith, some l))) (λ (l : x ≤ 0). omega arith)
     (cases_lt 0 x) in none
-first_push (y ∷ xs) x h some = h
+get_or-push_first (y ∷ xs) x h some = h
 
 pub IsInGroupFrom-push : (starts : List ℕ) (m p q : ℕ) → p < m → IsInGroupFrom starts p q
     → IsInGroupFrom (starts ++ m ∷ []) p q
 IsInGroupFrom-push starts m p q l h =
-    push_cases starts m (λ _ b. b ≤ p → b ≤ q) h (λ le. absurd (omega arith))
+    get_or-push_cases starts m (λ _ b. b ≤ p → b ≤ q) h (λ le. absurd (omega arith))
 
 pub IsInGroupFrom-unpush : (starts : List ℕ) (m p q : ℕ) → IsInGroupFrom (starts ++ m ∷ []) p q
     → IsInGroupFrom starts p q

@@ -11,18 +11,18 @@ use Rattle.epx_components.specs.declared.visit.Visit.{Visit}
 use Rattle.epx_components.specs.declared.visit.Visit.TheVariants.{Closed, Open, Unseen}
 
 -- the state of a node after a write
-pub set_cases : (ps : List Visit) (k : ℕ) (x : Visit) (j : ℕ) → k < length ps
+pub visit_of-set_cases : (ps : List Visit) (k : ℕ) (x : Visit) (j : ℕ) → k < length ps
     → ((j ≡ k) × (visit_of (set ps k x) j ≡ x))
     ⊎ ((j ≢ k) × (visit_of (set ps k x) j ≡ visit_of ps j))
-set_cases ps k x j l =
+visit_of-set_cases ps k x j l =
     ⊎_elim
     (λ (e : j ≡ k). inl (e, ap (visit_of (set ps k x)) e ∙ get_or-set_same ps k x Unseen l))
     (λ (ne : j ≢ k). inr (ne, get_or-set_other ps k j x Unseen ne))
     (cases_eq j k)
 
 -- a node that is not unseen is in the list
-pub placed_below : (ps : List Visit) (k : ℕ) → visit_of ps k ≢ Unseen → k < length ps
-placed_below ps k h = ⊎_elim (λ (l : k < length ps). l)
+pub visit_of-within : (ps : List Visit) (k : ℕ) → visit_of ps k ≢ Unseen → k < length ps
+visit_of-within ps k h = ⊎_elim (λ (l : k < length ps). l)
     (λ (l : length ps ≤ k). absurd (h (get_or_past ps k Unseen l))) (cases_lt k (length ps))
 
 pub MayLead-from : (starts : List ℕ) (x y : Visit) → MayLead starts x y → x ≢ Unseen

@@ -1,9 +1,2 @@
-pub mod NodeComponents
-pub mod NodeDepths
-pub mod MissingNodes
-pub mod NodeRanks
-pub mod Ranks
-pub mod ReadyMarks
-pub mod Partitions
-pub mod Collections
+pub mod between
 pub mod inner

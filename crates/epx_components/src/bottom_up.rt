@@ -1,8 +1,8 @@
 //! The pass over the components from the bottom up.
 ghost use Rattle.std.specs.Prelude.{◌≡◌, ◌↔◌, ◌⊎◌, ℕ, ◌<◌, length, slice_index_or, All};
 ghost use Rattle.epx_graph.specs.Graphs.{edges_of};
-ghost use Rattle.epx_components.specs.Collections.{AreCollected, LeadsOut};
-ghost use Rattle.epx_components.specs.Partitions.{parts, IsPartitionOf};
+ghost use Rattle.epx_components.specs.between.Collections.{AreCollected, LeadsOut};
+ghost use Rattle.epx_components.specs.between.Partitions.{parts, IsPartitionOf};
 
 use crate::collector::Collector;
 use crate::partition::Partition;

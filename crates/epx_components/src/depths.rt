@@ -1,8 +1,8 @@
 //! The depths of the components.
 ghost use Rattle.std.specs.Prelude.{◌≡◌, ℕ, ◌+◌, ◌-◌, ◌^◌, ◌<◌, min, length, ⊤, IfOk};
 ghost use Rattle.epx_graph.specs.Graphs.{edges_of};
-ghost use Rattle.epx_components.specs.NodeDepths.{IsNodeDepth};
-ghost use Rattle.epx_components.specs.Partitions.{parts, number_for, IsPartitionOf};
+ghost use Rattle.epx_components.specs.between.NodeDepths.{IsNodeDepth};
+ghost use Rattle.epx_components.specs.between.Partitions.{parts, number_for, IsPartitionOf};
 
 use crate::bottom_up::collect_bottom_up;
 use crate::collector::Collector;

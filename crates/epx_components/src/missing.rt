@@ -1,8 +1,8 @@
 //! Finds the components that reach a missing node.
 ghost use Rattle.std.specs.Prelude.{◌≡◌, ◌↔◌, ℕ, ◌<◌, length, false, ⊤, IsTrue, IfOk};
 ghost use Rattle.epx_graph.specs.Graphs.{edges_of};
-ghost use Rattle.epx_components.specs.MissingNodes.{ReachesMissing};
-ghost use Rattle.epx_components.specs.Partitions.{parts, mark_for, IsPartitionOf};
+ghost use Rattle.epx_components.specs.between.MissingNodes.{ReachesMissing};
+ghost use Rattle.epx_components.specs.between.Partitions.{parts, mark_for, IsPartitionOf};
 
 use crate::bottom_up::collect_bottom_up;
 use crate::collector::Collector;

@@ -1,6 +1,6 @@
 //! What the execution order needs of each node.
 ghost use Rattle.std.specs.Prelude.{◌≡◌, ℕ, ◌<◌, length, slice_get, Some, IfOk};
-ghost use Rattle.epx_components.specs.NodeRanks.{IsNodeRank};
+ghost use Rattle.epx_components.specs.between.NodeRanks.{IsNodeRank};
 
 use crate::depths::find_depths;
 use crate::leaders::find_leaders;
@@ -34,7 +34,7 @@ pub struct NodeRanks {
 impl Model for NodeRanks {
     ghost use Rattle.std.specs.Prelude.{List};
     ghost use Rattle.epx_components.specs.declared.node_ranks.NodeRank.{NodeRank};
-    ghost use Rattle.epx_components.specs.NodeRanks.{node_ranks_in, HasValueForEach};
+    ghost use Rattle.epx_components.specs.between.NodeRanks.{node_ranks_in, HasValueForEach};
 
     ghost Value = { List NodeRank };
 

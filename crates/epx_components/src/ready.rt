@@ -3,8 +3,8 @@ ghost use Rattle.std.specs.Prelude.{◌≡◌, List, Some, slice_get, IfOk, Matc
 ghost use Rattle.epx_types.specs.Instances.{Instance};
 ghost use Rattle.epx_types.specs.Readiness.{IsReady};
 ghost use Rattle.epx_graph.specs.GraphOf.{IsGraphOf};
-ghost use Rattle.epx_components.specs.Partitions.{parts, IsPartitionOf};
-ghost use Rattle.epx_components.specs.ReadyMarks.{AreReadyMarks};
+ghost use Rattle.epx_components.specs.between.Partitions.{parts, IsPartitionOf};
+ghost use Rattle.epx_components.specs.between.ReadyMarks.{AreReadyMarks};
 
 use crate::missing::find_missing;
 use crate::partition::Partition;

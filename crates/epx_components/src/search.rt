@@ -2,7 +2,7 @@
 ghost use Rattle.std.specs.Prelude.{◌≡◌, ℕ, List, ◌+◌, ◌<◌, ◌≤◌, length, OnOk, IfOk, IfSome};
 ghost use Rattle.std.specs.Prelude.{◌≢◌, false, IfNone};
 ghost use Rattle.epx_graph.specs.Graphs.{IsGraph, edges_of};
-ghost use Rattle.epx_components.specs.Partitions.{parts, IsPartitionOf};
+ghost use Rattle.epx_components.specs.between.Partitions.{parts, IsPartitionOf};
 ghost use Rattle.epx_components.specs.inner.Starts.{AreRisingBelow};
 ghost use Rattle.epx_components.specs.inner.SearchStates.{state, visit_of};
 ghost use Rattle.epx_components.specs.inner.SearchInvariants.{IsRow, IsSearch, KeepsSearch};

@@ -10,7 +10,7 @@ use Rattle.epx_devices.specs.DeviceStates.{path_source, reader_source}
 use Rattle.epx_devices.specs.Models.{OpenerModel, SourceModel}
 use Rattle.epx_devices.specs.Reads.{AreOneReads}
 use Rattle.epx_devices.proofs.KnownBytesLemmas.{Consumes-trans}
-use Rattle.epx_devices.proofs.TransferLemmas.{known_at_end, none_consumed}
+use Rattle.epx_devices.proofs.TransferLemmas.{IfSome-at_end, Consumes-nil}
 
 module _ {S : Type 0} (D : SourceModel S) (law : AreOneReads D) where
   reads_consume : (first now : S) (steps : List (ReadStep S)) → AreReads D first steps now
@@ -18,13 +18,13 @@ module _ {S : Type 0} (D : SourceModel S) (law : AreOneReads D) where
       (flat_map (λ (r : ReadStep S). r.bytes) steps)
   reads_consume first now [] h =
       subst (λ s. Consumes (D.remaining first) (D.remaining s) []) h
-      (none_consumed (D.remaining first))
+      (Consumes-nil (D.remaining first))
   reads_consume first now (r ∷ rest) h =
       Consumes-trans (D.remaining first) (D.remaining r.next) (D.remaining now) r.bytes _
       (law first r.room r.bytes r.next h.0).1 (reads_consume r.next now rest h.1)
 
-  pub all_are_known : AllAreTheKnown D
-  all_are_known first now bytes all =
+  pub AllAreTheKnown-holds : AllAreTheKnown D
+  AllAreTheKnown-holds first now bytes all =
       let last = law all.last all.room [] now all.ended in
       let sofar = subst (λ b. Consumes (D.remaining first) (D.remaining all.last) b)
       (sym all.before.returned)
@@ -32,7 +32,7 @@ module _ {S : Type 0} (D : SourceModel S) (law : AreOneReads D) where
       let whole = subst (λ b. Consumes (D.remaining first) (D.remaining now) b) (append-nil bytes)
       (Consumes-trans (D.remaining first) (D.remaining all.last) (D.remaining now) bytes [] sofar
       last.1) in
-      known_at_end (D.remaining first) (D.remaining now) bytes whole (last.2 refl all.has_room)
+      IfSome-at_end (D.remaining first) (D.remaining now) bytes whole (last.2 refl all.has_room)
 
 module _ {O F : Type 0} (opening : OpenerModel O F) (D : SourceModel F) where
   abbrev path : SourceModel (PathState O F)
@@ -129,8 +129,8 @@ module _ {O F : Type 0} (opening : OpenerModel O F) (D : SourceModel F) where
         };
       }
 
-  pub path_delivers_opened : PathDeliversOpened opening D
-  path_delivers_opened first now bytes closed all =
+  pub PathDeliversOpened-holds : PathDeliversOpened opening D
+  PathDeliversOpened-holds first now bytes closed all =
       from_steps first now all.last all.room bytes closed all.before.steps all.before.in_turn
       all.before.returned all.has_room all.ended
 
@@ -145,16 +145,16 @@ module _ {R : Type 0} (remaining : R → Option (List ℕ)) where
       reads_return r.next now rest h.1 ∙ ap (λ bs. bs ++ later) h.0.1
       ∙ append_assoc first.returned r.bytes later
 
-  pub all_returned : AllAreReturned (reader_source remaining)
-  all_returned first now bytes all =
+  pub AllAreReturned-reader : AllAreReturned (reader_source remaining)
+  AllAreReturned-reader first now bytes all =
       all.ended.1 ∙ append-nil all.last.returned
       ∙ reads_return first all.last all.before.steps all.before.in_turn
       ∙ ap (λ bs. first.returned ++ bs) (sym all.before.returned)
 
-  pub file_returned : {O : Type 0} → FileReturnsAll {O = O} {F = R}
+  pub FileReturnsAll-reader : {O : Type 0} → FileReturnsAll {O = O} {F = R}
       (path_source file_opener (reader_source remaining))
-  file_returned first now bytes closed all =
-      let from = path_delivers_opened file_opener (reader_source remaining) first now bytes
+  FileReturnsAll-reader first now bytes closed all =
+      let from = PathDeliversOpened-holds file_opener (reader_source remaining) first now bytes
       closed all in
-      let whole = all_returned from.opened from.last bytes from.all in
+      let whole = AllAreReturned-reader from.opened from.last bytes from.all in
       (from.last, from.is_last, whole ∙ ap (λ bs. bs ++ bytes) from.at_path.0)

@@ -73,9 +73,9 @@ module _ {A B : Type 0} (a_model : SourceModel A) (b_model : SourceModel B) wher
   second_read b room bytes (Second last) h = (last, h)
 
   -- all bytes of a source of either type are all bytes of one of that type
-  pub first_delivers_all : (a : A) (now : EitherSource A B) (bytes : List ℕ)
+  pub DeliversAll-from_first : (a : A) (now : EitherSource A B) (bytes : List ℕ)
       → DeliversAll either (First a) now bytes → (last : A) × DeliversAll a_model a last bytes
-  first_delivers_all a now bytes h =
+  DeliversAll-from_first a now bytes h =
       let from = EndsInFirst-reads (First a) h.before.steps h.last h.before.in_turn in
       let end = first_read from.1 h.room [] now
       (subst (λ s. either.reads s h.room [] now) from.2 h.ended) in (
@@ -93,9 +93,9 @@ module _ {A B : Type 0} (a_model : SourceModel A) (b_model : SourceModel B) wher
         },
       )
 
-  pub second_delivers_all : (b : B) (now : EitherSource A B) (bytes : List ℕ)
+  pub DeliversAll-from_second : (b : B) (now : EitherSource A B) (bytes : List ℕ)
       → DeliversAll either (Second b) now bytes → (last : B) × DeliversAll b_model b last bytes
-  second_delivers_all b now bytes h =
+  DeliversAll-from_second b now bytes h =
       let from = EndsInSecond-reads (Second b) h.before.steps h.last h.before.in_turn in
       let end = second_read from.1 h.room [] now
       (subst (λ s. either.reads s h.room [] now) from.2 h.ended) in (
@@ -123,10 +123,10 @@ module _ {A B : Type 0} (a_model : SourceModel A) (b_model : SourceModel B) wher
   second_failed b (First a) h = absurd h
   second_failed b (Second last) h = (last, h)
 
-  pub first_then_fails : (a : A) (now : EitherSource A B)
+  pub DeliversThenFails-from_first : (a : A) (now : EitherSource A B)
       → DeliversThenFails either (First a) now
       → (last : A) × DeliversThenFails a_model a last
-  first_then_fails a now h =
+  DeliversThenFails-from_first a now h =
       let from = EndsInFirst-reads (First a) h.before.steps h.last h.before.in_turn in
       let last = first_failed from.1 now (subst (λ s. either.fails s now) from.2 h.failed) in (
         last.0,
@@ -138,10 +138,10 @@ module _ {A B : Type 0} (a_model : SourceModel A) (b_model : SourceModel B) wher
         },
       )
 
-  pub second_then_fails : (b : B) (now : EitherSource A B)
+  pub DeliversThenFails-from_second : (b : B) (now : EitherSource A B)
       → DeliversThenFails either (Second b) now
       → (last : B) × DeliversThenFails b_model b last
-  second_then_fails b now h =
+  DeliversThenFails-from_second b now h =
       let from = EndsInSecond-reads (Second b) h.before.steps h.last h.before.in_turn in
       let last = second_failed from.1 now (subst (λ s. either.fails s now) from.2 h.failed) in (
         last.0,

@@ -9,7 +9,7 @@ use Rattle.epx_types.specs.declared.fault.Fault.TheVariants.{LogTooLong, Memory}
 use Rattle.std.proofs.lemmas.Grind.{flat_map-append}
 use Rattle.epx_devices.specs.Deliveries.{ReadStep, AreReads, Delivers}
 use Rattle.epx_devices.specs.declared.transfer.LogPart.{LogPart}
-use Rattle.epx_devices.specs.LogParts.{EndsLog, EndsPart, IsFrontOfLog, IsReadUpTo}
+use Rattle.epx_devices.specs.between.LogParts.{EndsLog, EndsPart, IsFrontOfLog, IsReadUpTo}
 use Rattle.epx_devices.specs.Models.{SinkModel, SourceModel}
 use Rattle.epx_devices.proofs.KnownBytesLemmas.{Appends-trans, Consumes-trans, take-more}
 
@@ -20,15 +20,15 @@ pub record IsWritten {S : Type 0} (D : SinkModel S) (first now : S) (bytes : Lis
   pub within : n ≤ length bytes
   pub appended : Appends (D.contents first) (D.contents now) (take n bytes)
 
-pub none_consumed : (o : Option (List ℕ)) → Consumes o o []
-none_consumed None = tt
-none_consumed (Some xs) = refl
+pub Consumes-nil : (o : Option (List ℕ)) → Consumes o o []
+Consumes-nil None = tt
+Consumes-nil (Some xs) = refl
 
-pub known_at_end : (a b : Option (List ℕ)) (bytes : List ℕ) → Consumes a b bytes → IsAtEnd b
+pub IfSome-at_end : (a b : Option (List ℕ)) (bytes : List ℕ) → Consumes a b bytes → IsAtEnd b
     → IfSome a (λ all. bytes ≡ all)
-known_at_end None b bytes consumed ended = tt
-known_at_end (Some xs) None bytes consumed ended = absurd consumed
-known_at_end (Some xs) (Some ys) bytes consumed ended =
+IfSome-at_end None b bytes consumed ended = tt
+IfSome-at_end (Some xs) None bytes consumed ended = absurd consumed
+IfSome-at_end (Some xs) (Some ys) bytes consumed ended =
     sym (consumed ∙ ap (λ rest. bytes ++ rest) ended ∙ append-nil bytes)
 
 -- the bytes from n on, as a slice
@@ -90,7 +90,7 @@ module _ {S : Type 0} (D : SourceModel S) where
   pub IsReadUpTo-none : (now : S) → D.has_failed now ≡ false → IsReadUpTo D now now []
   IsReadUpTo-none now whole = record {
     whole = whole;
-    consumed = none_consumed (D.remaining now);
+    consumed = Consumes-nil (D.remaining now);
     delivered = record { steps = []; in_turn = refl; returned = refl };
     few = omega arith;
   }
@@ -98,9 +98,9 @@ module _ {S : Type 0} (D : SourceModel S) where
   -- ---- how reading ends, once these bytes are read
   module _ (log : ℕ) (first now later : S) (bytes : List ℕ)
       (sofar : IsReadUpTo D first now bytes) where
-    pub too_long : length bytes ≡ max_log_bytes + 1
+    pub EndsLog-too_long : length bytes ≡ max_log_bytes + 1
         → EndsLog D log first now (Err (LogTooLong log))
-    too_long many = record {
+    EndsLog-too_long many = record {
       bytes = tt;
       delivered = tt;
       ended = tt;
@@ -112,8 +112,8 @@ module _ {S : Type 0} (D : SourceModel S) where
       no_further = (bytes, sofar.consumed, sofar.few);
     }
 
-    pub out_of_memory : EndsLog D log first now (Err Memory)
-    out_of_memory = record {
+    pub EndsLog-out_of_memory : EndsLog D log first now (Err Memory)
+    EndsLog-out_of_memory = record {
       bytes = tt;
       delivered = tt;
       ended = tt;
@@ -126,12 +126,12 @@ module _ {S : Type 0} (D : SourceModel S) where
     }
 
   -- no part has more bytes than a log may have, so such a part is the last
-  pub whole_log : (log : ℕ) (first now : S) (head : List ℕ) (result : Result LogPart Fault)
+  pub EndsLog-from_part : (log : ℕ) (first now : S) (head : List ℕ) (result : Result LogPart Fault)
       → EndsPart D log first now head (max_log_bytes + 1) result
       → MatchResult result (λ part. EndsLog D log first now (Ok (head ++ part.bytes.items)))
       (λ fault. EndsLog D log first now (Err fault))
-  whole_log log first now head (Err fault) ends = ends
-  whole_log log first now head (Ok part) ends = all part.is_last ends where
+  EndsLog-from_part log first now head (Err fault) ends = ends
+  EndsLog-from_part log first now head (Ok part) ends = all part.is_last ends where
     all : (is_last : Bool) → IsFrontOfLog D log first now
         (length head + (max_log_bytes + 1)) (head ++ part.bytes.items) is_last
         → EndsLog D log first now (Ok (head ++ part.bytes.items))

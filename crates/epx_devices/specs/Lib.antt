@@ -1,12 +1,11 @@
 pub mod Devices
 pub mod Models
 pub mod Reads
-pub mod Fuses
 pub mod Deliveries
 pub mod Transfers
-pub mod LogParts
 pub mod EitherSources
 pub mod DeviceStates
 pub mod DeliveryLaws
 pub mod MemoryDevices
+pub mod between
 pub mod inner

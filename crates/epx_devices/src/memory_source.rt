@@ -3,7 +3,6 @@ ghost use Rattle.std.specs.Prelude.{◌≡◌, List, ℕ, Some, Ok, IfOk, OnErr,
 ghost use Rattle.std.specs.Prelude.{take};
 ghost use Rattle.std.specs.Io.{ReadsAtMost};
 ghost use Rattle.std.specs.Io.KnownBytes.{ReadConsumes};
-ghost use Rattle.epx_devices.specs.Devices.{failed_after};
 ghost use Rattle.epx_devices.specs.MemoryDevices.{memory_source};
 ghost use Rattle.epx_devices.specs.Reads.{IsOneRead};
 

@@ -5,7 +5,7 @@ ghost use Rattle.std.specs.Io.KnownBytes.{Appends, IsAtEnd};
 ghost use Rattle.epx_devices.specs.Deliveries.{DeliversAll, IsLogStop};
 ghost use Rattle.epx_devices.specs.Devices.{failed_after};
 ghost use Rattle.epx_types.specs.Limits.{max_log_bytes};
-ghost use Rattle.epx_devices.specs.LogParts.{EndsPart, IsReadUpTo};
+ghost use Rattle.epx_devices.specs.between.LogParts.{EndsPart, IsReadUpTo};
 ghost use Rattle.epx_devices.specs.Transfers.{IsReadLogFault, ConsumesUpTo, ConsumesExactly};
 ghost use Rattle.epx_devices.specs.Transfers.{AppendsPrefix};
 

@@ -3,7 +3,7 @@ ghost use Rattle.std.specs.Prelude.{MatchResult};
 ghost use Rattle.epx_types.specs.Done.{remaining};
 ghost use Rattle.epx_types.specs.ExecutionOrder.{IsExecutionOrder};
 ghost use Rattle.epx_types.specs.Ids.{IsRising};
-ghost use Rattle.epx_committed.specs.EntryLines.{entry_lines};
+ghost use Rattle.epx_committed.specs.between.EntryLines.{entry_lines};
 ghost use Rattle.epx_committed.specs.MergedLines.{IsMerged, IsMergeFault};
 
 use epx_committed::{Merged, from_entries};

@@ -14,27 +14,27 @@ use Rattle.epx_executor.specs.CallLines.{call_lines}
 use Rattle.epx_executor.specs.inner.Batches.{IsMapBatch, IsCallBatch}
 use Rattle.epx_executor.specs.inner.Choices.{IsBlockedIn, IsChoice, IsPart, IsPassedOver, IsUnion}
 use Rattle.epx_executor.specs.inner.Filings.{Filings}
-use Rattle.epx_executor.proofs.CallLineLemmas.{merged_instances}
+use Rattle.epx_executor.proofs.CallLineLemmas.{Contains-merged}
 use Rattle.epx_executor.proofs.PartLemmas.{IsExecutionOrder-part, Reaches-more}
 use Rattle.epx_executor.proofs.PartLemmas.{commands_in-part, remaining-part}
-use Rattle.epx_executor.proofs.PartLineLemmas.{merged_with_all, fault_with_all}
+use Rattle.epx_executor.proofs.PartLineLemmas.{IsMerged-with_all, IsMergeFault-with_all}
 
 -- the merged map is the union of what is pending and what came
 pub IsUnion-merged : (done : List Id) (pending came m : List Instance)
     → IsMerged (call_lines done pending came) m → IsUnion done pending came m
 IsUnion-merged done pending came m merged = record {
   rising = merged.committed.rising;
-  same = merged_instances done pending came m merged;
+  same = Contains-merged done pending came m merged;
 }
 
 -- what is pending is in the map of the next batch
-pub is_pending : (done : List Id) (pending came : List Instance) (choice : Option Choice)
+pub Contains-pending : (done : List Id) (pending came : List Instance) (choice : Option Choice)
     (entries : List Instance) (order : List Ranked) (positions : List (Id × ℕ))
     (waiters : List Waiting) (now : List Id)
     (batch : IsCallBatch done pending came choice entries order positions waiters now)
     (e : Instance) → Contains pending e → Contains batch.m e
-is_pending done pending came choice entries order positions waiters now batch e h =
-    (merged_instances done pending came batch.m batch.merged e).1 (inl h)
+Contains-pending done pending came choice entries order positions waiters now batch e h =
+    (Contains-merged done pending came batch.m batch.merged e).1 (inl h)
 
 -- ---- the batch of a part is that of the whole map
 
@@ -139,7 +139,7 @@ module _ (done : List Id) (pending came : List Instance) (filings : Filings) (c 
 
   fault_of_choice : (f : Fault) → IsMergeFault (call_lines done part came) f
       → IsMergeFault (call_lines done pending came) f
-  fault_of_choice = fault_with_all done pending part came rising is.0 choice.few alike
+  fault_of_choice = IsMergeFault-with_all done pending part came rising is.0 choice.few alike
 
   module _ (s : List Instance) (order : List Ranked) (positions : List (Id × ℕ))
       (waiters : List Waiting) (now : List Id)
@@ -147,10 +147,10 @@ module _ (done : List Id) (pending came : List Instance) (filings : Filings) (c 
       (merged : IsMerged (call_lines done part came) s) where
     all : (m : List Instance) × IsMerged (call_lines done pending came) m
         × ((e : Instance) → Contains m e ↔ (Contains pending e ⊎ Contains s e))
-    all = merged_with_all done pending part came rising is.0 choice.few alike s merged
+    all = IsMerged-with_all done pending part came rising is.0 choice.few alike s merged
 
     chosen : (e : Instance) → Contains pending e → Contains c.ids.items e.id → Contains s e
-    chosen e old there = (merged_instances done part came s merged e).1 (inl (is.1 e old there))
+    chosen e old there = (Contains-merged done part came s merged e).1 (inl (is.1 e old there))
 
     ready : (x : Id) → IsReady (remaining done all.0) x → Contains (ids_of (remaining done s)) x
     ready x h =
@@ -189,29 +189,33 @@ abbrev pub IsSoundChoice : List Id → List Instance → List Instance → Optio
 IsSoundChoice done pending came choice = IfSome choice (λ c. (filings : Filings)
     × IsChoice done pending came filings c.ids.items c.blocked.items)
 
-pub part_is_pending : (choice : Option Choice) (pending part : List Instance)
+pub Contains-from_part : (choice : Option Choice) (pending part : List Instance)
     → IsPart choice pending part → (e : Instance) → Contains part e → Contains pending e
-part_is_pending None pending part is e h = subst (λ (es : List Instance). Contains es e) is h
-part_is_pending (Some c) pending part is e h = is.0 e h
+Contains-from_part None pending part is e h = subst (λ (es : List Instance). Contains es e) is h
+Contains-from_part (Some c) pending part is e h = is.0 e h
 
-pub next_of : (choice : Option Choice) (done : List Id) (pending came part s : List Instance)
+pub IsCallBatch-from_part : (choice : Option Choice) (done : List Id)
+    (pending came part s : List Instance)
     (order : List Ranked) (positions : List (Id × ℕ)) (waiters : List Waiting) (now : List Id)
     → IsRising (ids_of pending) → IsSoundChoice done pending came choice
     → IsPart choice pending part → IsMerged (call_lines done part came) s
     → IsMapBatch done s s order positions waiters now
     → IsCallBatch done pending came choice s order positions waiters now
-next_of None done pending came part s order positions waiters now rising sound is merged batch =
+IsCallBatch-from_part None done pending came part s order positions waiters now rising sound is
+    merged batch =
     next_of_all done pending came s order positions waiters now batch
     (subst (λ (es : List Instance). IsMerged (call_lines done es came) s) is merged)
-next_of (Some c) done pending came part s order positions waiters now rising sound is merged batch =
+IsCallBatch-from_part (Some c) done pending came part s order positions waiters now rising sound is
+    merged batch =
     next_of_choice done pending came sound.0 c rising sound.1 part is s order positions waiters now
     batch merged
 
-pub fault_of : (choice : Option Choice) (done : List Id) (pending came part : List Instance)
+pub IsMergeFault-from_part : (choice : Option Choice) (done : List Id)
+    (pending came part : List Instance)
     → IsRising (ids_of pending) → IsSoundChoice done pending came choice
     → IsPart choice pending part → (f : Fault) → IsMergeFault (call_lines done part came) f
     → IsMergeFault (call_lines done pending came) f
-fault_of None done pending came part rising sound is f h =
+IsMergeFault-from_part None done pending came part rising sound is f h =
     subst (λ (es : List Instance). IsMergeFault (call_lines done es came) f) is h
-fault_of (Some c) done pending came part rising sound is f h =
+IsMergeFault-from_part (Some c) done pending came part rising sound is f h =
     fault_of_choice done pending came sound.0 c rising sound.1 part is f h

@@ -8,15 +8,15 @@ use Rattle.epx_types.proofs.Common.{Contains-append_right, ids_of, is_among, Ins
 use Rattle.epx_types.proofs.Common.{max_instances, Placed, Earlier, Contains-nil, Contains-head}
 use Rattle.epx_types.proofs.Common.{Contains-cons, Contains-cons_cases, Contains-from_map}
 use Rattle.epx_types.proofs.Common.{Contains-filter, Contains-from_filter, passes-from_filter}
-use Rattle.epx_types.proofs.Common.{not_among}
+use Rattle.epx_types.proofs.Common.{is_among-false}
 use Rattle.epx_types.specs.declared.id.Id.{Id}
 use Rattle.epx_types.specs.declared.place.Place.{Place}
-use Rattle.epx_committed.specs.LineOrder.{IsSortedByPlace}
+use Rattle.epx_committed.specs.between.LineOrder.{IsSortedByPlace}
 use Rattle.epx_committed.specs.MergedLines.{IsMerged}
-use Rattle.epx_committed.proofs.InstanceCountLemmas.{named_ids_are_committed}
-use Rattle.epx_committed.proofs.LineOrderLemmas.{earlier_line, AreSortedBy-append}
+use Rattle.epx_committed.proofs.InstanceCountLemmas.{ids_of-named}
+use Rattle.epx_committed.proofs.LineOrderLemmas.{Earlier-same_log, AreSortedBy-append}
 use Rattle.epx_executor.specs.CallLines.{call_lines, lines_from, lines_not_done}
-use Rattle.epx_executor.proofs.RemainderLemmas.{among_true}
+use Rattle.epx_executor.proofs.RemainderLemmas.{is_among-true}
 
 -- ---- instances on consecutive lines
 
@@ -63,7 +63,7 @@ module _ (log : ℕ) where
   lines_in_order n [] = tt
   lines_in_order n (e ∷ es) = (
     (λ p h. let later = from_line (suc n) es p h in
-        earlier_line (record { log = log; line = n }) p.place (sym later.in_log)
+        Earlier-same_log (record { log = log; line = n }) p.place (sym later.in_log)
         (omega (arith, later.late))),
     lines_in_order (suc n) es,
   )
@@ -99,8 +99,8 @@ filter_in_order p (l ∷ lines) order =
       )
     ]
 
-pub earlier_log : (p q : Place) → p.log ≡ 0 → q.log ≡ 1 → Earlier p q
-earlier_log p q e h = grind (arith, nat_tests)
+pub Earlier-log : (p q : Place) → p.log ≡ 0 → q.log ≡ 1 → Earlier p q
+Earlier-log p q e h = grind (arith, nat_tests)
 
 -- ---- the lines of a call
 
@@ -108,21 +108,21 @@ module _ (done : List Id) (pending came : List Instance) where
   abbrev left : Placed → Bool
   left p = not (is_among done p.instance.id)
 
-  pub call_in_order : IsSortedByPlace (call_lines done pending came)
-  call_in_order =
+  pub IsSortedByPlace-call : IsSortedByPlace (call_lines done pending came)
+  IsSortedByPlace-call =
       AreSortedBy-append (λ (p : Placed). p.place) (lines_from 0 1 pending)
       (lines_not_done done (lines_from 1 1 came)) (lines_in_order 0 1 pending)
       (filter_in_order left (lines_from 1 1 came) (lines_in_order 1 1 came))
-      (λ p q h k. earlier_log p.place q.place (from_line 0 1 pending p h).in_log
+      (λ p q h k. Earlier-log p.place q.place (from_line 0 1 pending p h).in_log
       (from_line 1 1 came q (Contains-from_filter left (lines_from 1 1 came) q k)).in_log)
 
   -- an instance that came and is not done
   abbrev IsNew : Instance → Type 0
   IsNew e = Contains came e × (¬ Contains done e.id)
 
-  pub from_call : (p : Placed) → Contains (call_lines done pending came) p
+  pub Contains-from_call : (p : Placed) → Contains (call_lines done pending came) p
       → Contains pending p.instance ⊎ IsNew p.instance
-  from_call p h =
+  Contains-from_call p h =
       elim (Contains-append_cases (lines_from 0 1 pending)
       (lines_not_done done (lines_from 1 1 came)) p h) [
         | inl old ↦ inl (from_line 0 1 pending p old).of
@@ -130,23 +130,23 @@ module _ (done : List Id) (pending came : List Instance) where
           (from_line 1 1 came p (Contains-from_filter left (lines_from 1 1 came) p new)).of,
           λ among. absurd (cc (
             passes-from_filter left (lines_from 1 1 came) p new,
-            ap not (among_true done p.instance.id among),
+            ap not (is_among-true done p.instance.id among),
           )),
         )
       ]
 
-  pub to_call : (e : Instance) → Contains pending e ⊎ IsNew e
+  pub Contains-to_call : (e : Instance) → Contains pending e ⊎ IsNew e
       → (p : Placed) × Contains (call_lines done pending came) p × (p.instance ≡ e)
-  to_call e (inl old) =
+  Contains-to_call e (inl old) =
       let p = line_of 0 1 pending e old in (
         p.0,
         Contains-append_left (lines_from 0 1 pending)
             (lines_not_done done (lines_from 1 1 came)) p.0 p.1,
         p.2,
       )
-  to_call e (inr new) =
+  Contains-to_call e (inr new) =
       let p = line_of 1 1 came e new.0 in
-      let passes : left p.0 ≡ true = ap not (not_among done p.0.instance.id
+      let passes : left p.0 ≡ true = ap not (is_among-false done p.0.instance.id
       (subst (λ (i : Instance). ¬ Contains done i.id) (sym p.2) new.1)) in (
         p.0,
         Contains-append_right (lines_from 0 1 pending)
@@ -157,27 +157,27 @@ module _ (done : List Id) (pending came : List Instance) where
 
   module _ (m : List Instance) (merged : IsMerged (call_lines done pending came) m) where
     -- the map has the pending instances, and those that came and are not done
-    pub merged_instances : (e : Instance) → Contains m e ↔ (Contains pending e ⊎ IsNew e)
-    merged_instances e = (
+    pub Contains-merged : (e : Instance) → Contains m e ↔ (Contains pending e ⊎ IsNew e)
+    Contains-merged e = (
       λ h. let p = merged.committed.given e h in
-          subst (λ (i : Instance). Contains pending i ⊎ IsNew i) p.2 (from_call p.0 p.1),
-      λ h. let p = to_call e h in subst (Contains m) p.2 (merged.committed.whole p.0 p.1),
+          subst (λ (i : Instance). Contains pending i ⊎ IsNew i) p.2 (Contains-from_call p.0 p.1),
+      λ h. let p = Contains-to_call e h in subst (Contains m) p.2 (merged.committed.whole p.0 p.1),
     )
 
-    pub merged_is_left : ((e : Instance) → Contains pending e → ¬ Contains done e.id)
+    pub Contains-merged_left : ((e : Instance) → Contains pending e → ¬ Contains done e.id)
         → (x : Id) → Contains (ids_of m) x → ¬ Contains done x
-    merged_is_left none x h =
+    Contains-merged_left none x h =
         let e = Contains-from_map (λ (i : Instance). i.id) m x h in
-        subst (λ (y : Id). ¬ Contains done y) e.2 (elim ((merged_instances e.0).0 e.1) [
+        subst (λ (y : Id). ¬ Contains done y) e.2 (elim ((Contains-merged e.0).0 e.1) [
           | inl old ↦ none e.0 old
           | inr new ↦ new.1
         ])
 
 -- ---- how many they are
 
-pub merged_are_few : (lines : List Placed) (m : List Instance) → IsMerged lines m
+pub length-merged : (lines : List Placed) (m : List Instance) → IsMerged lines m
     → length m ≤ max_instances
-merged_are_few lines m merged =
+length-merged lines m merged =
     let small = merged.small in
-    let same = named_ids_are_committed lines m small.0 merged.committed small.1 in
+    let same = ids_of-named lines m small.0 merged.committed small.1 in
     omega (arith, small.2, ap length same, length-map m (λ (e : Instance). e.id))

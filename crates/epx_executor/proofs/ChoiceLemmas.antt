@@ -7,7 +7,7 @@ use Rattle.epx_types.proofs.Common.{max_instances, DependsOn, Reaches, IsReady, 
 use Rattle.epx_types.proofs.Common.{Reaches-dependency, IsReady-reached, Contains-nil}
 use Rattle.epx_types.proofs.Common.{Contains-head, Contains-map, Contains-cons_cases}
 use Rattle.epx_types.proofs.Common.{Contains-from_map, Contains-remaining_iff, DependsOn-remaining}
-use Rattle.epx_types.proofs.Common.{is_among_cases}
+use Rattle.epx_types.proofs.Common.{is_among-cases}
 use Rattle.epx_types.specs.declared.id.Id.{Id}
 use Rattle.epx_executor.specs.inner.Choices.{AgreesWith, AreBlocked, AreFiledIn, IsBlockedIn}
 use Rattle.epx_executor.specs.inner.Choices.{IsChoice, IsNeededBy, IsSortedOut, IsUnion}
@@ -20,9 +20,9 @@ use Rattle.epx_executor.proofs.PartLemmas.{Reaches-more, remaining-part}
 
 module _ {X : Type 0} (P : X → Type 0) (xs : List X) (k : ℕ) where
   -- what holds of the elements before one and of that one
-  pub each_more : (d : X) → k < length xs → ((x : X) → Contains (take k xs) x → P x)
+  pub take-each_more : (d : X) → k < length xs → ((x : X) → Contains (take k xs) x → P x)
       → P (get_or xs k d) → (x : X) → Contains (take (k + 1) xs) x → P x
-  each_more d l before here x h =
+  take-each_more d l before here x h =
       elim (Contains-append_cases (take k xs) (get_or xs k d ∷ []) x
       (subst (λ (ys : List X). Contains ys x) (take_more xs k d l) h)) [
         | inl old ↦ before x old
@@ -33,15 +33,15 @@ module _ {X : Type 0} (P : X → Type 0) (xs : List X) (k : ℕ) where
       ]
 
   -- what holds of all elements before the end
-  pub each_all : length xs ≤ k → ((x : X) → Contains (take k xs) x → P x) → (x : X)
+  pub take-each_at_end : length xs ≤ k → ((x : X) → Contains (take k xs) x → P x) → (x : X)
       → Contains xs x → P x
-  each_all l before x h =
+  take-each_at_end l before x h =
       before x (subst (λ (ys : List X). Contains ys x) (sym (take_all k xs l)) h)
 
 module _ {X : Type 0} (xs ys : List X) (x : X) (is : ys ≡ xs ++ x ∷ []) where
   -- the elements of a list to which one was added
-  pub from_push : (y : X) → Contains ys y → Contains xs y ⊎ (x ≡ y)
-  from_push y h =
+  pub Contains-push_cases : (y : X) → Contains ys y → Contains xs y ⊎ (x ≡ y)
+  Contains-push_cases y h =
       elim (Contains-append_cases xs (x ∷ []) y (subst (λ (l : List X). Contains l y) is h)) [
         | inl old ↦ inl old
         | inr new ↦ elim (Contains-cons_cases x [] y new) [
@@ -50,8 +50,8 @@ module _ {X : Type 0} (xs ys : List X) (x : X) (is : ys ≡ xs ++ x ∷ []) wher
         ]
       ]
 
-  pub of_push : Contains ys x
-  of_push = subst (λ (l : List X). Contains l x) (sym is)
+  pub Contains-push : Contains ys x
+  Contains-push = subst (λ (l : List X). Contains l x) (sym is)
       (Contains-append_right xs (x ∷ []) x (Contains-head x []))
 
 -- ---- instances that came, as they are sorted out
@@ -204,7 +204,7 @@ module _ (done : List Id) (pending came m : List Instance) (filings : Filings)
       step_not_ready : (x y : Id) → Contains filings (x, y) → ¬ Contains ids x
           → ¬ IsReady left y
       step_not_ready x y h passed ready =
-          elim (is_among_cases (map (λ (f : Id × Id). f.0) filings) y) [
+          elim (is_among-cases (map (λ (f : Id × Id). f.0) filings) y) [
             | inl found ↦
                 let on = are.blocked y found.1 in
                 let way : IsBlockedBy filings x on.0 = record {
@@ -223,7 +223,7 @@ module _ (done : List Id) (pending came m : List Instance) (filings : Filings)
       ready_among : ((e : Instance) → Contains pending e → ¬ Contains done e.id) → (x : Id)
           → Contains (ids_of pending) x → IsReady left x → Contains ids x
       ready_among undone x h ready =
-          elim (is_among_cases ids x) [
+          elim (is_among-cases ids x) [
             | inl found ↦ found.1
             | inr none ↦
                 let e = Contains-from_map (λ (i : Instance). i.id) pending x h in

@@ -18,15 +18,16 @@ use Rattle.epx_laws.specs.ResumedRunLaws.{CanResume, run_on}
 use Rattle.epx_executor.specs.declared.choose.Choice.{Choice}
 use Rattle.epx_executor.specs.inner.Batches.{IsCallBatch}
 use Rattle.epx_executor.specs.inner.Choices.{IsPassedOver}
-use Rattle.epx_executor.proofs.CallLineLemmas.{merged_are_few, merged_instances}
-use Rattle.epx_executor.proofs.CallBatchLemmas.{is_pending}
-use Rattle.epx_executor.proofs.OrderedLemmas.{commands_found, few_ids}
+use Rattle.epx_executor.proofs.CallLineLemmas.{length-merged, Contains-merged}
+use Rattle.epx_executor.proofs.CallBatchLemmas.{Contains-pending}
+use Rattle.epx_executor.proofs.OrderedLemmas.{commands_in-remaining, length-ranked_ids}
 use Rattle.epx_executor.specs.CallLines.{call_lines}
 use Rattle.epx_executor.specs.Commits.{ExecutorView, IsCommit, AllWait, not_done}
 use Rattle.epx_executor.specs.ExecutorLaws.{IsSoundFor}
-use Rattle.epx_executor.proofs.RemainderLemmas.{Contains-not_done, from_not_done, rising_not_done}
-use Rattle.epx_executor.proofs.RemainderLemmas.{remaining-not_done, same_instances}
-use Rattle.epx_executor.proofs.RemainderLemmas.{remaining-twice, same_remaining}
+use Rattle.epx_executor.proofs.RemainderLemmas.{Contains-not_done, Contains-from_not_done}
+use Rattle.epx_executor.proofs.RemainderLemmas.{IsRising-not_done}
+use Rattle.epx_executor.proofs.RemainderLemmas.{remaining-not_done, IsRising-same_instances}
+use Rattle.epx_executor.proofs.RemainderLemmas.{remaining-twice, remaining-same}
 
 -- ---- nothing is left ready
 
@@ -56,30 +57,30 @@ none_ready done now other order rising ordered same x ready =
     (IsRising-remaining done other rising)
     (IsExecutionOrder-IsLawful (remaining done other) order ordered).only ordered.whole x twice))
 
-pub settled_after : (done now : List Id) (other : List Instance)
+pub AllWait-after : (done now : List Id) (other : List Instance)
     (order : List Ranked) (v : ExecutorView) → IsRising (ids_of other)
     → IsExecutionOrder (remaining done other) order
     → ((x : Id) → Contains now x ↔ (Contains done x ⊎ Contains (ranked_ids order) x))
     → v.done ≡ now → v.pending ≡ not_done now other → AllWait v
-settled_after done now other order v rising ordered same is left = record {
+AllWait-after done now other order v rising ordered same is left = record {
   rising = subst (λ (m : List Instance). IsRising (ids_of m)) (sym left)
-      (rising_not_done now other rising);
+      (IsRising-not_done now other rising);
   not_done = λ e h. subst (λ (ids : List Id). ¬ Contains ids e.id) (sym is)
-      (from_not_done now other e (subst (λ (m : List Instance). Contains m e) left h)).1;
+      (Contains-from_not_done now other e (subst (λ (m : List Instance). Contains m e) left h)).1;
   none_ready = λ x ready. none_ready done now other order rising ordered same x
       (subst (λ (m : List Instance). IsReady m x)
       (ap (remaining v.done) left ∙ ap (λ (ids : List Id). remaining ids (not_done now other)) is
       ∙ remaining-not_done now other) ready);
 }
 
-pub nothing_is_held_back : RemainingIsReadyAlike → (v : ExecutorView) → AllWait v
+pub IsReady-only_done : RemainingIsReadyAlike → (v : ExecutorView) → AllWait v
     → (all : List Instance) → IsRising (ids_of all)
     → ((e : Instance) → ¬ Contains v.done e.id → Contains all e ↔ Contains v.pending e)
     → ((x : Id) → Contains v.done x → IsReady all x) →
     (x : Id) → ¬ Contains v.done x → ¬ IsReady all x
-nothing_is_held_back alike v settled all rising same done x left ready =
+IsReady-only_done alike v settled all rising same done x left ready =
     settled.none_ready x (subst (λ (m : List Instance). IsReady m x)
-    (same_remaining v.done all v.pending rising settled.rising same)
+    (remaining-same v.done all v.pending rising settled.rising same)
     ((alike v.done all done x left).1 ready))
 
 -- ---- over a map that contains all that came
@@ -87,35 +88,35 @@ nothing_is_held_back alike v settled all rising same done x left ready =
 module _ (m came : List Instance) (before after : ExecutorView) (replies : List (Id × Reply))
     (sound : IsSoundFor m before) (has : HasRemaining m before.done came)
     (commit : IsCommit before came after replies) where
-  pub has_other : HasRemaining m before.done commit.other
-  has_other e h left =
-      elim ((merged_instances before.done before.pending came commit.other commit.merged e).0 h) [
+  pub HasRemaining-other : HasRemaining m before.done commit.other
+  HasRemaining-other e h left =
+      elim ((Contains-merged before.done before.pending came commit.other commit.merged e).0 h) [
         | inl old ↦ sound.has e old left
         | inr new ↦ has e new.0 left
       ]
 
-  pub can_resume : CanResume m before.done before.store commit.other
-  can_resume = record { rising = sound.rising; sound = sound.sound; has = has_other }
+  pub CanResume-other : CanResume m before.done before.store commit.other
+  CanResume-other = record { rising = sound.rising; sound = sound.sound; has = HasRemaining-other }
 
-  pub has_pending : HasRemaining m after.done after.pending
-  has_pending e h left =
-      let there = from_not_done after.done commit.other e
+  pub HasRemaining-pending : HasRemaining m after.done after.pending
+  HasRemaining-pending e h left =
+      let there = Contains-from_not_done after.done commit.other e
       (subst (λ (l : List Instance). Contains l e) commit.pending h) in
-      has_other e there.0 (λ old. there.1 ((commit.done e.id).1 (inl old)))
+      HasRemaining-other e there.0 (λ old. there.1 ((commit.done e.id).1 (inl old)))
 
 -- ---- a pair of two lists
 
 Some-same : {X : Type 0} (o : Option X) (x y : X) → o ≡ Some x → o ≡ Some y → x ≡ y
 Some-same o x y p q = cc (p, q)
 
-pub zip_at : {X Y : Type 0} (xs : List X) (ys : List Y) (i : ℕ) (x : X) (y : Y)
+pub slice_get-zip : {X Y : Type 0} (xs : List X) (ys : List Y) (i : ℕ) (x : X) (y : Y)
     → slice_get (zip xs ys) i ≡ Some (x, y) → (slice_get xs i ≡ Some x) × (slice_get ys i ≡ Some y)
-zip_at [] ys i x y h = absurd (cc h)
-zip_at (a ∷ xs) [] i x y h = absurd (cc h)
-zip_at (a ∷ xs) (b ∷ ys) zero x y h =
+slice_get-zip [] ys i x y h = absurd (cc h)
+slice_get-zip (a ∷ xs) [] i x y h = absurd (cc h)
+slice_get-zip (a ∷ xs) (b ∷ ys) zero x y h =
     let same : (a, b) ≡ (x, y) = Some-same (Some (a, b)) (a, b) (x, y) refl h in
     (ap (λ p. Some p.0) same, ap (λ p. Some p.1) same)
-zip_at (a ∷ xs) (b ∷ ys) (suc i) x y h = zip_at xs ys i x y h
+slice_get-zip (a ∷ xs) (b ∷ ys) (suc i) x y h = slice_get-zip xs ys i x y h
 
 -- ---- a batch that is executed is a commit
 
@@ -124,48 +125,48 @@ module _ (done : List Id) (c : Contents) (pending came : List Instance) (choice 
     (waiters : List Waiting) (now : List Id)
     (batch : IsCallBatch done pending came choice entries order positions waiters now) where
   old : (e : Instance) → Contains pending e → Contains batch.m e
-  old = is_pending done pending came choice entries order positions waiters now batch
+  old = Contains-pending done pending came choice entries order positions waiters now batch
 
-  pub settled_after_batch : (v : ExecutorView) → v.done ≡ now → v.pending ≡ not_done now batch.m
+  pub AllWait-after_batch : (v : ExecutorView) → v.done ≡ now → v.pending ≡ not_done now batch.m
       → AllWait v
-  settled_after_batch v is also =
-      settled_after done now batch.m order v batch.merged.committed.rising batch.ordered
+  AllWait-after_batch v is also =
+      AllWait-after done now batch.m order v batch.merged.committed.rising batch.ordered
       batch.done_now is also
 
-  pub few_after_batch : (left : List Instance) → left ≡ not_done now batch.m
+  pub length-after_batch : (left : List Instance) → left ≡ not_done now batch.m
       → length left ≤ max_instances
-  few_after_batch left is =
+  length-after_batch left is =
       let stays = λ (e : Instance). not (is_among now e.id) in
       omega (
         arith,
-        merged_are_few (call_lines done pending came) batch.m batch.merged,
+        length-merged (call_lines done pending came) batch.m batch.merged,
         length-filter stays batch.m,
         count_by-le-length stays batch.m,
         ap length is,
       )
 
   -- an entry of a pending Id is the pending one
-  pub agree_with_pending : (p e : Instance) → Contains pending p → Contains entries e
+  pub id-agrees_with_pending : (p e : Instance) → Contains pending p → Contains entries e
       → p.id ≡ e.id → p ≡ e
-  agree_with_pending p e h k same =
+  id-agrees_with_pending p e h k same =
       IsRising-same batch.m batch.merged.committed.rising p e (old p h) (batch.within e k) same
 
   -- what is pending after it
-  pub left_after : ((e : Instance) → Contains pending e → ¬ Contains done e.id)
+  pub not_done-after_batch : ((e : Instance) → Contains pending e → ¬ Contains done e.id)
       → (left : List Instance) → IsRising (ids_of left)
       → ((e : Instance) → Contains left e ↔ ((Contains pending e
       ⊎ (Contains entries e × (¬ Contains now e.id))) × (¬ Contains (ranked_ids order) e.id)))
       → left ≡ not_done now batch.m
-  left_after none left rising same =
-      same_instances left (not_done now batch.m) rising
-      (rising_not_done now batch.m batch.merged.committed.rising) (λ e. (
+  not_done-after_batch none left rising same =
+      IsRising-same_instances left (not_done now batch.m) rising
+      (IsRising-not_done now batch.m batch.merged.committed.rising) (λ e. (
         λ h. let k = (same e).0 h in elim k.0 [
           | inl before ↦ Contains-not_done now batch.m e (old e before) (λ there.
               elim ((batch.done_now e.id).0 there)
               [ inl d ↦ none e before d | inr new ↦ k.1 new ])
           | inr new ↦ Contains-not_done now batch.m e (batch.within e new.0) new.1
         ],
-        λ h. let k = from_not_done now batch.m e h in (same e).1 (
+        λ h. let k = Contains-from_not_done now batch.m e h in (same e).1 (
           elim (batch.whole e k.0) [
             | inl over ↦ inl (passed_over choice e over)
             | inr there ↦ inr (there, k.1)
@@ -182,16 +183,16 @@ module _ (done : List Id) (c : Contents) (pending came : List Instance) (choice 
   -- the commands at the positions are those of the order
   module _ (os : List (List Op))
       (at : os ≡ map (λ (p : Id × ℕ). ops_or_empty (slice_get entries p.1)) positions) where
-    pub length_of_batch : length os ≡ length (ranked_ids order)
-    length_of_batch = ap length (at ∙ batch.found)
+    pub length-batch : length os ≡ length (ranked_ids order)
+    length-batch = ap length (at ∙ batch.found)
         ∙ length-map (ranked_ids order) (λ x. ops_or_empty (instance_of batch.m x))
 
-    pub few_in_batch : length os ≤ 2 ^ 40
-    few_in_batch = omega (
+    pub length-few_in_batch : length os ≤ 2 ^ 40
+    length-few_in_batch = omega (
       arith,
-      length_of_batch,
-      few_ids done batch.m order batch.ordered
-          (merged_are_few (call_lines done pending came) batch.m batch.merged),
+      length-batch,
+      length-ranked_ids done batch.m order batch.ordered
+          (length-merged (call_lines done pending came) batch.m batch.merged),
     )
 
     pub IsCommit-batch : (d : Contents) → d ≡ c → (final : Contents)
@@ -202,7 +203,7 @@ module _ (done : List Id) (c : Contents) (pending came : List Instance) (choice 
     IsCommit-batch d is final replies left last replied stay =
         let same : execute os d ≡ run_on done c batch.m order =
         ap (execute os) is ∙ ap (λ ks. execute ks c)
-        (at ∙ batch.found ∙ commands_found done batch.m order batch.ordered) in
+        (at ∙ batch.found ∙ commands_in-remaining done batch.m order batch.ordered) in
         record {
           other = batch.m;
           order = order;

@@ -12,7 +12,7 @@ use Rattle.epx_executor.specs.inner.Choices.{AreFiledIn, CanRefile, IsBlockedIn,
 use Rattle.epx_executor.specs.inner.Choices.{IsPassedOver, IsRefiled}
 use Rattle.epx_executor.specs.inner.Filings.{Filings}
 use Rattle.epx_executor.proofs.FilingLemmas.{IsFiled-under}
-use Rattle.epx_executor.proofs.CallBatchLemmas.{IsUnion-merged, is_pending}
+use Rattle.epx_executor.proofs.CallBatchLemmas.{IsUnion-merged, Contains-pending}
 use Rattle.epx_executor.proofs.PartLemmas.{Reaches-left, Reaches-more, remaining-part}
 use Rattle.epx_executor.proofs.RemainderLemmas.{remaining-twice}
 
@@ -85,7 +85,7 @@ can_refile : (done : List Id) (pending came : List Instance) (c : Choice)
 can_refile done pending came c entries order positions waiters now batch filings filed choice =
     let union = IsUnion-merged done pending came batch.m batch.merged in
     let old : (e : Instance) → Contains pending e → Contains batch.m e =
-    is_pending done pending came (Some c) entries order positions waiters now batch in
+    Contains-pending done pending came (Some c) entries order positions waiters now batch in
     let after : (x z : Id) → IsBlockedIn (remaining done batch.m) x z
     → IsCommitted (remaining now batch.m) x × Reaches (remaining now batch.m) x z =
     blocked_after done pending came (Some c) entries order positions waiters now batch in
@@ -134,22 +134,26 @@ IsChoiceOf done pending came before choice = IfSome choice (λ c. (filings : Fil
     × IsChoice done pending came filings c.ids.items c.blocked.items)
 
 -- exactly what waits after a call is filed after it
-pub filed_after : (before : Option Filings) (choice : Option Choice) (done : List Id)
+pub AreFiledIn-after : (before : Option Filings) (choice : Option Choice) (done : List Id)
     (pending came : List Instance) (entries : List Instance) (order : List Ranked)
     (positions : List (Id × ℕ)) (waiters : List Waiting) (now : List Id)
     (batch : IsCallBatch done pending came choice entries order positions waiters now)
     → IfSome before (AreFiledIn (remaining done pending))
     → IsChoiceOf done pending came before choice → (filings : Filings)
     → IsRefiled before choice waiters filings → AreFiledIn (remaining now batch.m) filings
-filed_after None None done pending came entries order positions waiters now batch filed is f h =
+AreFiledIn-after None None done pending came entries order positions waiters now batch filed is f
+    h =
     h (remaining now batch.m) (can_file_all done pending came None entries order positions waiters
     now batch (λ e over. over))
-filed_after None (Some c) done pending came entries order positions waiters now batch filed is f h =
+AreFiledIn-after None (Some c) done pending came entries order positions waiters now batch filed is
+    f h =
     absurd (cc is.1)
-filed_after (Some b) None done pending came entries order positions waiters now batch filed is f h =
+AreFiledIn-after (Some b) None done pending came entries order positions waiters now batch filed is
+    f h =
     h (remaining now batch.m) (can_file_all done pending came None entries order positions waiters
     now batch (λ e over. over))
-filed_after (Some b) (Some c) done pending came entries order positions waiters now batch filed is f
+AreFiledIn-after (Some b) (Some c) done pending came entries order positions waiters now batch filed
+    is f
     h =
     let same : is.0 ≡ b = cc is.1 in
     h (remaining now batch.m) (can_refile done pending came c entries order positions waiters now

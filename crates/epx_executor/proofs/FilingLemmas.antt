@@ -5,7 +5,8 @@ use Rattle.std.proofs.Common.{arith, false}
 use Rattle.epx_types.proofs.Common.{eq_by_cmp, keys_of, cases_Bool, get_or_default}
 use Rattle.std.specs.List.{IsDistinct}
 use Rattle.epx_types.proofs.Common.{Contains-from_any, list_any-from_Contains, id_cmp, Id-cases}
-use Rattle.epx_types.proofs.Common.{id_cmp_total, id_cmp-IsAntisymmetric, Contains-cons_cases}
+use Rattle.epx_types.proofs.Common.{id_cmp-IsTotalOrder, id_cmp-IsAntisymmetric}
+use Rattle.epx_types.proofs.Common.{Contains-cons_cases}
 use Rattle.epx_types.proofs.Common.{Contains-map, Contains-from_map, Contains-nil}
 use Rattle.epx_types.specs.declared.id.Id.{Id}
 use Rattle.std.specs.Cmp.{eq_by_cmp_equiv}
@@ -23,9 +24,9 @@ pub IsFiled-under : (filings : Filings) (x y : Id) → Contains filings (x, y) �
 IsFiled-under filings x y h = Contains-map (λ (f : Id × Id). f.0) filings (x, y) h
 
 -- the Id under which an instance is filed
-pub filed_under : (filings : Filings) (x : Id) → IsFiled filings x
+pub Contains-filed_under : (filings : Filings) (x : Id) → IsFiled filings x
     → (y : Id) × Contains filings (x, y)
-filed_under filings x h =
+Contains-filed_under filings x h =
     let r = Contains-from_map (λ (f : Id × Id). f.0) filings x h in
     (r.0.1, subst (λ (w : Id). Contains filings (w, r.0.1)) r.2 r.1)
 
@@ -33,7 +34,7 @@ pub IsFiled-more : (filings more : Filings)
     → ((x y : Id) → Contains filings (x, y) → Contains more (x, y)) → (x : Id)
     → IsFiled filings x → IsFiled more x
 IsFiled-more filings more whole x h =
-    let r = filed_under filings x h in
+    let r = Contains-filed_under filings x h in
     IsFiled-under more x r.0 (whole x r.0 r.1)
 
 -- ---- ways
@@ -69,11 +70,11 @@ IsBehind-more filings more whole x y h =
     (h.0, IsWay-more filings more whole x h.0 y h.1)
 
 -- a set of Ids with all that is filed under its members has all that waits behind them
-pub closed_under_behind : (filings : Filings) (P Q : Id → Type 0)
+pub IsBehind-closed : (filings : Filings) (P Q : Id → Type 0)
     → ((x y : Id) → Contains filings (x, y) → Q y → P x)
     → ((x y : Id) → Contains filings (x, y) → P y → P x)
     → (x y : Id) → Q y → IsBehind filings x y → P x
-closed_under_behind filings P Q first more x y q h = by x h.0 h.1 where
+IsBehind-closed filings P Q first more x y q h = by x h.0 h.1 where
   by : (x : Id) (via : List Id) → IsWay filings x via y → P x
   by x [] way = first x y way q
   by x (z ∷ via) way = more x z way.0 (by z via way.1)
@@ -104,7 +105,7 @@ module _ (old new : Filings) (id under : Id) (not_filed : ¬ IsFiled old id)
   ]
 
   added_filed : (x : Id) → IsFiled new x → IsFiled old x ⊎ (x ≡ id)
-  added_filed x h = let r = filed_under new x h in elim ((filed x r.0).0 r.1) [
+  added_filed x h = let r = Contains-filed_under new x h in elim ((filed x r.0).0 r.1) [
     | inl p ↦ inl (IsFiled-under old x r.0 p)
     | inr p ↦ inr p.0
   ]
@@ -160,7 +161,7 @@ module _ (old new : Filings) (id : Id)
     (left : (x y : Id) → Contains new (x, y) ↔ (Contains old (x, y) × ¬ (x ≡ id)))
     (are : AreFilings old) where
   left_free : ¬ IsFiled new id
-  left_free h = let r = filed_under new id h in ((left id r.0).0 r.1).1 refl
+  left_free h = let r = Contains-filed_under new id h in ((left id r.0).0 r.1).1 refl
 
   left_filed : (x : Id) → IsFiled new x → IsFiled old x
   left_filed = IsFiled-more new old (λ x y h. ((left x y).0 h).0)
@@ -199,7 +200,7 @@ module _ (old new : Filings) (id : Id)
   AreFilings-left = record {
     once = λ x y z h k. are.once x y z ((left x y).0 h).0 ((left x z).0 k).0;
     blocked = λ x h.
-        let under = filed_under new x h in
+        let under = Contains-filed_under new x h in
         let r = are.blocked x (left_filed x h) in
         left_way x r.1.behind.0 r.0 ((left x under.0).0 under.1).1 r.1.behind.1 r.1.last;
   }
@@ -223,8 +224,8 @@ pub length-le_from_filed : (filings : Filings) (ids : List Id) → IsDistinct (e
     → ((x : Id) → Contains ids x → IsFiled filings x) → length ids ≤ length filings
 length-le_from_filed filings ids distinct filed =
     let le : length ids ≤ length (keys_of filings) =
-    length-le_from_is_member (eq_by_cmp_equiv id_cmp_total) ids (keys_of filings) distinct
-    (λ q h. list_any-from_Contains (eq_by_cmp_equiv id_cmp_total) q (keys_of filings)
+    length-le_from_is_member (eq_by_cmp_equiv id_cmp-IsTotalOrder) ids (keys_of filings) distinct
+    (λ q h. list_any-from_Contains (eq_by_cmp_equiv id_cmp-IsTotalOrder) q (keys_of filings)
     (filed q (Contains-from_any (tells_apart id_cmp-IsAntisymmetric) q ids h))) in
     omega (arith, le, length-keys_of filings)
 

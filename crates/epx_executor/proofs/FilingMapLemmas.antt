@@ -6,25 +6,25 @@ use Rattle.std.specs.List.{items_where_true}
 use Rattle.std.specs.List.Retain.{IsFiltered, ReturnsInTurn}
 use Rattle.std.specs.Option.{MatchOption, is_some}
 use Rattle.epx_types.proofs.Common.{BTreeMap, IsOrdered, get, is_at, cases_Bool, id_cmp, Id-cases}
-use Rattle.epx_types.proofs.Common.{id_cmp_total, id_cmp-IsAntisymmetric, Contains-nil}
+use Rattle.epx_types.proofs.Common.{id_cmp-IsTotalOrder, id_cmp-IsAntisymmetric, Contains-nil}
 use Rattle.epx_types.proofs.Common.{Contains-head, Contains-cons, Contains-cons_cases}
 use Rattle.epx_types.specs.declared.id.Id.{Id}
 use Rattle.std.specs.BTreeMap.{Updates}
 use Rattle.std.proofs.lemmas.Map.Views.{btree_map_get_iff, tells_apart}
 use Rattle.epx_executor.specs.inner.Filings.{AreListedUnder, Filings, IsFiled, IsListed}
-use Rattle.epx_executor.proofs.FilingLemmas.{IsFiled-under, filed_under}
+use Rattle.epx_executor.proofs.FilingLemmas.{IsFiled-under, Contains-filed_under}
 
 -- ---- what a map of the filings holds
 
 pub Contains-from_get : (m : BTreeMap Id Id) → IsOrdered id_cmp m → (x y : Id)
     → get id_cmp m x ≡ Some y → Contains m.entries (x, y)
 Contains-from_get m order x y =
-    (btree_map_get_iff id_cmp_total id_cmp-IsAntisymmetric m order x y).0
+    (btree_map_get_iff id_cmp-IsTotalOrder id_cmp-IsAntisymmetric m order x y).0
 
 pub get-from_Contains : (m : BTreeMap Id Id) → IsOrdered id_cmp m → (x y : Id)
     → Contains m.entries (x, y) → get id_cmp m x ≡ Some y
 get-from_Contains m order x y =
-    (btree_map_get_iff id_cmp_total id_cmp-IsAntisymmetric m order x y).1
+    (btree_map_get_iff id_cmp-IsTotalOrder id_cmp-IsAntisymmetric m order x y).1
 
 some-injective : {X : Type 0} (v w : X) → Some v ≡ Some w → v ≡ w
 some-injective v w e = cc e
@@ -35,7 +35,7 @@ none-not_some v e = cc e
 pub not_filed-from_get : (m : BTreeMap Id Id) → IsOrdered id_cmp m → (x : Id)
     → None ≡ get id_cmp m x → ¬ IsFiled m.entries x
 not_filed-from_get m order x none h =
-    let r = filed_under m.entries x h in
+    let r = Contains-filed_under m.entries x h in
     none-not_some r.0 (none ∙ get-from_Contains m order x r.0 r.1)
 
 -- another Id is not at this one

@@ -7,13 +7,14 @@ use Rattle.std.specs.BTreeSet.{BTreeSet}
 use Rattle.epx_types.proofs.Common.{append-nil, append_assoc, length-append, take-append-le}
 use Rattle.epx_types.proofs.Common.{take_all, take_more, Contains-append_cases}
 use Rattle.epx_types.proofs.Common.{Contains-append_left, Contains-append_right, id_cmp, Id-cases}
-use Rattle.epx_types.proofs.Common.{id_cmp_total, id_cmp-IsAntisymmetric, Contains-cons_cases}
+use Rattle.epx_types.proofs.Common.{id_cmp-IsTotalOrder, id_cmp-IsAntisymmetric}
+use Rattle.epx_types.proofs.Common.{Contains-cons_cases}
 use Rattle.epx_types.proofs.Common.{Contains-head, Contains-nil}
 use Rattle.epx_types.specs.declared.id.Id.{Id}
 use Rattle.std.proofs.lemmas.Map.Keys.{IsDistinct-from_sorted}
 use Rattle.std.proofs.lemmas.Map.Views.{btree_set_contains_iff}
 use Rattle.epx_executor.specs.inner.Filings.{AreAppended, AreSeen, Filings, IsBehind, IsFiled}
-use Rattle.epx_executor.proofs.FilingLemmas.{IsFiled-under, closed_under_behind}
+use Rattle.epx_executor.proofs.FilingLemmas.{IsFiled-under, IsBehind-closed}
 use Rattle.epx_executor.proofs.FilingLemmas.{length-le_from_filed}
 use Rattle.epx_executor.proofs.FilingMapLemmas.{is_at-apart}
 
@@ -26,11 +27,11 @@ module _ (seen more : BTreeSet Id) (found : List Id) (id : Id) (are : AreSeen se
       → ¬ (x ≡ id) → Contains seen.keys x
   seen_before updates x h apart =
       let is : IsTrue (sorted.contains id_cmp more x) =
-      (btree_set_contains_iff id_cmp_total id_cmp-IsAntisymmetric more x).1 h in
+      (btree_set_contains_iff id_cmp-IsTotalOrder id_cmp-IsAntisymmetric more x).1 h in
       let same : sorted.contains id_cmp more x ≡ sorted.contains id_cmp seen x =
       updates.0 x ∙ ap (λ (b : Bool). cond b true (sorted.contains id_cmp seen x))
       (is_at-apart id x apart) in
-      (btree_set_contains_iff id_cmp_total id_cmp-IsAntisymmetric seen x).0 (sym same ∙ is)
+      (btree_set_contains_iff id_cmp-IsTotalOrder id_cmp-IsAntisymmetric seen x).0 (sym same ∙ is)
 
   pub AreSeen-more : sorted.Updates id_cmp seen more id true
       → length more.keys ≡ length seen.keys + 1 → AreSeen more (found ++ id ∷ [])
@@ -52,7 +53,7 @@ true-from_not false c e f = absurd (cc (e, f))
 pub Contains-seen : (seen : BTreeSet Id) (found : List Id) (x : Id) → AreSeen seen found
     → sorted.contains id_cmp seen x ≡ true → Contains found x
 Contains-seen seen found x are h =
-    are.same x ((btree_set_contains_iff id_cmp_total id_cmp-IsAntisymmetric seen x).0 h)
+    are.same x ((btree_set_contains_iff id_cmp-IsTotalOrder id_cmp-IsAntisymmetric seen x).0 h)
 
 -- what is found is at most as much as what is filed
 pub length-le_from_found : (filings : Filings) (seen : BTreeSet Id) (found : List Id)
@@ -245,10 +246,10 @@ module _ (filings : Filings) (ids : List Id) where
         ∙ take-append-le (next + 1) found more.more (omega (arith, within))
 
   -- where nothing is left to look at
-  pub whole_from_searched : (found : List Id) (next : ℕ) → length found ≤ next
+  pub Contains-behind_found : (found : List Id) (next : ℕ) → length found ≤ next
       → IsSearched filings ids found next → (x y : Id) → Contains ids y → IsBehind filings x y
       → Contains found x
-  whole_from_searched found next end are =
-      closed_under_behind filings (Contains found) (Contains ids)
+  Contains-behind_found found next end are =
+      IsBehind-closed filings (Contains found) (Contains ids)
       are.first (λ x y h k. are.later x y h
       (subst (λ (xs : List Id). Contains xs y) (sym (take_all next found end)) k))

@@ -4,11 +4,11 @@ use Rattle.epx_types.proofs.Common.{IsRising, Instance, ids_of, instance_of, ops
 use Rattle.epx_types.proofs.Common.{commands_in, IsCommitted, is_among, without_deps, remaining}
 use Rattle.epx_types.proofs.Common.{DependsOn, IsPath, Reaches, IsReady, InOneComponent, Descends}
 use Rattle.epx_types.proofs.Common.{Ranked, IsRanked, IsExecutionOrder, IsRising-same}
-use Rattle.epx_types.proofs.Common.{instance_of-found, instance_of-finds, instance_of_iff}
+use Rattle.epx_types.proofs.Common.{instance_of-found, instance_of-finds, instance_of-iff_contains}
 use Rattle.epx_types.proofs.Common.{IsCommitted-from_Contains, Reaches-refl, Reaches-trans}
 use Rattle.epx_types.proofs.Common.{Reaches-dependency, Reaches-passes, IsReady-reached}
 use Rattle.epx_types.proofs.Common.{Contains-map, Contains-from_map, Contains-filter, map-agree}
-use Rattle.epx_types.proofs.Common.{DependsOn-remaining, from_remaining}
+use Rattle.epx_types.proofs.Common.{DependsOn-remaining, remaining-from_map}
 use Rattle.epx_types.specs.declared.id.Id.{Id}
 use Rattle.epx_executor.specs.Commits.{not_done}
 
@@ -32,7 +32,7 @@ pub remaining-part : (done : List Id) (m part : List Instance)
     → ((e : Instance) → Contains part e → Contains m e)
     → (e : Instance) → Contains (remaining done part) e → Contains (remaining done m) e
 remaining-part done m part within e h =
-    let d = from_remaining done part e h in
+    let d = remaining-from_map done part e h in
     subst (Contains (remaining done m)) d.3
     (Contains-map (without_deps done) (not_done done m) d.0
     (Contains-filter (λ (i : Instance). not (is_among done i.id)) m d.0 (within d.0 d.1)
@@ -179,4 +179,5 @@ commands_in-part m part rising rising' within ids in_part =
         let found = instance_of-finds part e.0 e.1 in
         let known = instance_of-found part e.0.id found.0 found.1 in
         ap (instance_of part) (sym e.2) ∙ found.1
-        ∙ sym ((instance_of_iff m rising x found.0).1 (within found.0 known.0, known.1 ∙ e.2))
+        ∙ sym ((instance_of-iff_contains m rising x found.0).1
+        (within found.0 known.0, known.1 ∙ e.2))

@@ -5,7 +5,8 @@ use Rattle.epx_types.proofs.Common.{length-map, length-append, Contains-append_c
 use Rattle.epx_types.proofs.Common.{Contains-append_left, Contains-append_right, IsRising, Instance}
 use Rattle.epx_types.proofs.Common.{max_instances, Placed, Agree, Differ, IsFirstDisagreement}
 use Rattle.epx_types.proofs.Common.{ids_of, IsRising-same, IsFirstDisagreement-not_Agree}
-use Rattle.epx_types.proofs.Common.{Contains-nil, Contains-map, rising_once, fewer}
+use Rattle.epx_types.proofs.Common.{Contains-nil, Contains-map, AllPairs-rising_distinct}
+use Rattle.epx_types.proofs.Common.{length-at_most}
 use Rattle.epx_types.specs.declared.id.Id.{Id}
 use Rattle.epx_types.specs.declared.fault.Fault.{Fault}
 use Rattle.epx_types.specs.declared.fault.Fault.TheVariants.{TooManyLogs, LogTooLong, BadLine}
@@ -13,10 +14,11 @@ use Rattle.epx_types.specs.declared.fault.Fault.TheVariants.{TooManyInstances, D
 use Rattle.epx_types.specs.declared.fault.Fault.TheVariants.{BadBase, Memory, Write}
 use Rattle.epx_committed.specs.InstanceCounts.{AreNamedBy, FewInstances, ManyInstances}
 use Rattle.epx_committed.specs.MergedLines.{IsMerged, IsMergeFault}
-use Rattle.epx_committed.proofs.InstanceCountLemmas.{few_or_many}
-use Rattle.epx_committed.proofs.MergedLinesLemmas.{merged_or_fault}
+use Rattle.epx_committed.proofs.InstanceCountLemmas.{FewInstances-or_many}
+use Rattle.epx_committed.proofs.MergedLinesLemmas.{IsMerged-or_fault}
 use Rattle.epx_executor.specs.CallLines.{call_lines, lines_from, lines_not_done}
-use Rattle.epx_executor.proofs.CallLineLemmas.{call_in_order, from_call, merged_instances}
+use Rattle.epx_executor.proofs.CallLineLemmas.{IsSortedByPlace-call, Contains-from_call}
+use Rattle.epx_executor.proofs.CallLineLemmas.{Contains-merged}
 
 -- rising Ids are distinct
 module _ (done : List Id) (pending part came : List Instance) (rising : IsRising (ids_of pending))
@@ -43,7 +45,7 @@ module _ (done : List Id) (pending part came : List Instance) (rising : IsRising
 
   new_came : (p : Placed) → Contains new_lines p
       → Contains came p.instance × (¬ Contains done p.instance.id)
-  new_came p h = elim (from_call done [] came p h)
+  new_came p h = elim (Contains-from_call done [] came p h)
       [ inl none ↦ absurd (Contains-nil p.instance none) | inr new ↦ new ]
 
   -- ---- the lines of some pending instances
@@ -58,7 +60,8 @@ module _ (done : List Id) (pending part came : List Instance) (rising : IsRising
     few_named ids named = omega (
       arith,
       few,
-      fewer ids (ids_of pending ++ ids_of came) (rising_once ids named.rising) known,
+      length-at_most ids (ids_of pending ++ ids_of came) (AllPairs-rising_distinct ids named.rising)
+          known,
       length-append (ids_of pending) (ids_of came),
       length-map pending (λ (e : Instance). e.id),
       length-map came (λ (e : Instance). e.id),
@@ -68,7 +71,7 @@ module _ (done : List Id) (pending part came : List Instance) (rising : IsRising
           let p = named.named x h in
           let e = p.0.instance in
           subst (Contains (ids_of pending ++ ids_of came)) p.2
-          (elim (from_call done some came p.0 p.1) [
+          (elim (Contains-from_call done some came p.0 p.1) [
             | inl old ↦ Contains-append_left (ids_of pending) (ids_of came) e.id
                 (Contains-map (λ (i : Instance). i.id) pending e (among e old))
             | inr new ↦ Contains-append_right (ids_of pending) (ids_of came) e.id
@@ -82,7 +85,7 @@ module _ (done : List Id) (pending part came : List Instance) (rising : IsRising
     old_or_new p h =
         elim (Contains-append_cases (lines_from 0 1 some) new_lines p h) [
           | inr new ↦ inr new
-          | inl old ↦ elim (from_call done some [] p
+          | inl old ↦ elim (Contains-from_call done some [] p
               (Contains-append_left (lines_from 0 1 some) [] p old)) [
                 | inl there ↦ inl there
                 | inr none ↦ absurd (Contains-nil p.instance none.0)
@@ -145,8 +148,8 @@ module _ (done : List Id) (pending part came : List Instance) (rising : IsRising
     all_instances : (m : List Instance) → IsMerged all_lines m → (e : Instance)
         → Contains m e ↔ (Contains pending e ⊎ Contains s e)
     all_instances m whole e =
-        let of_all = merged_instances done pending came m whole e in
-        let of_part = merged_instances done part came s merged e in (
+        let of_all = Contains-merged done pending came m whole e in
+        let of_part = Contains-merged done part came s merged e in (
           λ h. elim (of_all.0 h)
               [ inl old ↦ inl old | inr new ↦ inr (of_part.1 (inr new)) ],
           λ h. elim h [
@@ -157,10 +160,10 @@ module _ (done : List Id) (pending part came : List Instance) (rising : IsRising
         )
 
     -- all lines commit the pending instances, and what the lines with the part commit
-    pub merged_with_all : (m : List Instance) × IsMerged all_lines m
+    pub IsMerged-with_all : (m : List Instance) × IsMerged all_lines m
         × ((e : Instance) → Contains m e ↔ (Contains pending e ⊎ Contains s e))
-    merged_with_all =
-        elim (merged_or_fault all_lines (call_in_order done pending came)) [
+    IsMerged-with_all =
+        elim (IsMerged-or_fault all_lines (IsSortedByPlace-call done pending came)) [
           | inl m ↦ (m.0, m.1, all_instances m.0 m.1)
           | inr f ↦ absurd (no_fault f.0 f.1 f.2)
         ]
@@ -168,7 +171,7 @@ module _ (done : List Id) (pending part came : List Instance) (rising : IsRising
   -- ---- the fault of all lines
 
   all_few : FewInstances all_lines
-  all_few = elim (few_or_many all_lines)
+  all_few = elim (FewInstances-or_many all_lines)
       [ inl small ↦ small | inr many ↦ absurd (not_many pending itself many) ]
 
   module _ (id : Id) (first second : Placed)
@@ -207,15 +210,15 @@ module _ (done : List Id) (pending part came : List Instance) (rising : IsRising
     }
 
   -- a fault of the lines with the part is one of all lines
-  pub fault_with_all : (f : Fault) → IsMergeFault part_lines f → IsMergeFault all_lines f
-  fault_with_all Memory h = tt
-  fault_with_all TooManyInstances h = absurd (not_many part within h)
-  fault_with_all (Disagree id first second) h =
+  pub IsMergeFault-with_all : (f : Fault) → IsMergeFault part_lines f → IsMergeFault all_lines f
+  IsMergeFault-with_all Memory h = tt
+  IsMergeFault-with_all TooManyInstances h = absurd (not_many part within h)
+  IsMergeFault-with_all (Disagree id first second) h =
       let d = h.1 in
       (all_few, (d.0, d.1, first_of_all id d.0 d.1 d.2, d.3, d.4))
-  fault_with_all TooManyLogs h = h
-  fault_with_all (LogTooLong log) h = h
-  fault_with_all (BadLine place why) h = h
-  fault_with_all (Read log) h = h
-  fault_with_all Write h = h
-  fault_with_all (BadBase line) h = h
+  IsMergeFault-with_all TooManyLogs h = h
+  IsMergeFault-with_all (LogTooLong log) h = h
+  IsMergeFault-with_all (BadLine place why) h = h
+  IsMergeFault-with_all (Read log) h = h
+  IsMergeFault-with_all Write h = h
+  IsMergeFault-with_all (BadBase line) h = h

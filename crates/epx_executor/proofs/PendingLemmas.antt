@@ -8,9 +8,10 @@ use Rattle.epx_types.proofs.Common.{cases_Bool, take_all, take_more, take-append
 use Rattle.epx_types.proofs.Common.{Contains-append_left, Contains-append_right}
 use Rattle.epx_types.proofs.Common.{Contains-append_cases, is_at, Equal-is, lookup, is_eq}
 use Rattle.epx_types.proofs.Common.{match_ordering, ids_of, id_cmp, Below, BelowAll, IsRising}
-use Rattle.epx_types.proofs.Common.{Instance, IsRising-same, id_cmp_total, id_cmp-IsAntisymmetric}
+use Rattle.epx_types.proofs.Common.{Instance, IsRising-same, id_cmp-IsTotalOrder}
+use Rattle.epx_types.proofs.Common.{id_cmp-IsAntisymmetric}
 use Rattle.epx_types.proofs.Common.{Contains-nil, Contains-head, Contains-cons, Contains-cons_cases}
-use Rattle.epx_types.proofs.Common.{Contains-map, below_irrefl}
+use Rattle.epx_types.proofs.Common.{Contains-map, is_lt-irrefl}
 use Rattle.epx_types.specs.declared.id.Id.{Id}
 use Rattle.std.specs.BTreeMap.{insert_entry}
 use Rattle.std.specs.Cmp.{tied_itself}
@@ -78,43 +79,46 @@ none_at x (p ∷ es) k h there =
       | inr later ↦ elim (Contains-cons_cases p.1.id (ids_of (values es)) x there) [
         | inl same ↦
             let tie : id_cmp x p.0 ≡ Equal =
-            ap (id_cmp x) (keyed_head p es k ∙ same) ∙ tied_itself id_cmp_total x in
+            ap (id_cmp x) (keyed_head p es k ∙ same) ∙ tied_itself id_cmp-IsTotalOrder x in
             absurd (cc (ap is_eq tie, later))
         | inr rest ↦ none_at x es (keyed_tail p es k) (rw later at h) rest
       ]
     ]
 
-pub looked_up : (x : Id) (es : List (Id × Instance)) (m : List Instance) (r : Option (Bor Instance))
+pub MatchOption-looked_up : (x : Id) (es : List (Id × Instance)) (m : List Instance)
+    (r : Option (Bor Instance))
     → AreKeyed es → values es ≡ m → option_copied r ≡ lookup (is_at (id_cmp x)) es
     → MatchOption r (¬ Contains (ids_of m) x) (λ e. Contains m e.now × (e.now.id ≡ x))
-looked_up x es m None k is h =
+MatchOption-looked_up x es m None k is h =
     subst (λ (l : List Instance). ¬ Contains (ids_of l) x) is (none_at x es k (sym h))
-looked_up x es m (Some e) k is h =
+MatchOption-looked_up x es m (Some e) k is h =
     let found = found_at x es e.now k (sym h) in
     (subst (λ (l : List Instance). Contains l e.now) is found.0, found.1)
 
-pub only_looked_up : (x : Id) (es : List (Id × Instance)) (m : List Instance)
+pub IfSome-only_looked_up : (x : Id) (es : List (Id × Instance)) (m : List Instance)
     (r : Option (Bor Instance)) → AreKeyed es → IsRising (keys es) → values es ≡ m
     → MatchOption r (¬ Contains (ids_of m) x) (λ e. Contains m e.now × (e.now.id ≡ x))
     → IfSome r (λ e. (p : Instance) → Contains m p → p.id ≡ x → p ≡ e.now)
-only_looked_up x es m None k rising is h = tt
-only_looked_up x es m (Some e) k rising is h = λ p there same.
+IfSome-only_looked_up x es m None k rising is h = tt
+IfSome-only_looked_up x es m (Some e) k rising is h = λ p there same.
     IsRising-same m (subst IsRising (k ∙ ap ids_of is) rising) p e.now there h.0 (same ∙ sym h.1)
 
 -- a look-up of the Id of v finds none, or one
-pub none_found : (m : List Instance) (x : Id) (v : Instance) (r : Option (Bor Instance)) (b : Bool)
+pub Contains-none_found : (m : List Instance) (x : Id) (v : Instance) (r : Option (Bor Instance))
+    (b : Bool)
     → x ≡ v.id → is_some r ≡ not b → b ≡ true
     → MatchOption r (¬ Contains (ids_of m) x) (λ e. Contains m e.now × (e.now.id ≡ x))
     → ¬ Contains (ids_of m) v.id
-none_found m x v None b same e is h = subst (λ (y : Id). ¬ Contains (ids_of m) y) same h
-none_found m x v (Some f) b same e is h = absurd (cc (e, ap not is))
+Contains-none_found m x v None b same e is h = subst (λ (y : Id). ¬ Contains (ids_of m) y) same h
+Contains-none_found m x v (Some f) b same e is h = absurd (cc (e, ap not is))
 
-pub one_found : (m : List Instance) (x : Id) (v : Instance) (r : Option (Bor Instance)) (b : Bool)
+pub Contains-one_found : (m : List Instance) (x : Id) (v : Instance) (r : Option (Bor Instance))
+    (b : Bool)
     → x ≡ v.id → is_some r ≡ not b → b ≡ false
     → MatchOption r (¬ Contains (ids_of m) x) (λ e. Contains m e.now × (e.now.id ≡ x))
     → (f : Instance) × Contains m f × (f.id ≡ v.id)
-one_found m x v None b same e is h = absurd (cc (e, ap not is))
-one_found m x v (Some f) b same e is h = (f.now, h.0, h.1 ∙ same)
+Contains-one_found m x v None b same e is h = absurd (cc (e, ap not is))
+Contains-one_found m x v (Some f) b same e is h = (f.now, h.0, h.1 ∙ same)
 
 -- ---- an insertion
 
@@ -175,16 +179,16 @@ inserted_members (p ∷ es) x v e none =
           )
     ] refl
 
-pub keyed_after_insert : (es fs : List (Id × Instance)) (x : Id) (e : Instance) → AreKeyed es
+pub AreKeyed-insert : (es fs : List (Id × Instance)) (x : Id) (e : Instance) → AreKeyed es
     → x ≡ e.id → fs ≡ insert_entry id_cmp es x e → AreKeyed fs
-keyed_after_insert es fs x e k same is =
+AreKeyed-insert es fs x e k same is =
     subst AreKeyed (sym (is ∙ ap (λ (y : Id). insert_entry id_cmp es y e) same))
     (inserted_keyed es e k)
 
-pub members_after_insert : (es fs : List (Id × Instance)) (m : List Instance) (x : Id)
+pub Contains-insert_entry : (es fs : List (Id × Instance)) (m : List Instance) (x : Id)
     (v e : Instance) → AreKeyed es → values es ≡ m → x ≡ v.id → ¬ Contains (ids_of m) v.id
     → fs ≡ insert_entry id_cmp es x v → Contains (values fs) e ↔ (Contains m e ⊎ (e ≡ v))
-members_after_insert es fs m x v e k view same none is =
+Contains-insert_entry es fs m x v e k view same none is =
     subst (λ (l : List Instance). Contains (values fs) e ↔ (Contains l e ⊎ (e ≡ v))) view
     (subst (λ (gs : List (Id × Instance)). Contains (values gs) e
     ↔ (Contains (values es) e ⊎ (e ≡ v))) (sym is) (inserted_members es x v e
@@ -250,7 +254,7 @@ removed_gone x (p ∷ es) e k rising h same =
           Contains-map (λ (i : Instance). i.id) (values es) e rest in
           let above : Below p.0 e.id = below_each p.0 (keys es) e.id rising.0
           (subst (λ (ids : List Id). Contains ids e.id) (sym (keyed_tail p es k)) later) in
-          absurd (below_irrefl id_cmp_total x (subst (Below x) same
+          absurd (is_lt-irrefl id_cmp-IsTotalOrder x (subst (Below x) same
           (subst (λ (y : Id). Below y e.id) (sym (equal_at x p.0 here)) above)))
       | inr later ↦
           let left = values (remove_entry (is_at (id_cmp x)) es) in
@@ -259,7 +263,7 @@ removed_gone x (p ∷ es) e k rising h same =
             | inl is ↦
                 let tie : id_cmp x p.0 ≡ Equal =
                 ap (id_cmp x) (keyed_head p es k ∙ ap (λ (i : Instance). i.id) is ∙ same)
-                ∙ tied_itself id_cmp_total x in
+                ∙ tied_itself id_cmp-IsTotalOrder x in
                 absurd (cc (ap is_eq tie, later))
             | inr there ↦ removed_gone x es e (keyed_tail p es k) rising.1 there same
           ]
@@ -273,15 +277,15 @@ removed_members x es e k rising = (
   λ h. removed_stay x es e k h.0 h.1,
 )
 
-pub keyed_after_remove : (es fs : List (Id × Instance)) (x : Id) → AreKeyed es
+pub AreKeyed-remove : (es fs : List (Id × Instance)) (x : Id) → AreKeyed es
     → fs ≡ remove_entry (is_at (id_cmp x)) es → AreKeyed fs
-keyed_after_remove es fs x k is = subst AreKeyed (sym is) (removed_keyed x es k)
+AreKeyed-remove es fs x k is = subst AreKeyed (sym is) (removed_keyed x es k)
 
-pub members_after_remove : (es fs : List (Id × Instance)) (m : List Instance) (x : Id)
+pub Contains-remove_entry : (es fs : List (Id × Instance)) (m : List Instance) (x : Id)
     (e : Instance) → AreKeyed es → IsRising (keys es) → values es ≡ m
     → fs ≡ remove_entry (is_at (id_cmp x)) es
     → Contains (values fs) e ↔ (Contains m e × (e.id ≢ x))
-members_after_remove es fs m x e k rising view is =
+Contains-remove_entry es fs m x e k rising view is =
     subst (λ (l : List Instance). Contains (values fs) e ↔ (Contains l e × (e.id ≢ x))) view
     (subst (λ (gs : List (Id × Instance)). Contains (values gs) e
     ↔ (Contains (values es) e × (e.id ≢ x))) (sym is) (removed_members x es e k rising))
@@ -317,11 +321,11 @@ abbrev pub AreWithout : List Instance → List Id → List Instance → Type 0
 AreWithout before ids m =
     (e : Instance) → Contains m e ↔ (Contains before e × (¬ Contains ids e.id))
 
-pub without_next : (before m n : List Instance) (xs : List Id) (k : ℕ) (d : Id) → k < length xs
+pub AreWithout-next : (before m n : List Instance) (xs : List Id) (k : ℕ) (d : Id) → k < length xs
     → AreWithout before (take k xs) m
     → ((e : Instance) → Contains n e ↔ (Contains m e × (e.id ≢ get_or xs k d)))
     → AreWithout before (take (k + 1) xs) n
-without_next before m n xs k d l are step = λ e.
+AreWithout-next before m n xs k d l are step = λ e.
     let next = Contains-next xs k d e.id l in (
       λ h.
           let was = (step e).0 h in
@@ -336,9 +340,9 @@ without_next before m n xs k d l are step = λ e.
       ),
     )
 
-pub without_all : (before m : List Instance) (xs : List Id) (k : ℕ) → length xs ≤ k
+pub AreWithout-all : (before m : List Instance) (xs : List Id) (k : ℕ) → length xs ≤ k
     → AreWithout before (take k xs) m → AreWithout before xs m
-without_all before m xs k l are =
+AreWithout-all before m xs k l are =
     subst (λ (ys : List Id). AreWithout before ys m) (take_all k xs l) are
 
 -- ---- look-ups of some Ids
@@ -348,11 +352,11 @@ abbrev pub AreSome : List Instance → List Id → List Instance → Type 0
 AreSome m ids found = ((e : Instance) → Contains found e → Contains m e)
     × ((e : Instance) → Contains m e → Contains ids e.id → Contains found e)
 
-pub some_found : (m found : List Instance) (xs : List Id) (k : ℕ) (d : Id) (f : Instance)
+pub AreSome-found : (m found : List Instance) (xs : List Id) (k : ℕ) (d : Id) (f : Instance)
     → k < length xs → AreSome m (take k xs) found → Contains m f
     → ((p : Instance) → Contains m p → p.id ≡ get_or xs k d → p ≡ f)
     → AreSome m (take (k + 1) xs) (found ++ f ∷ [])
-some_found m found xs k d f l are there only = (
+AreSome-found m found xs k d f l are there only = (
   λ e h. elim (Contains-append_cases found (f ∷ []) e h) [
     | inl before ↦ are.0 e before
     | inr now ↦ elim (Contains-cons_cases f [] e now) [
@@ -367,10 +371,10 @@ some_found m found xs k d f l are there only = (
   ],
 )
 
-pub some_missed : (m found : List Instance) (xs : List Id) (k : ℕ) (d : Id) → k < length xs
+pub AreSome-missed : (m found : List Instance) (xs : List Id) (k : ℕ) (d : Id) → k < length xs
     → AreSome m (take k xs) found → ¬ Contains (ids_of m) (get_or xs k d)
     → AreSome m (take (k + 1) xs) found
-some_missed m found xs k d l are none = (
+AreSome-missed m found xs k d l are none = (
   are.0,
   λ e h listed. elim ((Contains-next xs k d e.id l).0 listed) [
     | inl before ↦ are.1 e h before
@@ -379,9 +383,9 @@ some_missed m found xs k d l are none = (
   ],
 )
 
-pub some_all : (m found : List Instance) (xs : List Id) (k : ℕ) → length xs ≤ k
+pub AreSome-all : (m found : List Instance) (xs : List Id) (k : ℕ) → length xs ≤ k
     → AreSome m (take k xs) found → AreSome m xs found
-some_all m found xs k l are =
+AreSome-all m found xs k l are =
     subst (λ (ys : List Id). AreSome m ys found) (take_all k xs l) are
 
 -- ---- the entries of a call
@@ -397,10 +401,10 @@ pub record AreInserted (done : List Id) (before so_far m : List Instance) (ids :
   pub left : (e : Instance) → Contains so_far e → ¬ Contains done e.id → Contains m e
 
 -- the noted Ids tell what was there before
-pub noted : (done : List Id) (before so_far m : List Instance) (ids : List Id)
+pub Contains-noted : (done : List Id) (before so_far m : List Instance) (ids : List Id)
     → AreInserted done before so_far m ids
     → (e : Instance) → Contains before e ↔ (Contains m e × (¬ Contains ids e.id))
-noted done before so_far m ids are e = (
+Contains-noted done before so_far m ids are e = (
   λ h. (are.kept e h, are.old e h),
   λ h. elim (are.only e h.0) [ inl was ↦ was | inr new ↦ absurd (h.1 new.2) ],
 )
@@ -427,12 +431,13 @@ noted_more done before so_far m ids x are none = record {
 }
 
 -- its Id is that of an instance which is to be inserted
-pub noted_push : (done : List Id) (before so_far m : List Instance) (ids pushed : List Id) (x : Id)
+pub Contains-noted_push : (done : List Id) (before so_far m : List Instance) (ids pushed : List Id)
+    (x : Id)
     (v : Instance) → AreInserted done before so_far m ids → pushed ≡ ids ++ x ∷ [] → x ≡ v.id
     → ¬ Contains (ids_of m) v.id
     → (e : Instance) → Contains before e ↔ (Contains m e × (¬ Contains pushed e.id))
-noted_push done before so_far m ids pushed x v are is same none =
-    noted done before so_far m pushed (subst (AreInserted done before so_far m) (sym is)
+Contains-noted_push done before so_far m ids pushed x v are is same none =
+    Contains-noted done before so_far m pushed (subst (AreInserted done before so_far m) (sym is)
     (noted_more done before so_far m ids x are
     (subst (λ (y : Id). ¬ Contains (ids_of m) y) (sym same) none)))
 
@@ -450,10 +455,10 @@ module _ (done : List Id) (before es m : List Instance) (ids : List Id) (k : ℕ
   ]
 
   -- the next entry is inserted
-  pub inserted_next : (n : List Instance) → ¬ Contains done v.id → ¬ Contains (ids_of m) v.id
+  pub AreInserted-next : (n : List Instance) → ¬ Contains done v.id → ¬ Contains (ids_of m) v.id
       → ((e : Instance) → Contains n e ↔ (Contains m e ⊎ (e ≡ v)))
       → AreInserted done before (take (k + 1) es) n (ids ++ v.id ∷ [])
-  inserted_next n not_done none step =
+  AreInserted-next n not_done none step =
       let more = noted_more done before (take k es) m ids v.id are none in record {
         kept = λ e h. (step e).1 (inl (are.kept e h));
         old = more.old;
@@ -492,14 +497,14 @@ module _ (done : List Id) (before es m : List Instance) (ids : List Id) (k : ℕ
     ];
   }
 
-  pub done_next : Contains done v.id → AreInserted done before (take (k + 1) es) m ids
-  done_next is = passed_next (λ left. absurd (left is))
+  pub AreInserted-done : Contains done v.id → AreInserted done before (take (k + 1) es) m ids
+  AreInserted-done is = passed_next (λ left. absurd (left is))
 
   -- an instance of its Id is there
-  pub there_next : (f : Instance) → IsRising (ids_of es)
+  pub AreInserted-there : (f : Instance) → IsRising (ids_of es)
       → ((p e : Instance) → Contains before p → Contains es e → p.id ≡ e.id → p ≡ e)
       → Contains m f → f.id ≡ v.id → AreInserted done before (take (k + 1) es) m ids
-  there_next f rising alike there same =
+  AreInserted-there f rising alike there same =
       passed_next (λ left. subst (Contains m) (elim (are.only f there) [
         | inl was ↦ alike f v was within same
         | inr new ↦ IsRising-same es rising f v (within_taken es k f new.0) within same
@@ -508,10 +513,10 @@ module _ (done : List Id) (before es m : List Instance) (ids : List Id) (k : ℕ
       within : Contains es v
       within = (k, l, here)
 
-pub all_inserted : (done : List Id) (before es m : List Instance) (ids : List Id) (k : ℕ)
+pub Contains-all_inserted : (done : List Id) (before es m : List Instance) (ids : List Id) (k : ℕ)
     → length es ≤ k → AreInserted done before (take k es) m ids
     → (e : Instance) → Contains m e ↔ (Contains before e ⊎ (Contains es e × (¬ Contains done e.id)))
-all_inserted done before es m ids k l are e =
+Contains-all_inserted done before es m ids k l are e =
     let whole = take_all k es l in (
       λ h. elim (are.only e h) [
         | inl was ↦ inl was

@@ -16,16 +16,16 @@ use Rattle.epx_laws.specs.ResumedRunLaws.{run_on}
 use Rattle.epx_executor.specs.Commits.{ExecutorView, IsCommit}
 use Rattle.epx_executor.specs.ExecutorLaws.{IsSoundFor, CommittingStaysSound, new_executor}
 use Rattle.epx_executor.specs.HistoryLaws.{AreCommits, Call, CameFrom, executed_ids, replies_of}
-use Rattle.epx_executor.proofs.CommitLemmas.{has_other}
-use Rattle.epx_executor.proofs.HistoryLemmas.{came_later}
+use Rattle.epx_executor.proofs.CommitLemmas.{HasRemaining-other}
+use Rattle.epx_executor.proofs.HistoryLemmas.{CameFrom-later}
 
 -- ---- the parts of pairs
 
-pub zip_firsts : {X Y : Type 0} (xs : List X) (ys : List Y) → length ys ≡ length xs
+pub map-zip_firsts : {X Y : Type 0} (xs : List X) (ys : List Y) → length ys ≡ length xs
     → map (λ p. p.0) (zip xs ys) ≡ xs
-zip_firsts [] ys e = refl
-zip_firsts (x ∷ xs) [] e = absurd (omega (arith, e))
-zip_firsts (x ∷ xs) (y ∷ ys) e = ap (λ zs. x ∷ zs) (zip_firsts xs ys (omega (arith, e)))
+map-zip_firsts [] ys e = refl
+map-zip_firsts (x ∷ xs) [] e = absurd (omega (arith, e))
+map-zip_firsts (x ∷ xs) (y ∷ ys) e = ap (λ zs. x ∷ zs) (map-zip_firsts xs ys (omega (arith, e)))
 
 zip_seconds : {X Y : Type 0} (xs : List X) (ys : List Y) → length ys ≡ length xs
     → map (λ p. p.1) (zip xs ys) ≡ ys
@@ -57,12 +57,12 @@ module _ (m came : List Instance) (before after : ExecutorView) (replies : List 
       length-replies (commands_in (remaining before.done commit.other) new_ids) before.store
       ∙ length-map new_ids (λ x. ops_or_empty (instance_of (remaining before.done commit.other) x))
 
-  pub ids_of_replies : map (λ (p : Id × Reply). p.0) replies ≡ new_ids
-  ids_of_replies = ap (map (λ (p : Id × Reply). p.0)) commit.replied
-      ∙ zip_firsts new_ids new_run.replies same_length
+  pub map-ids_of_replies : map (λ (p : Id × Reply). p.0) replies ≡ new_ids
+  map-ids_of_replies = ap (map (λ (p : Id × Reply). p.0)) commit.replied
+      ∙ map-zip_firsts new_ids new_run.replies same_length
 
-  pub replies_of_replies : map (λ (p : Id × Reply). p.1) replies ≡ new_run.replies
-  replies_of_replies = ap (map (λ (p : Id × Reply). p.1)) commit.replied
+  pub map-replies_of_replies : map (λ (p : Id × Reply). p.1) replies ≡ new_run.replies
+  map-replies_of_replies = ap (map (λ (p : Id × Reply). p.1)) commit.replied
       ∙ zip_seconds new_ids new_run.replies same_length
 
   is_lawful : IsLawful (remaining before.done commit.other) new_ids
@@ -82,7 +82,7 @@ module _ (m came : List Instance) (before after : ExecutorView) (replies : List 
         (IsLawfulFor-together m (Contains before.done) (IsReady (remaining before.done
         commit.other)) sound.sound.closed ids new_ids executed.lawful
         (IsLawfulAfter-left m commit.other before.done sound.rising sound.sound.ready
-        sound.sound.closed (has_other m came before after replies sound has commit) new_ids
+        sound.sound.closed (HasRemaining-other m came before after replies sound has commit) new_ids
         is_lawful))
 
     -- the new commands, over what the earlier ones left
@@ -92,7 +92,7 @@ module _ (m came : List Instance) (before after : ExecutorView) (replies : List 
         ap (λ e. execute (commands_in m new_ids) e.final) executed.run
         ∙ ap (λ os. execute os before.store) (sym (commands_in-left m commit.other before.done
         sound.rising sound.sound.ready sound.sound.closed
-        (has_other m came before after replies sound has commit) new_ids is_lawful))
+        (HasRemaining-other m came before after replies sound has commit) new_ids is_lawful))
 
     run_with : execute (commands_in m (ids ++ new_ids)) contents.empty
         ≡ record { replies = old ++ new_run.replies; final = after.store }
@@ -105,43 +105,44 @@ module _ (m came : List Instance) (before after : ExecutorView) (replies : List 
         (ap (λ e. e.replies) new_part))
         (parts.1 ∙ ap (λ e. e.final) new_part ∙ sym commit.store)
 
-    pub executed_with : HasExecuted m after (ids ++ new_ids) (old ++ new_run.replies)
-    executed_with = record { lawful = lawful_with; run = run_with }
+    pub HasExecuted-with_new : HasExecuted m after (ids ++ new_ids) (old ++ new_run.replies)
+    HasExecuted-with_new = record { lawful = lawful_with; run = run_with }
 
 -- ---- all calls
 
 module _ (m : List Instance) (stays : CommittingStaysSound) where
-  pub executed_after : (calls : List Call) (before after : ExecutorView) → IsSoundFor m before
+  pub HasExecuted-after : (calls : List Call) (before after : ExecutorView) → IsSoundFor m before
       → AreCommits before calls after → CameFrom m calls → (ids : List Id) (replies : List Reply)
       → HasExecuted m before ids replies
       → HasExecuted m after (ids ++ executed_ids calls) (replies ++ replies_of calls)
-  executed_after [] before after sound are from ids replies executed =
+  HasExecuted-after [] before after sound are from ids replies executed =
       subst (λ (xs : List Id). HasExecuted m after xs (replies ++ [])) (sym (append-nil ids))
       (subst (λ (rs : List Reply). HasExecuted m after ids rs) (sym (append-nil replies))
       (subst (λ (v : ExecutorView). HasExecuted m v ids replies) are executed))
-  executed_after (call ∷ calls) before after sound are from ids replies executed =
+  HasExecuted-after (call ∷ calls) before after sound are from ids replies executed =
       let has = λ (e : Instance) (h : Contains call.0 e) (left : ¬ Contains before.done e.id).
       from call (Contains-head call calls) e h in
       let xs = map (λ (p : Id × Reply). p.0) call.1 in
       let rs = map (λ (p : Id × Reply). p.1) call.1 in
-      let new = executed_with m call.0 before are.0 call.1 sound has are.1 ids replies executed in
+      let new =
+      HasExecuted-with_new m call.0 before are.0 call.1 sound has are.1 ids replies executed in
       let here : HasExecuted m are.0 (ids ++ xs) (replies ++ rs) =
       subst (λ (ys : List Id). HasExecuted m are.0 (ids ++ ys) (replies ++ rs))
-      (sym (ids_of_replies m call.0 before are.0 call.1 sound has are.1))
+      (sym (map-ids_of_replies m call.0 before are.0 call.1 sound has are.1))
       (subst (λ (qs : List Reply).
       HasExecuted m are.0 (ids ++ ranked_ids are.1.order) (replies ++ qs))
-      (sym (replies_of_replies m call.0 before are.0 call.1 sound has are.1)) new) in
+      (sym (map-replies_of_replies m call.0 before are.0 call.1 sound has are.1)) new) in
       subst (λ (ys : List Id). HasExecuted m after ys (replies ++ replies_of (call ∷ calls)))
       (append_assoc ids xs (executed_ids calls))
       (subst (λ (qs : List Reply). HasExecuted m after ((ids ++ xs) ++ executed_ids calls) qs)
       (append_assoc replies rs (replies_of calls))
-      (executed_after calls are.0 after
+      (HasExecuted-after calls are.0 after
       (stays m call.0 before are.0 call.1 sound has are.1) are.2
-      (came_later m call calls from) (ids ++ xs) (replies ++ rs) here))
+      (CameFrom-later m call calls from) (ids ++ xs) (replies ++ rs) here))
 
 -- a new executor has executed nothing
-pub nothing_executed : (m : List Instance) → HasExecuted m new_executor [] []
-nothing_executed m = record {
+pub HasExecuted-nothing : (m : List Instance) → HasExecuted m new_executor [] []
+HasExecuted-nothing m = record {
   lawful = record {
     once = λ i j d l k. absurd (omega arith);
     only = λ x h. h;
@@ -153,10 +154,10 @@ nothing_executed m = record {
 }
 
 -- what is lawful for sound done instances begins a lawful order
-pub begins_lawfully : (m : List Instance) (v : ExecutorView) (ids whole : List Id)
+pub IsLawfulPrefix-from_done : (m : List Instance) (v : ExecutorView) (ids whole : List Id)
     → IsSoundFor m v → IsLawfulFor m (Contains v.done) ids → IsLawful m whole
     → IsLawfulPrefix m ids
-begins_lawfully m v ids whole sound lawful ordered = (
+IsLawfulPrefix-from_done m v ids whole sound lawful ordered = (
   remaining_ids ids whole,
   IsLawful-part_and_rest m (Contains v.done) sound.sound.ready sound.sound.closed ids whole lawful
       ordered,

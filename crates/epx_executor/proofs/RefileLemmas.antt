@@ -15,11 +15,11 @@ use Rattle.epx_executor.proofs.PendingLemmas.{Contains-next}
 -- ---- one more is filed
 
 -- the Id behind which `reached` waits at last, or itself
-pub last_is : (filings : Filings) (reached : Id) (r : Option Id)
+pub IsBlockedBy-last : (filings : Filings) (reached : Id) (r : Option Id)
     → MatchOption r (¬ IsFiled filings reached) (IsBlockedBy filings reached)
     → (reached ≡ unwrap_or r reached) ⊎ IsBlockedBy filings reached (unwrap_or r reached)
-last_is filings reached None h = inl refl
-last_is filings reached (Some y) h = inr h
+IsBlockedBy-last filings reached None h = inl refl
+IsBlockedBy-last filings reached (Some y) h = inr h
 
 reaches_on_way : (m : List Instance) (filings : Filings) (x : Id) (via : List Id) (y : Id)
     → AreWithin m filings → IsWay filings x via y → Reaches m x y
@@ -42,49 +42,50 @@ module _ {T E : Type 0} (old new : Filings) (id last : Id) (r : Result T E)
     cases (Ok _) h is = inl h
     cases (Err _) h is = inr (refl, is)
 
-  pub filed_if_ok : is_ok r ≡ true → IsFiled new id
-  filed_if_ok ok =
+  pub IsFiled-if_ok : is_ok r ≡ true → IsFiled new id
+  IsFiled-if_ok ok =
       elim filed_or_not [
         | inl one ↦ Contains-map (λ (f : Id × Id). f.0) new (id, last)
             ((one id last).1 (inr (refl, refl)))
         | inr not ↦ absurd (cc (ok, not.0))
       ]
 
-  pub filed_stay : (x y : Id) → Contains old (x, y) → Contains new (x, y)
-  filed_stay x y there =
+  pub Contains-filed_stay : (x y : Id) → Contains old (x, y) → Contains new (x, y)
+  Contains-filed_stay x y there =
       elim filed_or_not [
         | inl one ↦ (one x y).1 (inl there)
         | inr not ↦ subst (λ (fs : Filings). Contains fs (x, y)) (sym not.1) there
       ]
 
-  pub filed_new : (x y : Id) → Contains new (x, y) → Contains old (x, y) ⊎ ((x ≡ id) × (y ≡ last))
-  filed_new x y there =
+  pub Contains-filed_cases : (x y : Id) → Contains new (x, y) → Contains old (x, y)
+      ⊎ ((x ≡ id) × (y ≡ last))
+  Contains-filed_cases x y there =
       elim filed_or_not [
         | inl one ↦ (one x y).0 there
         | inr not ↦ inl (subst (λ (fs : Filings). Contains fs (x, y)) not.1 there)
       ]
 
-pub new_behind : (old : Filings) (id reached last x y : Id)
+pub IsBlockedBy-cases : (old : Filings) (id reached last x y : Id)
     → (reached ≡ last) ⊎ IsBlockedBy old reached last
     → Contains old (x, y) ⊎ ((x ≡ id) × (y ≡ last))
     → Contains old (x, y) ⊎ ((x ≡ id) × ((reached ≡ y) ⊎ IsBlockedBy old reached y))
-new_behind old id reached last x y is (inl was) = inl was
-new_behind old id reached last x y is (inr new) =
+IsBlockedBy-cases old id reached last x y is (inl was) = inl was
+IsBlockedBy-cases old id reached last x y is (inr new) =
     inr (new.0, subst (λ (z : Id). (reached ≡ z) ⊎ IsBlockedBy old reached z) (sym new.1) is)
 
-pub filed_more : (old new : Filings) (x : Id) → ((a b : Id) → Contains old (a, b)
+pub IsFiled-kept : (old new : Filings) (x : Id) → ((a b : Id) → Contains old (a, b)
     → Contains new (a, b)) → IsFiled old x → IsFiled new x
-filed_more old new x stay filed =
+IsFiled-kept old new x stay filed =
     let from = Contains-from_map (λ (f : Id × Id). f.0) old x filed in
     subst (IsFiled new) from.2
     (Contains-map (λ (f : Id × Id). f.0) new from.0 (stay from.0.0 from.0.1 from.1))
 
 -- what is new is an instance of the map that reaches what it is filed under
-pub within_more : (m : List Instance) (old new : Filings) (id reached : Id)
+pub AreWithin-more : (m : List Instance) (old new : Filings) (id reached : Id)
     → IsCommitted m id → Reaches m id reached → AreWithin m old
     → ((x y : Id) → Contains new (x, y) → Contains old (x, y)
     ⊎ ((x ≡ id) × ((reached ≡ y) ⊎ IsBlockedBy old reached y))) → AreWithin m new
-within_more m old new id reached committed reaches within step x y h =
+AreWithin-more m old new id reached committed reaches within step x y h =
     elim (step x y h) [
       | inl was ↦ within x y was
       | inr filed ↦ (
@@ -98,14 +99,14 @@ within_more m old new id reached committed reaches within step x y h =
     ]
 
 -- the pairs of a list, one by one
-pub within_next : (m : List Instance) (old new : Filings) (pairs : List (Id × Id)) (k : ℕ)
+pub AreWithin-next : (m : List Instance) (old new : Filings) (pairs : List (Id × Id)) (k : ℕ)
     (d : Id × Id) → k < length pairs → AreWithin m pairs → AreWithin m old
     → ((x y : Id) → Contains new (x, y) → Contains old (x, y) ⊎ ((x ≡ (get_or pairs k d).0)
     × (((get_or pairs k d).1 ≡ y) ⊎ IsBlockedBy old (get_or pairs k d).1 y))) → AreWithin m new
-within_next m old new pairs k d l all within step =
+AreWithin-next m old new pairs k d l all within step =
     let pair = get_or pairs k d in
     let there = all pair.0 pair.1 (Contains-get_or pairs k d l) in
-    within_more m old new pair.0 pair.1 there.0 there.1 within step
+    AreWithin-more m old new pair.0 pair.1 there.0 there.1 within step
 
 -- ---- some are taken out
 
@@ -114,11 +115,11 @@ abbrev pub AreFiledWithout : Filings → List Id → Filings → Type 0
 AreFiledWithout before ids filings = (x y : Id) → Contains filings (x, y)
     ↔ (Contains before (x, y) × (¬ Contains ids x))
 
-pub filed_without_next : (before old new : Filings) (ids : List Id) (k : ℕ) (d : Id)
+pub AreFiledWithout-next : (before old new : Filings) (ids : List Id) (k : ℕ) (d : Id)
     → k < length ids → AreFiledWithout before (take k ids) old
     → ((x y : Id) → Contains new (x, y) ↔ (Contains old (x, y) × ¬ (x ≡ get_or ids k d)))
     → AreFiledWithout before (take (k + 1) ids) new
-filed_without_next before old new ids k d l are step = λ x y.
+AreFiledWithout-next before old new ids k d l are step = λ x y.
     let next = Contains-next ids k d x l in (
       λ h.
           let was = (step x y).0 h in
@@ -133,32 +134,33 @@ filed_without_next before old new ids k d l are step = λ x y.
       ),
     )
 
-pub filed_without_all : (before filings : Filings) (ids : List Id) (k : ℕ) → length ids ≤ k
+pub AreFiledWithout-all : (before filings : Filings) (ids : List Id) (k : ℕ) → length ids ≤ k
     → AreFiledWithout before (take k ids) filings → AreFiledWithout before ids filings
-filed_without_all before filings ids k l are =
+AreFiledWithout-all before filings ids k l are =
     subst (λ (xs : List Id). AreFiledWithout before xs filings) (take_all k ids l) are
 
 -- ---- those that wait
 
-pub waiters_next : (ws : List Waiting) (k : ℕ) (w : Waiting) (old new : Filings) → k < length ws
+pub IsFiled-waiters_next : (ws : List Waiting) (k : ℕ) (w : Waiting) (old new : Filings)
+    → k < length ws
     → get_or ws k w ≡ w
     → ((x : Id) → Contains (waiting_ids (take k ws)) x → IsFiled old x)
     → ((x y : Id) → Contains old (x, y) → Contains new (x, y)) → IsFiled new w.id
     → (x : Id) → Contains (waiting_ids (take (k + 1) ws)) x → IsFiled new x
-waiters_next ws k w old new l here filed stay now = λ x h.
+IsFiled-waiters_next ws k w old new l here filed stay now = λ x h.
     let from = Contains-from_map (λ (v : Waiting). v.id) (take (k + 1) ws) x h in
     elim ((Contains-next ws k w from.0 l).0 from.1) [
-      | inl before ↦ filed_more old new x stay (filed x (subst
+      | inl before ↦ IsFiled-kept old new x stay (filed x (subst
           (Contains (waiting_ids (take k ws))) from.2
           (Contains-map (λ (v : Waiting). v.id) (take k ws) from.0 before)))
       | inr is ↦ subst (IsFiled new)
           (ap (λ (v : Waiting). v.id) (sym here ∙ is) ∙ from.2) now
     ]
 
-pub waiters_all : (ws : List Waiting) (k : ℕ) (filings : Filings) → length ws ≤ k
+pub IsFiled-waiters_all : (ws : List Waiting) (k : ℕ) (filings : Filings) → length ws ≤ k
     → ((x : Id) → Contains (waiting_ids (take k ws)) x → IsFiled filings x)
     → (x : Id) → Contains (waiting_ids ws) x → IsFiled filings x
-waiters_all ws k filings l filed = subst (λ (vs : List Waiting).
+IsFiled-waiters_all ws k filings l filed = subst (λ (vs : List Waiting).
     (x : Id) → Contains (waiting_ids vs) x → IsFiled filings x) (take_all k ws l) filed
 
 -- ---- after a call
@@ -193,7 +195,7 @@ AreFiledIn-refiled m before kept blocked after ids pairs waiters can without sta
       reach = λ x y h. (within x y h).1;
     }
 
-pub refiled_some : (before kept blocked : Filings) (r : Option Filings) (ids : List Id)
+pub IfSome-refiled : (before kept blocked : Filings) (r : Option Filings) (ids : List Id)
     (pairs : List (Id × Id)) (waiters : List Waiting) → AreFiledWithout before ids kept
     → ((x y : Id) → Contains kept (x, y) → Contains blocked (x, y))
     → ((m : List Instance) → AreWithin m pairs → AreWithin m kept → AreWithin m blocked)
@@ -204,21 +206,21 @@ pub refiled_some : (before kept blocked : Filings) (r : Option Filings) (ids : L
     → AreWithin m after)
     → IfSome r (λ after. (m : List Instance) → CanRefile m before ids pairs waiters
     → AreFiledIn m after)
-refiled_some before kept blocked None ids pairs waiters without stay more stay' filed more' = tt
-refiled_some before kept blocked (Some after) ids pairs waiters without stay more stay' filed
+IfSome-refiled before kept blocked None ids pairs waiters without stay more stay' filed more' = tt
+IfSome-refiled before kept blocked (Some after) ids pairs waiters without stay more stay' filed
     more' =
     λ m can. AreFiledIn-refiled m before kept blocked after ids pairs waiters can without stay
     (more m) stay' filed (more' m)
 
 -- with nothing filed before
-pub refiled_anew : (none : Filings) (r : Option Filings) (waiters : List Waiting) → none ≡ []
+pub IfSome-refiled_anew : (none : Filings) (r : Option Filings) (waiters : List Waiting) → none ≡ []
     → IfSome r (λ after. (x : Id) → Contains (waiting_ids waiters) x → IsFiled after x)
     → IfSome r (λ after. (m : List Instance) → AreWithin m none
     → ((w : Waiting) → Contains waiters w → IsCommitted m w.id × Reaches m w.id w.missing)
     → AreWithin m after)
     → IfSome r (λ after. (m : List Instance) → CanRefile m [] [] [] waiters → AreFiledIn m after)
-refiled_anew none r waiters is filed more =
-    refiled_some [] [] [] r [] [] waiters (λ x y. (
+IfSome-refiled_anew none r waiters is filed more =
+    IfSome-refiled [] [] [] r [] [] waiters (λ x y. (
       λ h. absurd (Contains-nil (x, y) h),
       λ h. h.0,
     )) (λ x y h. h) (λ m a b. b) (stays r) filed (subst (λ (fs : Filings).
@@ -233,10 +235,11 @@ refiled_anew none r waiters is filed more =
     stays (Some after) = λ x y h. absurd (Contains-nil (x, y) h)
 
 -- nothing was filed before, or no choice was made
-pub refiled_whole : (before : Option Filings) (choice : Option Choice) (waiters : List Waiting)
+pub IfSome-refiled_whole : (before : Option Filings) (choice : Option Choice)
+    (waiters : List Waiting)
     (r : Option Filings) → ((b : Filings) (c : Choice) → before ≡ Some b → ¬ (choice ≡ Some c))
     → IfSome r (λ after. (m : List Instance) → CanRefile m [] [] [] waiters → AreFiledIn m after)
     → IfSome r (IsRefiled before choice waiters)
-refiled_whole None choice waiters r not_both h = h
-refiled_whole (Some b) None waiters r not_both h = h
-refiled_whole (Some b) (Some c) waiters r not_both h = absurd (not_both b c refl refl)
+IfSome-refiled_whole None choice waiters r not_both h = h
+IfSome-refiled_whole (Some b) None waiters r not_both h = h
+IfSome-refiled_whole (Some b) (Some c) waiters r not_both h = absurd (not_both b c refl refl)

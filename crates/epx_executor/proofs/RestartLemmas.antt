@@ -4,7 +4,7 @@ use Rattle.std.proofs.Common.{◌∙◌, subst, inl, inr}
 use Rattle.epx_types.proofs.Common.{commands_in, IsCommittedBy, is_among, remaining, Execution}
 use Rattle.epx_types.proofs.Common.{execute, Ranked, ranked_ids, IsExecutionOrder, Instance, Placed}
 use Rattle.epx_types.proofs.Common.{IsReady, Contains-nil, Contains-head, Contains-cons}
-use Rattle.epx_types.proofs.Common.{IsExecutionOrder-IsLawful, not_among}
+use Rattle.epx_types.proofs.Common.{IsExecutionOrder-IsLawful, is_among-false}
 use Rattle.epx_types.specs.declared.id.Id.{Id}
 use Rattle.epx_types.specs.declared.reply.Reply.{Reply}
 use Rattle.epx_laws.specs.AgreementLaws.{CommittedMapIsUnique}
@@ -13,16 +13,16 @@ use Rattle.epx_laws.specs.ResumedRunLaws.{run_on}
 use Rattle.epx_executor.specs.CallLines.{call_lines, lines_from, lines_not_done}
 use Rattle.epx_executor.specs.Commits.{ExecutorView, IsCommit, AllWait, not_done}
 use Rattle.epx_executor.specs.ExecutorLaws.{HoldTheSame}
-use Rattle.epx_executor.proofs.CallLineLemmas.{merged_instances}
+use Rattle.epx_executor.proofs.CallLineLemmas.{Contains-merged}
 use Rattle.epx_executor.proofs.FilterLemmas.{filter-agree}
-use Rattle.epx_executor.proofs.RemainderLemmas.{remaining-agree, same_among, same_not_done}
-use Rattle.epx_executor.proofs.RemainderLemmas.{same_remaining}
+use Rattle.epx_executor.proofs.RemainderLemmas.{remaining-agree, is_among-same, not_done-same}
+use Rattle.epx_executor.proofs.RemainderLemmas.{remaining-same}
 
 -- ---- done lists with the same Ids
 
 module _ (a b : List Id) (same : (x : Id) → Contains a x ↔ Contains b x) where
   among : (x : Id) → is_among a x ≡ is_among b x
-  among x = same_among a b x (same x)
+  among x = is_among-same a b x (same x)
 
   remaining_alike : (m : List Instance) → remaining a m ≡ remaining b m
   remaining_alike m = remaining-agree a b m (λ e h. among e.id) (λ e x h k. among x)
@@ -70,8 +70,8 @@ module _ (map_is_unique : CommittedMapIsUnique) (order_is_unique : ExecutionOrde
       ∙ ap (execute (commands_in (remaining w.done second.other) (ranked_ids second.order)))
       same.store
 
-  pub same_replies : replies ≡ others
-  same_replies =
+  pub replies-same : replies ≡ others
+  replies-same =
       first.replied ∙ ap₂ (λ (o : List Ranked) (e : Execution). zip (ranked_ids o) e.replies)
       same_order same_run ∙ sym second.replied
 
@@ -88,8 +88,8 @@ module _ (map_is_unique : CommittedMapIsUnique) (order_is_unique : ExecutionOrde
     ]),
   )
 
-  pub hold_the_same : HoldTheSame next last
-  hold_the_same = record {
+  pub HoldTheSame-next : HoldTheSame next last
+  HoldTheSame-next = record {
     done = same_done;
     store = first.store ∙ ap (λ (e : Execution). e.final) same_run ∙ sym second.store;
     pending = first.pending ∙ not_done_alike next.done last.done same_done first.other
@@ -102,7 +102,7 @@ not_done-all : (done : List Id) (m : List Instance)
     → ((e : Instance) → Contains m e → ¬ Contains done e.id) → not_done done m ≡ m
 not_done-all done [] left = refl
 not_done-all done (e ∷ m) left =
-    rw (not_among done e.id (left e (Contains-head e m)))
+    rw (is_among-false done e.id (left e (Contains-head e m)))
     (ap (λ es. e ∷ es) (not_done-all done m (λ d h. left d (Contains-cons e m d h))))
 
 none_ordered : (ids : List Id) → ((x : Id) → ¬ Contains ids x) → ids ≡ []
@@ -119,15 +119,15 @@ module _ (v : ExecutorView) (settled : AllWait v) (done : List Id)
 
   other_is_pending : (e : Instance) → Contains commit.other e ↔ Contains v.pending e
   other_is_pending e = (
-    λ h. elim ((merged_instances done [] v.pending commit.other commit.merged e).0 h)
+    λ h. elim ((Contains-merged done [] v.pending commit.other commit.merged e).0 h)
         [ inl none ↦ absurd (Contains-nil e none) | inr new ↦ new.0 ],
-    λ h. (merged_instances done [] v.pending commit.other commit.merged e).1
+    λ h. (Contains-merged done [] v.pending commit.other commit.merged e).1
         (inr (h, left_as_pending e h)),
   )
 
   same_remainder : remaining done commit.other ≡ remaining v.done v.pending
   same_remainder =
-      same_remaining done commit.other v.pending commit.merged.committed.rising settled.rising
+      remaining-same done commit.other v.pending commit.merged.committed.rising settled.rising
       (λ e left. other_is_pending e) ∙ remaining_alike done v.done same v.pending
 
   none_executed : ranked_ids commit.order ≡ []
@@ -151,17 +151,17 @@ module _ (v : ExecutorView) (settled : AllWait v) (done : List Id)
     λ h. (commit.done x).1 (inl ((same x).1 h)),
   )
 
-  pub nothing_replied : replies ≡ []
-  nothing_replied =
+  pub replies-none : replies ≡ []
+  replies-none =
       commit.replied ∙ ap₂ (λ (ids : List Id) (e : Execution). zip ids e.replies) none_executed
       run_is_empty
 
-  pub holds_what_it_held : HoldTheSame after v
-  holds_what_it_held = record {
+  pub HoldTheSame-after : HoldTheSame after v
+  HoldTheSame-after = record {
     done = done_stays;
     store = commit.store ∙ ap (λ (e : Execution). e.final) run_is_empty;
     pending = commit.pending
-        ∙ same_not_done after.done commit.other v.pending commit.merged.committed.rising
+        ∙ not_done-same after.done commit.other v.pending commit.merged.committed.rising
         settled.rising (λ e left. other_is_pending e)
         ∙ not_done-all after.done v.pending
         (λ e h there. settled.not_done e h ((done_stays e.id).0 there));

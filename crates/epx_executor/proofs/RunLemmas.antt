@@ -8,11 +8,12 @@ use Rattle.epx_types.proofs.Common.{nat_tests, get_or_append_left, get_or_defaul
 use Rattle.epx_types.proofs.Common.{length-append, get_or-append_seam, Contains-append_left}
 use Rattle.epx_types.proofs.Common.{Contains-append_right, Contains-append_cases, All-push, All-pop}
 use Rattle.epx_types.proofs.Common.{All-contains, All-append, Contains-permutation}
-use Rattle.epx_types.proofs.Common.{IsPermutation-sym, all_pairs_push, Below, UpTo, id_cmp_total}
+use Rattle.epx_types.proofs.Common.{IsPermutation-sym, all_pairs_push, Below, UpTo}
+use Rattle.epx_types.proofs.Common.{id_cmp-IsTotalOrder}
 use Rattle.epx_types.proofs.Common.{id_cmp-IsAntisymmetric, Contains-nil, Contains-head}
 use Rattle.epx_types.proofs.Common.{Contains-cons_cases, Contains-map, Contains-from_map}
-use Rattle.epx_types.proofs.Common.{Contains-flat_map, Contains-from_flat_map, below_trans}
-use Rattle.epx_types.proofs.Common.{below_cases}
+use Rattle.epx_types.proofs.Common.{Contains-flat_map, Contains-from_flat_map, is_lt-trans}
+use Rattle.epx_types.proofs.Common.{is_lt-cases}
 use Rattle.epx_types.specs.declared.id.Id.{Id}
 use Rattle.std.specs.Ordering.{is_some_and, partial_ordering_then}
 use Rattle.std.proofs.lemmas.List.FromFn.{length-range_with_len, get_or-range_with_len}
@@ -60,9 +61,9 @@ unfolding ids_in
 Contains-ids_in runs x h =
     Contains-flat_map ids_of_run runs h.0 x h.1 (Contains-ids_of_run h.0 x h.2)
 
-pub from_ids_in : (runs : List Run) (x : Id) → Contains (ids_in runs) x → IsInRuns runs x
+pub IsInRuns-from_ids_in : (runs : List Run) (x : Id) → Contains (ids_in runs) x → IsInRuns runs x
 unfolding ids_in
-from_ids_in runs x h =
+IsInRuns-from_ids_in runs x h =
     let r = Contains-from_flat_map ids_of_run runs x h in
     (r.0, r.1, from_ids_of_run r.0 x r.2)
 
@@ -89,7 +90,7 @@ Below-from_lt x y h = is_lt-from_lt (nat_cmp x.replica y.replica) (nat_cmp x.num
 pub Run-by_first : (a b : Run) → is_lt (run_ord.cmp-value.it b a) ≡ false
     → UpTo (start_of a) (start_of b)
 Run-by_first a b h =
-    elim (below_cases id_cmp_total id_cmp-IsAntisymmetric (start_of a) (start_of b)) [
+    elim (is_lt-cases id_cmp-IsTotalOrder id_cmp-IsAntisymmetric (start_of a) (start_of b)) [
       | inl lower ↦ inr lower
       | inr (inl same) ↦ inl same
       | inr (inr back) ↦ absurd (less (below_numbers (start_of b) (start_of a) back))
@@ -99,15 +100,15 @@ Run-by_first a b h =
     less k = grind (arith, nat_tests)
 
 -- an Id in a run is not below its first one
-pub in_run_from : (r : Run) (x : Id) → IsInRun r x → ¬ Below x (start_of r)
-in_run_from r x h l = elim (below_numbers x (start_of r) l) [
+pub Below-not_start_of : (r : Run) (x : Id) → IsInRun r x → ¬ Below x (start_of r)
+Below-not_start_of r x h l = elim (below_numbers x (start_of r) l) [
   | inl lower ↦ absurd (omega (arith, h.0))
   | inr same ↦ absurd (omega (arith, h.1, same.1))
 ]
 
 -- the last Id of a run is not below an Id in it
-pub in_run_upto : (r : Run) (x : Id) → IsInRun r x → ¬ Below (end_of r) x
-in_run_upto r x h l = elim (below_numbers (end_of r) x l) [
+pub Below-not_end_of : (r : Run) (x : Id) → IsInRun r x → ¬ Below (end_of r) x
+Below-not_end_of r x h l = elim (below_numbers (end_of r) x l) [
   | inl lower ↦ absurd (omega (arith, h.0))
   | inr same ↦ absurd (omega (arith, h.2, same.1))
 ]
@@ -121,16 +122,16 @@ first_upto_last r filled = elim (cases_eq r.first r.last) [
 
 upto_below : (x y z : Id) → UpTo x y → Below y z → Below x z
 upto_below x y z (inl e) l = subst (λ (w : Id). Below w z) (sym e) l
-upto_below x y z (inr k) l = below_trans id_cmp_total x y z k l
+upto_below x y z (inr k) l = is_lt-trans id_cmp-IsTotalOrder x y z k l
 
 below_upto : (x y z : Id) → Below x y → UpTo y z → Below x z
 below_upto x y z l (inl e) = subst (Below x) e l
-below_upto x y z l (inr k) = below_trans id_cmp_total x y z l k
+below_upto x y z l (inr k) = is_lt-trans id_cmp-IsTotalOrder x y z l k
 
 upto_trans : (x y z : Id) → UpTo x y → UpTo y z → UpTo x z
 upto_trans x y z (inl e) l = subst (λ (w : Id). UpTo w z) (sym e) l
 upto_trans x y z (inr k) (inl e) = inr (subst (Below x) e k)
-upto_trans x y z (inr k) (inr l) = inr (below_trans id_cmp_total x y z k l)
+upto_trans x y z (inr k) (inr l) = inr (is_lt-trans id_cmp-IsTotalOrder x y z k l)
 
 -- ---- runs that are appended
 
@@ -204,7 +205,8 @@ module _ (runs front : List Run) (last : Run) (parts : runs ≡ front ++ last �
   AreRuns-after run apart filled =
       AreRuns-push (front ++ last ∷ []) run are_parts filled
       (All-push (λ r. Below (end_of r) (start_of run)) front last
-      (λ k d l. below_trans id_cmp_total (end_of (get_or front k d)) (start_of last) (start_of run)
+      (λ k d l. is_lt-trans id_cmp-IsTotalOrder (end_of (get_or front k d)) (start_of last)
+      (start_of run)
       (front_apart k d l)
       (upto_below (start_of last) (end_of last) (start_of run)
       (first_upto_last last front_filled.1) apart)) apart)
@@ -376,17 +378,17 @@ module _ (runs : List Run) (are : AreRuns runs) (middle : ℕ) (e : Run)
     (within : middle < length runs) (x : Id) (k : ℕ) (d : Run) (l : k < length runs)
     (there : IsInRun (get_or runs k d) x) where
   -- all runs from the middle on are after the Id
-  pub run_before : Below x (start_of (get_or runs middle e)) → k < middle
-  run_before lower = elim (cases_lt k middle) [
+  pub Below-run_before : Below x (start_of (get_or runs middle e)) → k < middle
+  Below-run_before lower = elim (cases_lt k middle) [
     | inl before ↦ before
-    | inr from ↦ absurd (in_run_from (get_or runs k d) x there (elim (cases_eq middle k) [
+    | inr from ↦ absurd (Below-not_start_of (get_or runs k d) x there (elim (cases_eq middle k) [
       | inl same ↦ subst (λ (r : Run). Below x (start_of r))
           (get_or_default runs middle e d within ∙ ap (λ (n : ℕ). get_or runs n d) same) lower
       | inr other ↦
           let mine : Below x (start_of (get_or runs middle d)) =
           subst (λ (r : Run). Below x (start_of r)) (get_or_default runs middle e d within)
           lower in
-          below_trans id_cmp_total x (end_of (get_or runs middle d))
+          is_lt-trans id_cmp-IsTotalOrder x (end_of (get_or runs middle d))
           (start_of (get_or runs k d))
           (below_upto x (start_of (get_or runs middle d)) (end_of (get_or runs middle d)) mine
           (first_upto_last (get_or runs middle d) (are.filled middle d within)))
@@ -395,17 +397,18 @@ module _ (runs : List Run) (are : AreRuns runs) (middle : ℕ) (e : Run)
   ]
 
   -- all runs up to the middle are before the Id
-  pub run_after : Below (end_of (get_or runs middle e)) x → middle < k
-  run_after upper = elim (cases_lt middle k) [
+  pub Below-run_after : Below (end_of (get_or runs middle e)) x → middle < k
+  Below-run_after upper = elim (cases_lt middle k) [
     | inl after ↦ after
-    | inr upto ↦ absurd (in_run_upto (get_or runs k d) x there (elim (cases_eq middle k) [
+    | inr upto ↦ absurd (Below-not_end_of (get_or runs k d) x there (elim (cases_eq middle k) [
       | inl same ↦ subst (λ (r : Run). Below (end_of r) x)
           (get_or_default runs middle e d within ∙ ap (λ (n : ℕ). get_or runs n d) same) upper
       | inr other ↦
           let mine : Below (end_of (get_or runs middle d)) x =
           subst (λ (r : Run). Below (end_of r) x) (get_or_default runs middle e d within)
           upper in
-          below_trans id_cmp_total (end_of (get_or runs k d)) (start_of (get_or runs middle d)) x
+          is_lt-trans id_cmp-IsTotalOrder (end_of (get_or runs k d))
+          (start_of (get_or runs middle d)) x
           (are.apart k middle d (omega arith) within)
           (upto_below (start_of (get_or runs middle d)) (end_of (get_or runs middle d)) x
           (first_upto_last (get_or runs middle d) (are.filled middle d within)) mine)

@@ -1,15 +1,11 @@
 //! Explains which line of a state, a base, a list, a history or of what a replica said is bad.
-use crate::array_line::is_array_begun;
-use crate::call_line::explain_call_line;
 use crate::contents::read_again;
-use crate::file_kind::explain_file_kind;
 use crate::input_kind::explain_input_kind;
 use crate::inputs::{Input, Role};
-use crate::lines::{LogLine, line_at};
-use crate::list_line::explain_list_line;
-use crate::looks::{Looks, is_report_line, looks_of};
-use crate::not_json::explain_text;
-use crate::shown::show_bytes;
+use epx_bad_lines::{
+    LogLine, Looks, explain_call_line, explain_file_kind, explain_list_line, explain_text,
+    is_array_begun, is_report_line, line_at, looks_of, show_bytes,
+};
 use epx_lines::{MAX_LINE_BYTES, is_blank_line, read_json};
 use epx_types::Memory;
 use std::alloc::Global;

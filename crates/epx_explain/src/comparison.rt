@@ -2,8 +2,8 @@
 use crate::answer::{Difference, FirstBadLine, LogFindings, read_answer};
 use crate::contents::{Contents, read_again};
 use crate::inputs::{Input, Inputs};
-use crate::lines::first_line;
 use crate::log_line::explain_line_of;
+use epx_bad_lines::first_line;
 use epx_types::Memory;
 use std::alloc::Global;
 use std::rt::Files;

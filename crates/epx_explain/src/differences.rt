@@ -1,7 +1,7 @@
 //! Explains how two lines that commit one instance differ.
 use crate::contents::read_again;
 use crate::inputs::{Input, Inputs};
-use crate::lines::line_at;
+use epx_bad_lines::line_at;
 use epx_lines::{Line, LineFault, read_line};
 use epx_types::{Entry, Memory, Place};
 use std::alloc::Global;

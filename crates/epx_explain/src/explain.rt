@@ -6,7 +6,7 @@ use crate::differences::explain_differences;
 use crate::inputs::Inputs;
 use crate::log_line::explain_bad_line;
 use crate::reading::{explain_length, explain_log_count, explain_read};
-use crate::shown::show_text;
+use epx_bad_lines::show_text;
 use epx_types::limits::MAX_INSTANCES;
 use epx_types::{Fault, Memory};
 use std::alloc::Global;

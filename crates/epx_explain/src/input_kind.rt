@@ -1,6 +1,6 @@
 //! Says what an input is in place of what it must be.
 use crate::inputs::Role;
-use crate::looks::Looks;
+use epx_bad_lines::Looks;
 
 /// What a log must be instead.
 fn explain_log(role: Role) -> Option<&'static str> {

@@ -1,5 +1,5 @@
 //! The inputs that a command line names.
-use crate::shown::show_text;
+use epx_bad_lines::show_text;
 use epx_names::Task;
 use epx_types::Memory;
 use std::alloc::Global;

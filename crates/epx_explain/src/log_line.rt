@@ -1,14 +1,10 @@
 //! Explains why a line of a log is bad.
 use crate::contents::{Contents, read_again};
-use crate::dependencies::explain_deps;
-use crate::file_kind::explain_file_kind;
 use crate::inputs::Input;
-use crate::lines::{LogLine, line_at};
-use crate::looks::{Looks, looks_by};
-use crate::members::{MAX_REPLICA, explain_kind, explain_number, explain_status};
-use crate::not_json::explain_text;
-use crate::operations::explain_ops;
-use crate::shown::show_value;
+use epx_bad_lines::{
+    LogLine, Looks, MAX_REPLICA, explain_deps, explain_file_kind, explain_kind, explain_number,
+    explain_ops, explain_status, explain_text, line_at, looks_by, show_value,
+};
 use epx_lines::{MAX_LINE_BYTES, read_json};
 use epx_types::{Memory, Why};
 use serde_json::Value;

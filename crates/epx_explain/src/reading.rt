@@ -1,6 +1,6 @@
 //! Explains why an input could not be read, or is too long.
 use crate::inputs::{Input, Inputs, Origin, Role};
-use crate::shown::show_text;
+use epx_bad_lines::show_text;
 use epx_types::Memory;
 use epx_types::limits::{MAX_LOG_BYTES, MAX_LOGS};
 use std::alloc::Global;

@@ -16,28 +16,29 @@ use Rattle.epx_follow.specs.inner.FirstPlaces.{HasFirstPlaces, IsNoted}
 use Rattle.epx_follow.specs.inner.HeldLines.{AreHeld, no_place, pending_lines}
 use Rattle.epx_follow.proofs.BatchEndLemmas.{instances-pending}
 use Rattle.epx_follow.proofs.FirstLineLemmas.{first_line-rising}
-use Rattle.epx_follow.proofs.HeldLineLemmas.{first_places_next, place_of}
+use Rattle.epx_follow.proofs.HeldLineLemmas.{HasFirstPlaces-push, place_of}
 use Rattle.epx_follow.proofs.HoldLemmas.{shown}
 
 -- ---- places on consecutive lines
 
-pub none_placed : (noted : Id → Option Place) (log line : ℕ) (es : List Instance)
+pub HasFirstPlaces-nil : (noted : Id → Option Place) (log line : ℕ) (es : List Instance)
     → ((x : Id) → noted x ≡ None) → HasFirstPlaces noted (lines_from log line (take 0 es))
-none_placed noted log line es none x = none x
+HasFirstPlaces-nil noted log line es none x = none x
 
 -- one more of the places
-pub one_more_placed : (before after : Id → Option Place) (log line : ℕ) (es : List Instance)
+pub HasFirstPlaces-lines_step : (before after : Id → Option Place) (log line : ℕ)
+    (es : List Instance)
     (k : ℕ) (d : Instance) → k < length es
     → HasFirstPlaces before (lines_from log line (take k es))
     → IsNoted before (get_or es k d).id (record { log = log; line = line + k }) after
     → HasFirstPlaces after (lines_from log line (take (k + 1) es))
-one_more_placed before after log line es k d l has noted =
+HasFirstPlaces-lines_step before after log line es k d l has noted =
     let e = get_or es k d in
     let earlier = lines_from log line (take k es) in
     let on : line + k ≡ k + line = omega arith in
     subst (HasFirstPlaces after)
     (ap (λ n. earlier ++ line_at log n e ∷ []) on ∙ sym (lines_from-more log line es k d l))
-    (first_places_next before after (line_at log (line + k) e) noted earlier has)
+    (HasFirstPlaces-push before after (line_at log (line + k) e) noted earlier has)
 
 instances-from : (log n : ℕ) (es : List Instance) → instances_of (lines_from log n es) ≡ es
 instances-from log n [] = refl
@@ -62,8 +63,8 @@ noted_lines noted lines rising has = among lines (λ p h. h)
 
 -- ---- the follower
 
-pub follower_after_holds_the_same : FollowerAfterHoldsTheSame
-follower_after_holds_the_same v log line =
+pub FollowerAfterHoldsTheSame-holds : FollowerAfterHoldsTheSame
+FollowerAfterHoldsTheSame-holds v log line =
     ap (λ (es : List Instance). record { done = v.done; store = v.store; pending = es })
     (instances-from log line v.pending)
 
@@ -79,12 +80,12 @@ module _ (noted : Id → Option Place) (v : ExecutorView) (log line : ℕ) (sett
   abbrev pub begun : FollowerView
   begun = shown v.done v.store noted v.pending [] [] (record { log = 0; line = 1 }) false
 
-  pub begun_is : begun ≡ follower_after v log line
-  begun_is = ap (λ (ls : List Placed). record (follower_after v log line) { pending = ls })
+  pub begun-is_after : begun ≡ follower_after v log line
+  begun-is_after = ap (λ (ls : List Placed). record (follower_after v log line) { pending = ls })
       pending_are
 
-  pub held_after : AreHeld noted begun
-  held_after = record {
+  pub AreHeld-after : AreHeld noted begun
+  AreHeld-after = record {
     settled = subst (λ (m : List Instance).
         AllWait (record { done = v.done; store = v.store; pending = m }))
         (sym (instances-pending noted v.pending)) settled;

@@ -5,12 +5,12 @@ use Rattle.std.proofs.Common.{sym, ap, ap₂, subst, arith, Bor, ◌+◌, ◌<�
 use Rattle.epx_types.proofs.Common.{map-append, take_more}
 use Rattle.epx_types.proofs.Common.{Contains-filter, Contains-append_cases}
 use Rattle.epx_types.proofs.Common.{Contains-from_filter, Contains-from_map, Contains-map}
-use Rattle.epx_types.proofs.Common.{Contains-nil, Instance, Placed, is_among, not_among}
+use Rattle.epx_types.proofs.Common.{Contains-nil, Instance, Placed, is_among, is_among-false}
 use Rattle.epx_types.proofs.Common.{ranked_ids}
 use Rattle.std.specs.Option.{unwrap_or}
 use Rattle.epx_committed.specs.MergedLines.{IsMerged}
 use Rattle.epx_laws.specs.ResumedRunLaws.{run_on}
-use Rattle.epx_types.proofs.remaining.RemainingLemmas.{is_among_cases}
+use Rattle.epx_types.proofs.remaining.RemainingLemmas.{is_among-cases}
 use Rattle.epx_types.specs.declared.id.Id.{Id}
 use Rattle.epx_types.specs.declared.place.Place.{Place}
 use Rattle.epx_types.specs.declared.reply.Reply.{Reply}
@@ -22,8 +22,8 @@ use Rattle.epx_follow.specs.FollowerLaws.{BatchIsACommit, executor_of}
 use Rattle.epx_follow.specs.CallPlaces.{held_places}
 use Rattle.epx_follow.specs.inner.FirstPlaces.{HasFirstPlaces, HasOtherPlaces}
 use Rattle.epx_follow.specs.inner.HeldLines.{AreHeld, batch_lines, no_place, pending_lines}
-use Rattle.epx_follow.proofs.CallPlaceLemmas.{call_has_real, real_has_call}
-use Rattle.epx_follow.proofs.SameInstanceLemmas.{merged_alike}
+use Rattle.epx_follow.proofs.CallPlaceLemmas.{HaveInstancesOf-call_real, HaveInstancesOf-real_call}
+use Rattle.epx_follow.proofs.SameInstanceLemmas.{IsMerged-alike}
 use Rattle.epx_executor.specs.CallLines.{call_lines}
 use Rattle.epx_follow.proofs.FirstLineLemmas.{first_line-cases, first_line-finds}
 use Rattle.epx_follow.proofs.FirstLineLemmas.{first_line-found}
@@ -97,9 +97,9 @@ module _ (noted : Id → Option Place) (before : FollowerView) (held : AreHeld n
   executed = ranked_ids commit.order
 
   merged : IsMerged lines commit.other
-  merged = merged_alike call lines
-      (real_has_call before.done before.pending before.batch held.left)
-      (call_has_real before.done before.pending before.batch held.left) commit.other
+  merged = IsMerged-alike call lines
+      (HaveInstancesOf-real_call before.done before.pending before.batch held.left)
+      (HaveInstancesOf-call_real before.done before.pending before.batch held.left) commit.other
       commit.merged
 
   -- what waits now is of the map, and not executed
@@ -126,12 +126,12 @@ module _ (noted : Id → Option Place) (before : FollowerView) (held : AreHeld n
       ] in
       subst (λ (m : List Instance). Contains m p.instance) (sym commit.pending)
       (Contains-filter (λ d. not (is_among after.done d.id)) commit.other p.instance
-      (merged.committed.whole p h) (ap not (not_among after.done p.instance.id left_out)))
+      (merged.committed.whole p h) (ap not (is_among-false after.done p.instance.id left_out)))
 
   -- where nothing waits, no line names an Id that is not executed
-  pub all_executed : (left : Id → Option Place) → after.pending ≡ []
+  pub HasOtherPlaces-all_executed : (left : Id → Option Place) → after.pending ≡ []
       → ((x : Id) → left x ≡ None) → HasOtherPlaces left lines executed
-  all_executed left none gone = (
+  HasOtherPlaces-all_executed left none gone = (
     λ x h. gone x,
     λ x new. elim (first_line-cases lines x) [
       | inl free ↦ gone x ∙ sym (ap (option_map place_of) free)
@@ -173,8 +173,8 @@ module _ (noted : Id → Option Place) (before : FollowerView) (held : AreHeld n
         (sym (ap (λ (o : Option Place). unwrap_or o no_place) is)) same in
         (first ∙ ap Some line, is ∙ ap (λ (q : Placed). Some q.place) line)
 
-    pub at_first_lines : AreAtFirstLines lines (not_done after.done commit.other) waiting
-    at_first_lines = record {
+    pub AreAtFirstLines-waiting : AreAtFirstLines lines (not_done after.done commit.other) waiting
+    AreAtFirstLines-waiting = record {
       instances = instances-pending left after.pending ∙ commit.pending;
       first = λ p h. let e = Contains-from_map at_place after.pending p h in
           subst (λ (q : Placed). first_line lines q.instance.id ≡ Some q) e.2
@@ -183,7 +183,7 @@ module _ (noted : Id → Option Place) (before : FollowerView) (held : AreHeld n
 
     -- nothing is noted for an Id that no line names now
     none_noted : (x : Id) → first_line waiting x ≡ None → left x ≡ None
-    none_noted x none = elim (is_among_cases executed x) [
+    none_noted x none = elim (is_among-cases executed x) [
       | inl done ↦ others.0 x done.1
       | inr new ↦ elim (first_line-cases lines x) [
         | inl free ↦ others.1 x new.1 ∙ ap (option_map place_of) free
@@ -221,8 +221,8 @@ module _ (noted : Id → Option Place) (before : FollowerView) (held : AreHeld n
       is_open = false;
     }
 
-    pub held_ended : AreHeld left ended
-    held_ended = record {
+    pub AreHeld-ended : AreHeld left ended
+    AreHeld-ended = record {
       settled = subst (λ (m : List Instance).
           AllWait (record { done = after.done; store = after.store; pending = m }))
           (sym (instances-pending left after.pending)) settled;
@@ -230,16 +230,16 @@ module _ (noted : Id → Option Place) (before : FollowerView) (held : AreHeld n
       first_places = noted_now;
     }
 
-    pub ends_batch : (came : ℕ) (text : List ℕ) → came ≡ count_new before commit.other
+    pub EndsBatch-ended : (came : ℕ) (text : List ℕ) → came ≡ count_new before commit.other
         → text ≡ batch_text came (length waiting) replies → EndsBatch before ended text
-    ends_batch came text new is = record {
+    EndsBatch-ended came text new is = record {
       other = commit.other;
       order = commit.order;
       merged = merged;
       ordered = commit.ordered;
       store = commit.store;
       done = commit.done;
-      pending = at_first_lines;
+      pending = AreAtFirstLines-waiting;
       closed = (refl, refl);
       next = refl;
       written = is
@@ -248,16 +248,17 @@ module _ (noted : Id → Option Place) (before : FollowerView) (held : AreHeld n
 
 -- ---- the law
 
-pub batch_is_a_commit : BatchIsACommit
-batch_is_a_commit before after text left ends =
+pub BatchIsACommit-holds : BatchIsACommit
+BatchIsACommit-holds before after text left ends =
     let call = call_lines before.done (instances_of before.pending) (instances_of before.batch) in (
       zip (ranked_ids ends.order) (run_on before.done before.store ends.other ends.order).replies,
       record {
         other = ends.other;
         order = ends.order;
-        merged = merged_alike (held_lines before) call
-            (call_has_real before.done before.pending before.batch left)
-            (real_has_call before.done before.pending before.batch left) ends.other ends.merged;
+        merged = IsMerged-alike (held_lines before) call
+            (HaveInstancesOf-call_real before.done before.pending before.batch left)
+            (HaveInstancesOf-real_call before.done before.pending before.batch left) ends.other
+            ends.merged;
         ordered = ends.ordered;
         store = ends.store;
         replied = refl;

@@ -8,9 +8,10 @@ use Rattle.epx_types.proofs.Common.{get_or_from_slice_get, Contains-slice_get, A
 use Rattle.epx_types.proofs.Common.{Contains-nil, Contains-head}
 use Rattle.epx_types.proofs.Common.{Contains-cons, Contains-cons_cases, Contains-append_cases}
 use Rattle.epx_types.proofs.Common.{Contains-append_left, Contains-append_right, Contains-filter}
-use Rattle.epx_types.proofs.Common.{Contains-from_filter, is_among, not_among, ids_of, IsRising}
+use Rattle.epx_types.proofs.Common.{Contains-from_filter, is_among, is_among-false, ids_of}
+use Rattle.epx_types.proofs.Common.{IsRising}
 use Rattle.epx_types.proofs.Common.{UpTo, Instance, Placed, Earlier, Differ}
-use Rattle.epx_types.proofs.Common.{place_cmp_total, below_irrefl, below_asymm}
+use Rattle.epx_types.proofs.Common.{place_cmp-IsTotalOrder, is_lt-irrefl, is_lt-asymm}
 use Rattle.epx_types.specs.declared.id.Id.{Id}
 use Rattle.epx_types.specs.declared.fault.Fault.{Fault}
 use Rattle.epx_types.specs.declared.fault.Fault.TheVariants.{Memory, TooManyLogs, LogTooLong}
@@ -18,14 +19,14 @@ use Rattle.epx_types.specs.declared.fault.Fault.TheVariants.{BadLine, TooManyIns
 use Rattle.epx_types.specs.declared.fault.Fault.TheVariants.{Read, Write, BadBase}
 use Rattle.epx_types.specs.declared.place.Place.{Place}
 use Rattle.epx_committed.specs.MergedLines.{IsDisagreementAt, IsMergeFault}
-use Rattle.epx_committed.proofs.LineOrderLemmas.{earlier_line}
+use Rattle.epx_committed.proofs.LineOrderLemmas.{Earlier-same_log}
 use Rattle.epx_laws.specs.AgreementLaws.{HaveInstancesOf}
 use Rattle.epx_executor.specs.CallLines.{call_lines, lines_from, lines_not_done}
-use Rattle.epx_executor.proofs.CallLineLemmas.{earlier_log, line_at}
+use Rattle.epx_executor.proofs.CallLineLemmas.{Earlier-log, line_at}
 use Rattle.epx_follow.specs.CallPlaces.{at_lines, held_places, place_among}
 use Rattle.epx_follow.specs.Following.{instances_of}
-use Rattle.epx_follow.proofs.FirstLineLemmas.{same_line}
-use Rattle.epx_follow.proofs.SameInstanceLemmas.{few_alike, many_alike}
+use Rattle.epx_follow.proofs.FirstLineLemmas.{Placed-same_instance}
+use Rattle.epx_follow.proofs.SameInstanceLemmas.{FewInstances-alike, ManyInstances-alike}
 
 -- the place that a line of a call names
 abbrev real_place : List Placed → List Placed → Place → Place
@@ -188,7 +189,7 @@ module _ (done : List Id) (pending batch : List Placed) where
           )
           | inr new ↦
               let p = to_lines 1 1 batch r new in
-              let passes : IsLeft p.0 ≡ true = ap not (not_among done p.0.instance.id
+              let passes : IsLeft p.0 ≡ true = ap not (is_among-false done p.0.instance.id
               (subst (λ (e : Instance). ¬ Contains done e.id) p.2.same (left r new))) in (
                 p.0,
                 Contains-append_right old_lines (lines_not_done done came) p.0
@@ -198,11 +199,11 @@ module _ (done : List Id) (pending batch : List Placed) where
         ]
 
     -- both have the same instances
-    pub real_has_call : HaveInstancesOf real call
-    real_has_call p h = let r = real_of p h in (r.0, r.1.within, r.1.same)
+    pub HaveInstancesOf-real_call : HaveInstancesOf real call
+    HaveInstancesOf-real_call p h = let r = real_of p h in (r.0, r.1.within, r.1.same)
 
-    pub call_has_real : HaveInstancesOf call real
-    call_has_real r h = let p = call_of r h in (p.0, p.1, sym p.2.same)
+    pub HaveInstancesOf-call_real : HaveInstancesOf call real
+    HaveInstancesOf-call_real r h = let p = call_of r h in (p.0, p.1, sym p.2.same)
 
     -- ---- the order of the call's lines of one instance is that of the real lines
 
@@ -214,7 +215,7 @@ module _ (done : List Id) (pending batch : List Placed) where
       same_pending : (p q r s : Placed) → IsLineFor 0 1 pending p r → IsLineFor 0 1 pending q s
           → p.instance.id ≡ q.instance.id → r ≡ s
       same_pending p q r s a b same =
-          same_line pending once r s (Contains-slice_get pending a.k r a.at)
+          Placed-same_instance pending once r s (Contains-slice_get pending a.k r a.at)
           (Contains-slice_get pending b.k s b.at)
           (ap id_of a.same ∙ same ∙ ap id_of (sym b.same))
 
@@ -225,13 +226,13 @@ module _ (done : List Id) (pending batch : List Placed) where
           elim (cases_lt j k) [
             | inl lower ↦ lower
             | inr upto ↦ elim (cases_lt k j) [
-              | inl above ↦ absurd (below_asymm place_cmp_total r.place s.place l
+              | inl above ↦ absurd (is_lt-asymm place_cmp-IsTotalOrder r.place s.place l
                   (AllPairs-slice_get (λ p q. Earlier p.place q.place) batch in_order k j s r above
                   at_s at_r))
               | inr none ↦
                   let same : j ≡ k = omega arith in
                   let alike : r ≡ s = cc in
-                  absurd (below_irrefl place_cmp_total s.place
+                  absurd (is_lt-irrefl place_cmp-IsTotalOrder s.place
                   (subst (λ (p : Placed). Earlier p.place s.place) alike l))
             ]
           ]
@@ -240,23 +241,23 @@ module _ (done : List Id) (pending batch : List Placed) where
       earlier_call : (p q r s : Placed) → IsOfEither p r → IsOfEither q s
           → p.instance.id ≡ q.instance.id → Earlier r.place s.place → Earlier p.place q.place
       earlier_call p q r s (inl a) (inl b) same l =
-          absurd (below_irrefl place_cmp_total s.place
+          absurd (is_lt-irrefl place_cmp-IsTotalOrder s.place
           (subst (λ (t : Placed). Earlier t.place s.place) (same_pending p q r s a b same) l))
-      earlier_call p q r s (inl a) (inr b) same l = earlier_log p.place q.place a.in_log b.in_log
+      earlier_call p q r s (inl a) (inr b) same l = Earlier-log p.place q.place a.in_log b.in_log
       earlier_call p q r s (inr a) (inl b) same l =
-          absurd (below_asymm place_cmp_total r.place s.place l
+          absurd (is_lt-asymm place_cmp-IsTotalOrder r.place s.place l
           (earlier s r (Contains-slice_get pending b.k s b.at)
           (Contains-slice_get batch a.k r a.at)))
       earlier_call p q r s (inr a) (inr b) same l =
-          earlier_line p.place q.place (a.in_log ∙ sym b.in_log)
+          Earlier-same_log p.place q.place (a.in_log ∙ sym b.in_log)
           (omega (arith, a.on_line, b.on_line, lower_position a.k b.k r s a.at b.at l))
 
       -- a disagreement of the call is one of the real lines
-      pub disagreement_real : (id : Id) (first second : Place)
+      pub IsDisagreementAt-real : (id : Id) (first second : Place)
           → IsDisagreementAt call id first second
           → IsDisagreementAt real id (real_place pending batch first)
           (real_place pending batch second)
-      disagreement_real id first second d =
+      IsDisagreementAt-real id first second d =
           let f = real_of d.0 d.2.has_first in
           let s = real_of d.1 d.2.has_second in (
             f.0,
@@ -288,17 +289,18 @@ module _ (done : List Id) (pending batch : List Placed) where
           )
 
       -- a refused call is a refusal of the real lines
-      pub fault_real : (fault : Fault) → IsMergeFault call fault
+      pub IsMergeFault-real : (fault : Fault) → IsMergeFault call fault
           → IsMergeFault real (at_lines (held_places pending) (held_places batch) fault)
-      fault_real Memory h = h
-      fault_real TooManyInstances h = many_alike call real real_has_call call_has_real h
-      fault_real (Disagree id first second) h = (
-        few_alike call real real_has_call call_has_real h.0,
-        disagreement_real id first second h.1,
+      IsMergeFault-real Memory h = h
+      IsMergeFault-real TooManyInstances h =
+          ManyInstances-alike call real HaveInstancesOf-real_call HaveInstancesOf-call_real h
+      IsMergeFault-real (Disagree id first second) h = (
+        FewInstances-alike call real HaveInstancesOf-real_call HaveInstancesOf-call_real h.0,
+        IsDisagreementAt-real id first second h.1,
       )
-      fault_real TooManyLogs h = h
-      fault_real (LogTooLong log) h = h
-      fault_real (BadLine place why) h = h
-      fault_real (Read log) h = h
-      fault_real Write h = h
-      fault_real (BadBase line) h = h
+      IsMergeFault-real TooManyLogs h = h
+      IsMergeFault-real (LogTooLong log) h = h
+      IsMergeFault-real (BadLine place why) h = h
+      IsMergeFault-real (Read log) h = h
+      IsMergeFault-real Write h = h
+      IsMergeFault-real (BadBase line) h = h

@@ -6,9 +6,11 @@ use Rattle.std.proofs.lemmas.List.Filters.{length-filter_both}
 use Rattle.epx_types.proofs.Common.{BelowAll, Contains-append_cases, Contains-append_left}
 use Rattle.epx_types.proofs.Common.{Contains-filter, Contains-from_filter, Contains-from_map}
 use Rattle.epx_types.proofs.Common.{Contains-map, Instance, IsExecutionOrder-IsLawful, IsRising}
-use Rattle.epx_types.proofs.Common.{Placed, cases_Bool, fewer, ids_of, is_among, length-map}
-use Rattle.epx_types.proofs.Common.{passes-from_filter, ranked_ids, remaining, rising_once}
-use Rattle.epx_types.proofs.remaining.RemainingLemmas.{Contains-remaining_iff, is_among_cases}
+use Rattle.epx_types.proofs.Common.{Placed, cases_Bool, length-at_most, ids_of, is_among}
+use Rattle.epx_types.proofs.Common.{length-map}
+use Rattle.epx_types.proofs.Common.{passes-from_filter, ranked_ids, remaining}
+use Rattle.epx_types.proofs.Common.{AllPairs-rising_distinct}
+use Rattle.epx_types.proofs.remaining.RemainingLemmas.{Contains-remaining_iff, is_among-cases}
 use Rattle.epx_types.specs.declared.id.Id.{Id}
 use Rattle.epx_types.specs.declared.place.Place.{Place}
 use Rattle.epx_types.specs.declared.reply.Reply.{Reply}
@@ -19,17 +21,17 @@ use Rattle.epx_follow.specs.BatchEnds.{count_new}
 use Rattle.epx_follow.specs.Following.{FollowerView, held_lines, instances_of}
 use Rattle.epx_follow.specs.FollowerLaws.{executor_of}
 use Rattle.epx_follow.specs.inner.HeldLines.{AreHeld}
-use Rattle.epx_follow.proofs.CallPlaceLemmas.{call_has_real, real_has_call}
-use Rattle.epx_follow.proofs.SameInstanceLemmas.{merged_alike}
+use Rattle.epx_follow.proofs.CallPlaceLemmas.{HaveInstancesOf-call_real, HaveInstancesOf-real_call}
+use Rattle.epx_follow.proofs.SameInstanceLemmas.{IsMerged-alike}
 
 -- ---- what passes a test
 
 among_is : (ids : List Id) (x : Id) → is_among ids x ≡ true → Contains ids x
-among_is ids x e = elim (is_among_cases ids x)
+among_is ids x e = elim (is_among-cases ids x)
     [ inl found ↦ found.1 | inr missed ↦ absurd (cc (e, missed.0)) ]
 
 is_in : (ids : List Id) (x : Id) → Contains ids x → is_among ids x ≡ true
-is_in ids x h = elim (is_among_cases ids x)
+is_in ids x h = elim (is_among-cases ids x)
     [ inl found ↦ found.0 | inr missed ↦ absurd (missed.1 h) ]
 
 module _ (p : Instance → Bool) where
@@ -41,11 +43,11 @@ module _ (p : Instance → Bool) where
     | inr fails ↦ rw fails (below_passing x m h.1)
   ]
 
-  pub rising_passing : (m : List Instance) → IsRising (ids_of m) → IsRising (ids_of (filter p m))
-  rising_passing [] h = tt
-  rising_passing (e ∷ m) h = elim (cases_Bool (p e)) [
-    | inl passes ↦ rw passes (below_passing e.id m h.0, rising_passing m h.1)
-    | inr fails ↦ rw fails (rising_passing m h.1)
+  pub IsRising-filter : (m : List Instance) → IsRising (ids_of m) → IsRising (ids_of (filter p m))
+  IsRising-filter [] h = tt
+  IsRising-filter (e ∷ m) h = elim (cases_Bool (p e)) [
+    | inl passes ↦ rw passes (below_passing e.id m h.0, IsRising-filter m h.1)
+    | inr fails ↦ rw fails (IsRising-filter m h.1)
   ]
 
   -- the instances that pass are as many as their Ids
@@ -55,11 +57,11 @@ module _ (p : Instance → Bool) where
       → ((e : Instance) → Contains m e → p e ≡ true → Contains ids e.id)
       → length (filter p m) ≡ length ids
   passing_are m ids rising once there back =
-      let down = fewer ids (ids_of (filter p m)) once (λ x h. let e = there x h in
+      let down = length-at_most ids (ids_of (filter p m)) once (λ x h. let e = there x h in
       subst (Contains (ids_of (filter p m))) e.2
       (Contains-map (λ (d : Instance). d.id) (filter p m) e.0 (Contains-filter p m e.0 e.1 e.3))) in
-      let up = fewer (ids_of (filter p m)) ids
-      (rising_once (ids_of (filter p m)) (rising_passing m rising)) (λ x h.
+      let up = length-at_most (ids_of (filter p m)) ids
+      (AllPairs-rising_distinct (ids_of (filter p m)) (IsRising-filter m rising)) (λ x h.
       let e = Contains-from_map (λ (d : Instance). d.id) (filter p m) x h in
       subst (Contains ids) e.2 (back e.0 (Contains-from_filter p m e.0 e.1)
       (passes-from_filter p m e.0 e.1))) in
@@ -80,10 +82,10 @@ module _ (noted : Id → Option Place) (before : FollowerView) (held : AreHeld n
   executed = ranked_ids commit.order
 
   merged : IsMerged lines commit.other
-  merged = merged_alike
+  merged = IsMerged-alike
       (call_lines before.done (instances_of before.pending) (instances_of before.batch)) lines
-      (real_has_call before.done before.pending before.batch held.left)
-      (call_has_real before.done before.pending before.batch held.left) commit.other
+      (HaveInstancesOf-real_call before.done before.pending before.batch held.left)
+      (HaveInstancesOf-call_real before.done before.pending before.batch held.left) commit.other
       commit.merged
 
   -- nothing of the map was executed before
@@ -125,15 +127,15 @@ module _ (noted : Id → Option Place) (before : FollowerView) (held : AreHeld n
         is_in after.done e.0.id (subst (Contains after.done) (sym e.2) ((commit.done x).1 (inr h))),
       )
 
-  pub counted : count_new before commit.other + length before.pending
+  pub count_new-executed : count_new before commit.other + length before.pending
       ≡ length executed + length after.pending
-  counted =
+  count_new-executed =
       let was = λ (e : Instance). is_among waited e.id in
       let is = λ (e : Instance). is_among after.done e.id in
       let lawful = IsExecutionOrder-IsLawful (remaining before.done commit.other) commit.order
       commit.ordered in
       let old = passing_are was commit.other waited merged.committed.rising
-      (rising_once waited held.settled.rising) was_of_map
+      (AllPairs-rising_distinct waited held.settled.rising) was_of_map
       (λ e h among. among_is waited e.id among) in
       let now = passing_are is commit.other executed merged.committed.rising lawful.once
       executed_of_map (λ e h among. elim ((commit.done e.id).0 (among_is after.done e.id among)) [

@@ -18,7 +18,7 @@ use Rattle.epx_follow.specs.InputEnds.{IsFollowed}
 use Rattle.epx_follow.specs.LinesTaken.{EndsIf, TakesAs}
 use Rattle.epx_follow.specs.LogsTaken.{TakesLines, TakesLogs}
 use Rattle.epx_follow.proofs.LogsTakenLemmas.{TakesLogs-split}
-use Rattle.epx_follow.proofs.SameFollowerLemmas.{AreAlike, alike_followed, alike_logs}
+use Rattle.epx_follow.proofs.SameFollowerLemmas.{AreAlike, Follow-followed, Follow-logs}
 
 -- ---- executors that hold the same
 
@@ -86,8 +86,8 @@ stays false v w text shut h = h.0
 
 module _ (map_is_unique : CommittedMapIsUnique) (list_is_unique : WaitingListIsUnique)
     (commit_alike : SameExecutorsCommitAlike) where
-  pub cut_streams_go_on : CutStreamsGoOn
-  cut_streams_go_on start none each first others middle begun cut shut next last text closed same
+  pub CutStreamsGoOn-holds : CutStreamsGoOn
+  CutStreamsGoOn-holds start none each first others middle begun cut shut next last text closed same
       rest other whole all =
       let parts = TakesLogs-split each start all.taken first others all.batches all.lines in
       let there = cut.taken in
@@ -97,7 +97,7 @@ module _ (map_is_unique : CommittedMapIsUnique) (list_is_unique : WaitingListIsU
         is_open = refl;
         left = none_left start none;
       } in
-      let taken = alike_logs map_is_unique list_is_unique commit_alike each first start start there
+      let taken = Follow-logs map_is_unique list_is_unique commit_alike each first start start there
       parts.0 cut.batches parts.1 alike cut.lines parts.3 in
       let empty = empty_after_logs each first start there cut.batches (λ h. none) cut.lines shut in
       let middle_is : middle ≡ there =
@@ -119,7 +119,7 @@ module _ (map_is_unique : CommittedMapIsUnique) (list_is_unique : WaitingListIsU
         ended = all.ended;
         printed = refl;
       } in
-      let after = alike_followed map_is_unique list_is_unique commit_alike each others next parts.0
+      let after = Follow-followed map_is_unique list_is_unique commit_alike each others next parts.0
       last other text (parts.2 ++ all.rest) goes_on rest followed in (
         all.printed ∙ ap (λ (t : List ℕ). t ++ all.rest) parts.5
             ∙ append_assoc parts.1 parts.2 all.rest

@@ -19,12 +19,13 @@ use Rattle.epx_follow.specs.Following.{FollowerView, held_lines, instances_of}
 use Rattle.epx_follow.specs.FollowerLaws.{executor_of}
 use Rattle.epx_follow.specs.inner.FirstPlaces.{HasOtherPlaces}
 use Rattle.epx_follow.specs.inner.HeldLines.{AreHeld, batch_lines, pending_lines}
-use Rattle.epx_follow.proofs.BatchEndLemmas.{all_executed, ends_batch, held_ended}
+use Rattle.epx_follow.proofs.BatchEndLemmas.{HasOtherPlaces-all_executed, EndsBatch-ended}
+use Rattle.epx_follow.proofs.BatchEndLemmas.{AreHeld-ended}
 use Rattle.epx_follow.proofs.BatchEndLemmas.{instances-batch, instances-pending, places-batch}
-use Rattle.epx_follow.proofs.CountLemmas.{counted}
+use Rattle.epx_follow.proofs.CountLemmas.{count_new-executed}
 use Rattle.epx_follow.proofs.HoldLemmas.{shown}
-use Rattle.epx_executor.proofs.CallLineLemmas.{merged_are_few}
-use Rattle.epx_executor.proofs.PrefixLemmas.{zip_firsts}
+use Rattle.epx_executor.proofs.CallLineLemmas.{length-merged}
+use Rattle.epx_executor.proofs.PrefixLemmas.{map-zip_firsts}
 use Rattle.std.proofs.lemmas.List.Sums.{count_by-le-length, length-filter}
 
 -- the Ids of the replies of a commit are those of its order
@@ -35,17 +36,17 @@ executed_are v after came replies commit =
     let ids = ranked_ids commit.order in
     let m = remaining v.done commit.other in
     ap (map (λ (r : Id × Reply). r.0)) commit.replied
-    ∙ zip_firsts ids (run_on v.done v.store commit.other commit.order).replies
+    ∙ map-zip_firsts ids (run_on v.done v.store commit.other commit.order).replies
     (length-replies (commands_in m ids) v.store ∙ length-map ids _)
 
 -- few wait after a commit
-pub few_wait : (v after : ExecutorView) (came : List Instance) (replies : List (Id × Reply))
+pub pending-is_few : (v after : ExecutorView) (came : List Instance) (replies : List (Id × Reply))
     → IsCommit v came after replies → length after.pending ≤ 2 ^ 20
-few_wait v after came replies commit =
+pending-is_few v after came replies commit =
     let passes = λ (e : Instance). not (is_among after.done e.id) in
     omega (
       arith,
-      merged_are_few (call_lines v.done v.pending came) commit.other commit.merged,
+      length-merged (call_lines v.done v.pending came) commit.other commit.merged,
       length-filter passes commit.other,
       count_by-le-length passes commit.other,
       ap length commit.pending,
@@ -66,11 +67,12 @@ module _ (done : List Id) (store : Contents) (noted : Id → Option Place)
   batch_are = instances-batch places batch same
 
   -- a refused call refuses the batch
-  pub refused : (fault result : Fault) → IsMergeFault (call_lines done pending batch) fault
+  pub RefusesBatch-from_fault : (fault result : Fault)
+      → IsMergeFault (call_lines done pending batch) fault
       → (result ≡ Memory) ⊎ (result ≡ at_lines (held_places was.pending) places fault)
       → RefusesBatch was result
-  refused fault result h (inl memory) = inl memory
-  refused fault result h (inr is) =
+  RefusesBatch-from_fault fault result h (inl memory) = inl memory
+  RefusesBatch-from_fault fault result h (inr is) =
       inr (record {
         call = fault;
         refused = subst₂ (λ (p b : List Instance). IsMergeFault (call_lines done p b) fault)
@@ -97,10 +99,10 @@ module _ (done : List Id) (store : Contents) (noted : Id → Option Place)
         ∙ ap length pending_are
 
     -- no more waited than are executed or wait now
-    pub few_waited : length pending ≤ length ids + length after.pending
-    few_waited = omega (
+    pub pending-within : length pending ≤ length ids + length after.pending
+    pending-within = omega (
       arith,
-      counted noted was held after replies commits,
+      count_new-executed noted was held after replies commits,
       ap length executed_ids,
       waiting_ids,
     )
@@ -112,7 +114,8 @@ module _ (done : List Id) (store : Contents) (noted : Id → Option Place)
       others_by : (m : List Instance) → after.pending ≡ m
           → HasOtherPlaces left (held_lines was) (ranked_ids commits.order)
       others_by [] is =
-          all_executed noted was held after replies commits settled left is (gone (ap length is))
+          HasOtherPlaces-all_executed noted was held after replies commits settled left is
+          (gone (ap length is))
       others_by (e ∷ m) is = subst (HasOtherPlaces left (held_lines was)) executed_ids
           (kept (λ none. absurd (omega (arith, ap length is, none))))
 
@@ -122,22 +125,22 @@ module _ (done : List Id) (store : Contents) (noted : Id → Option Place)
       abbrev now : FollowerView
       now = shown after.done after.store left after.pending [] [] next false
 
-      pub held_now : AreHeld left now
-      held_now = held_ended noted was held after replies commits settled left others
+      pub AreHeld-left : AreHeld left now
+      AreHeld-left = AreHeld-ended noted was held after replies commits settled left others
 
-      pub ends : (came : ℕ) (text : List ℕ)
+      pub EndsBatch-now : (came : ℕ) (text : List ℕ)
           → came + length pending ≡ length ids + length after.pending
           → text ≡ batch_text came (length after.pending) replies → EndsBatch was now text
-      ends came text count is =
+      EndsBatch-now came text count is =
           let new : came ≡ count_new was commits.other =
           omega (
             arith,
-            counted noted was held after replies commits,
+            count_new-executed noted was held after replies commits,
             ap length executed_ids,
             waiting_ids,
             count,
           ) in
-          ends_batch noted was held after replies commits settled left others came text new
+          EndsBatch-ended noted was held after replies commits settled left others came text new
           (is ∙ ap (λ n. batch_text came n replies)
           (ap length (sym (instances-pending left after.pending))
           ∙ length-map (pending_lines left after.pending) (λ (p : Placed). p.instance)))

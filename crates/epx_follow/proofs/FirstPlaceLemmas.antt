@@ -25,8 +25,8 @@ abbrev pub AreForgotten : (Id → Option Place) → List Id → (Id → Option P
 AreForgotten before ids after = ((x : Id) → Contains ids x → after x ≡ None)
     × ((x : Id) → ¬ Contains ids x → after x ≡ before x)
 
-pub none_forgotten : (before : Id → Option Place) → AreForgotten before (take 0 []) before
-none_forgotten before = (λ x h. absurd (Contains-nil x h), λ x h. refl)
+pub AreForgotten-none : (before : Id → Option Place) → AreForgotten before (take 0 []) before
+AreForgotten-none before = (λ x h. absurd (Contains-nil x h), λ x h. refl)
 
 -- one more Id
 forgotten_with : (before now after : Id → Option Place) (ids : List Id) (id : Id)
@@ -46,15 +46,15 @@ forgotten_with before now after ids id so_far gone apart = (
       ∙ so_far.1 x (λ earlier. h (Contains-append_left ids (id ∷ []) x earlier)),
 )
 
-pub one_more_forgotten : (before now after : Id → Option Place) (ids : List Id) (k : ℕ) (d : Id)
+pub AreForgotten-step : (before now after : Id → Option Place) (ids : List Id) (k : ℕ) (d : Id)
     → k < length ids → AreForgotten before (take k ids) now → after (get_or ids k d) ≡ None
     → ((x : Id) → x ≢ get_or ids k d → after x ≡ now x)
     → AreForgotten before (take (k + 1) ids) after
-one_more_forgotten before now after ids k d l so_far gone apart =
+AreForgotten-step before now after ids k d l so_far gone apart =
     subst (λ (xs : List Id). AreForgotten before xs after) (sym (take_more ids k d l))
     (forgotten_with before now after (take k ids) (get_or ids k d) so_far gone apart)
 
-pub all_forgotten : (before after : Id → Option Place) (ids : List Id) (k : ℕ) → length ids ≤ k
+pub AreForgotten-all : (before after : Id → Option Place) (ids : List Id) (k : ℕ) → length ids ≤ k
     → AreForgotten before (take k ids) after → AreForgotten before ids after
-all_forgotten before after ids k l so_far =
+AreForgotten-all before after ids k l so_far =
     subst (λ (xs : List Id). AreForgotten before xs after) (take_all k ids l) so_far

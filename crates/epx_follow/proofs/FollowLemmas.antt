@@ -16,8 +16,8 @@ use Rattle.epx_follow.specs.FollowingStops.{ReadsLines, StopsAmong, StopsWithin}
 use Rattle.epx_follow.specs.FollowingStops.{most_followed_bytes}
 use Rattle.epx_follow.specs.LogsTaken.{TakesLines}
 use Rattle.epx_follow.specs.inner.PartsTaken.{StopsInPart, TakesBytes, TakesPart}
-use Rattle.epx_follow.proofs.LogsTakenLemmas.{TakesLines-append, appends_nothing}
-use Rattle.epx_follow.proofs.LogsTakenLemmas.{stops_among_later}
+use Rattle.epx_follow.proofs.LogsTakenLemmas.{TakesLines-append, Appends-nothing}
+use Rattle.epx_follow.proofs.LogsTakenLemmas.{StopsAmong-later}
 
 -- the last bytes of lines end a line, or there are none
 ends_line : (xs ys : List ℕ) → EndsLine xs → EndsLine ys → EndsLine (xs ++ ys)
@@ -27,10 +27,10 @@ ends_line xs ys first (inr last) =
     inr (xs ++ last.0, ap (λ zs. xs ++ zs) last.1 ∙ sym (append_assoc xs last.0 _))
 
 -- the lines of more bytes are taken after those of whole lines
-pub takes_more : (each : Bool) (v w u : FollowerView) (xs ys : List ℕ)
+pub TakesBytes-append : (each : Bool) (v w u : FollowerView) (xs ys : List ℕ)
     (was mid now : Option (List ℕ)) → EndsLine xs → TakesBytes each v xs w was mid
     → TakesBytes each w ys u mid now → TakesBytes each v (xs ++ ys) u was now
-takes_more each v w u xs ys was mid now whole h k = (
+TakesBytes-append each v w u xs ys was mid now whole h k = (
   h.0 ++ k.0,
   subst (λ ls. TakesLines each v ls u (h.0 ++ k.0)) (sym (lines_of-append xs ys whole))
       (TakesLines-append each v w u (lines_of xs) (lines_of ys) h.0 k.0 h.1 k.1),
@@ -38,13 +38,13 @@ takes_more each v w u xs ys was mid now whole h k = (
 )
 
 -- one of the lines of more bytes stops it
-pub stops_more : (each : Bool) (v w : FollowerView) (xs ys : List ℕ) (fault : Fault)
+pub StopsAmong-append : (each : Bool) (v w : FollowerView) (xs ys : List ℕ) (fault : Fault)
     (was mid now : Option (List ℕ)) → EndsLine xs → TakesBytes each v xs w was mid
     → StopsAmong each w (lines_of ys) fault [] mid now
     → StopsAmong each v (lines_of (xs ++ ys)) fault [] was now
-stops_more each v w xs ys fault was mid now whole h stops =
+StopsAmong-append each v w xs ys fault was mid now whole h stops =
     subst (λ ls. StopsAmong each v ls fault [] was now) (sym (lines_of-append xs ys whole))
-    (stops_among_later each v w (lines_of xs) (lines_of ys) fault was mid now h.0 h.1 h.2 stops)
+    (StopsAmong-later each v w (lines_of xs) (lines_of ys) fault was mid now h.0 h.1 h.2 stops)
 
 -- Reads of the source returned these whole lines, which are taken, and the beginning of one more
 pub record IsFollowedTo {S : Type 0} (D : SourceModel S) (each : Bool) (first now : S)
@@ -55,23 +55,23 @@ pub record IsFollowedTo {S : Type 0} (D : SourceModel S) (each : Bool) (first no
   pub taken : TakesBytes each v lines w was out
 
 -- nothing is read yet
-pub nothing_followed : {S : Type 0} (D : SourceModel S) (each : Bool) (first : S)
+pub IsFollowedTo-nothing : {S : Type 0} (D : SourceModel S) (each : Bool) (first : S)
     (v : FollowerView) (begun : List ℕ) (was : Option (List ℕ)) → begun ≡ []
     → (h : IsFollowedTo D each first first v v begun was was) × (length (h.lines ++ begun) ≡ 0)
-nothing_followed D each first v begun was none = (
+IsFollowedTo-nothing D each first v begun was none = (
   record {
     lines = [];
     whole = inl refl;
     delivered = record { steps = []; in_turn = refl; returned = none };
-    taken = ([], (refl, refl), appends_nothing was);
+    taken = ([], (refl, refl), Appends-nothing was);
   },
   ap length none,
 )
 
 -- how many bytes are read where those of one more part come after the others
-pub length_read : (lines begun part : List ℕ)
+pub length-read : (lines begun part : List ℕ)
     → length (lines ++ (begun ++ part)) ≡ length (lines ++ begun) + length part
-length_read lines begun part =
+length-read lines begun part =
     ap length (sym (append_assoc lines begun part)) ∙ length-append (lines ++ begun) part
 
 module _ {S : Type 0} (D : SourceModel S) (each : Bool) (log : ℕ) (first now later : S)
@@ -84,27 +84,29 @@ module _ {S : Type 0} (D : SourceModel S) (each : Bool) (log : ℕ) (first now l
       (delivered-then D first now later (sofar.lines ++ begun) part room sofar.delivered read)
 
   -- after one more read, of which the whole lines are taken
-  pub followed_on : (part next : List ℕ) (room : ℕ) (u : FollowerView) (more : Option (List ℕ))
+  pub IsFollowedTo-step : (part next : List ℕ) (room : ℕ) (u : FollowerView)
+      (more : Option (List ℕ))
       → D.reads now room part later → TakesPart each w (begun ++ part) u next out more
       → (h : IsFollowedTo D each first later v u next was more)
       × (length (h.lines ++ next) ≡ length (sofar.lines ++ begun) + length part)
-  followed_on part next room u more read h =
+  IsFollowedTo-step part next room u more read h =
       let cut : sofar.lines ++ (begun ++ part) ≡ sofar.lines ++ h.0 ++ next =
       ap (λ bs. sofar.lines ++ bs) h.2 ∙ sym (append_assoc sofar.lines h.0 next) in (
         record {
           lines = sofar.lines ++ h.0;
           whole = ends_line sofar.lines h.0 sofar.whole h.1;
           delivered = subst (Delivers D first later) cut (more_read part room read);
-          taken = takes_more each v w u sofar.lines h.0 was out more sofar.whole sofar.taken h.3;
+          taken =
+              TakesBytes-append each v w u sofar.lines h.0 was out more sofar.whole sofar.taken h.3;
         },
-        ap length (sym cut) ∙ length_read sofar.lines begun part,
+        ap length (sym cut) ∙ length-read sofar.lines begun part,
       )
 
   -- it stops in one more part
-  pub stops_in_part : (part : List ℕ) (room : ℕ) (fault : Fault) (more : Option (List ℕ))
+  pub StopsWithin-part : (part : List ℕ) (room : ℕ) (fault : Fault) (more : Option (List ℕ))
       → D.reads now room part later → StopsInPart each w (begun ++ part) fault out more
       → StopsWithin D each log first later v fault [] was more
-  stops_in_part part room fault more read (lines, left, whole, cut, stops) =
+  StopsWithin-part part room fault more read (lines, left, whole, cut, stops) =
       let all = sofar.lines ++ lines in
       let reads : ReadsLines D first later all = (
         ends_line sofar.lines lines sofar.whole whole,
@@ -118,21 +120,22 @@ module _ {S : Type 0} (D : SourceModel S) (each : Bool) (log : ℕ) (first now l
         elim stops [
           | inl among ↦ inl (
             inl reads,
-            stops_more each v w sofar.lines lines fault was out more
+            StopsAmong-append each v w sofar.lines lines fault was out more
                 sofar.whole sofar.taken among,
           )
           | inr memory ↦
-              let taken = takes_more each v w memory.1.0 sofar.lines lines was out more sofar.whole
+              let taken =
+              TakesBytes-append each v w memory.1.0 sofar.lines lines was out more sofar.whole
               sofar.taken memory.1.1 in
               inr (inl (memory.0, reads), (memory.1.0, taken.0, taken.1, taken.2))
         ],
       )
 
   -- with this part the log is too long
-  pub stops_too_long : (part : List ℕ) (room : ℕ) → D.reads now room part later
+  pub StopsWithin-too_long : (part : List ℕ) (room : ℕ) → D.reads now room part later
       → most_followed_bytes < length (sofar.lines ++ (begun ++ part))
       → StopsWithin D each log first later v (LogTooLong log) [] was out
-  stops_too_long part room read many =
+  StopsWithin-too_long part room read many =
       let delivered = more_read part room read in (
         sofar.lines,
         inr (
@@ -149,9 +152,9 @@ module _ {S : Type 0} (D : SourceModel S) (each : Bool) (log : ℕ) (first now l
   reads_lines = (sofar.whole, (begun, sofar.delivered))
 
   -- a read fails
-  pub stops_at_read : D.fails now later
+  pub StopsWithin-read : D.fails now later
       → StopsWithin D each log first later v (Read log) [] was out
-  stops_at_read fails = (
+  StopsWithin-read fails = (
     sofar.lines,
     inr (
       inr (inr (refl, (now, reads_lines, fails))),
@@ -160,20 +163,21 @@ module _ {S : Type 0} (D : SourceModel S) (each : Bool) (log : ℕ) (first now l
   )
 
   -- a read returned nothing, and the last line ends without a line feed
-  pub ended_by : (u : FollowerView) (more : Option (List ℕ)) → TakesBytes each w begun u out more
+  pub TakesBytes-ended : (u : FollowerView) (more : Option (List ℕ))
+      → TakesBytes each w begun u out more
       → TakesBytes each v (sofar.lines ++ begun) u was more
-  ended_by u more h =
-      takes_more each v w u sofar.lines begun was out more sofar.whole sofar.taken h
+  TakesBytes-ended u more h =
+      TakesBytes-append each v w u sofar.lines begun was out more sofar.whole sofar.taken h
 
-  pub stops_at_last : (fault : Fault) (more : Option (List ℕ))
+  pub StopsWithin-last_line : (fault : Fault) (more : Option (List ℕ))
       → DeliversAll D first later (sofar.lines ++ begun)
       → StopsAmong each w (lines_of begun) fault [] out more
       → StopsWithin D each log first later v fault [] was more
-  stops_at_last fault more all among = (
+  StopsWithin-last_line fault more all among = (
     sofar.lines ++ begun,
     inl (
       inr all,
-      stops_more each v w sofar.lines begun fault was out more sofar.whole sofar.taken
+      StopsAmong-append each v w sofar.lines begun fault was out more sofar.whole sofar.taken
           among,
     ),
   )

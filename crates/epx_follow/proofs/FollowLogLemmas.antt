@@ -10,15 +10,15 @@ use Rattle.epx_types.specs.declared.fault.Fault.{Fault}
 use Rattle.epx_devices.proofs.KnownBytesLemmas.{Appends-trans}
 use Rattle.epx_devices.specs.Deliveries.{DeliversAll}
 use Rattle.epx_devices.specs.Models.{SourceModel}
-use Rattle.epx_merge.proofs.DeliveredLemmas.{delivered_step, delivered_unchanged}
+use Rattle.epx_merge.proofs.DeliveredLemmas.{FirstDeliver-step, FirstDeliver-unchanged}
 use Rattle.epx_merge.specs.DeliveredLogs.{EachDelivers, FirstDeliver, IsOfNoSource}
 use Rattle.epx_follow.specs.Following.{FollowerView, at_next_log}
 use Rattle.epx_follow.specs.FollowingStops.{AppendsSome, StopsAtEnd, StopsFollowing, StopsWithin}
 use Rattle.epx_follow.specs.InputEnds.{EndsInput, IsFollowed}
 use Rattle.epx_follow.specs.LogsTaken.{TakesLogs}
 use Rattle.epx_follow.specs.inner.PartsTaken.{TakesBytes}
-use Rattle.epx_follow.proofs.LogsTakenLemmas.{TakesLogs-push, appends_nothing, appends_some}
-use Rattle.epx_follow.proofs.LogsTakenLemmas.{stops_among_after}
+use Rattle.epx_follow.proofs.LogsTakenLemmas.{TakesLogs-push, Appends-nothing, AppendsSome-append}
+use Rattle.epx_follow.proofs.LogsTakenLemmas.{StopsAmong-after}
 
 -- ---- a stop after the text of other logs
 
@@ -27,7 +27,7 @@ module _ (was out more : Option (List ℕ)) (text : List ℕ) (before : Appends 
       (v : FollowerView) (fault : Fault) → StopsWithin D each log first last v fault [] out more
       → StopsWithin D each log first last v fault text was more
   within_after D each log first last v fault (lines, inl (read, among)) =
-      (lines, inl (read, stops_among_after each v _ fault was out more text before among))
+      (lines, inl (read, StopsAmong-after each v _ fault was out more text before among))
   within_after D each log first last v fault (lines, inr (stopped, taken)) = (
     lines,
     inr (
@@ -52,7 +52,7 @@ module _ (was out more : Option (List ℕ)) (text : List ℕ) (before : Appends 
           rest.1,
           rest.2,
           subst (λ t. AppendsSome t rest.1 was more) (append-nil text)
-              (appends_some was out more text [] rest.1 before rest.3),
+              (AppendsSome-append was out more text [] rest.1 before rest.3),
         ),
       )
 
@@ -72,9 +72,9 @@ pub record AreFollowed {S : Type 0} (D : SourceModel S) (start : FollowerView) (
 
 module _ {S : Type 0} (D : SourceModel S) (start : FollowerView) (each : Bool) (first : List S)
   where
-    pub none_followed : (was : Option (List ℕ))
+    pub AreFollowed-none : (was : Option (List ℕ))
         → AreFollowed D start each first first 0 start was was
-    none_followed was = record {
+    AreFollowed-none was = record {
       many = refl;
       unread = refl;
       logs = [];
@@ -82,59 +82,62 @@ module _ {S : Type 0} (D : SourceModel S) (start : FollowerView) (each : Bool) (
       count = refl;
       whole = tt;
       lines = (refl, refl);
-      appended = appends_nothing was;
+      appended = Appends-nothing was;
     }
 
-    pub too_many : (was : Option (List ℕ)) (fault : Fault) → IsOfNoSource (length first) fault
+    pub StopsFollowing-too_many : (was : Option (List ℕ)) (fault : Fault)
+        → IsOfNoSource (length first) fault
         → StopsFollowing D start each first first fault was was
-    too_many was fault many = record {
+    StopsFollowing-too_many was fault many = record {
       logs = [];
       whole = tt;
       taken = start;
       text = [];
       lines = (refl, refl);
-      stopped = inl (many, appends_nothing was);
+      stopped = inl (many, Appends-nothing was);
     }
 
     module _ (now : List S) (n : ℕ) (v : FollowerView) (was out : Option (List ℕ))
         (sofar : AreFollowed D start each first now n v was out) where
       -- the next source is as it was
-      pub same_next : (d : S) → get_or now n d ≡ get_or first n d
-      same_next d =
+      pub get_or-next : (d : S) → get_or now n d ≡ get_or first n d
+      get_or-next d =
           let none : n + 0 ≡ n = omega arith in
           ap (λ k. get_or now k d) (sym none) ∙ sym (get_or-drop n now 0 d)
           ∙ ap (λ ss. get_or ss 0 d) sofar.unread ∙ get_or-drop n first 0 d
           ∙ ap (λ k. get_or first k d) none
 
-      pub one_more_followed : (d later : S) (bytes : List ℕ) (u : FollowerView)
+      pub AreFollowed-step : (d later : S) (bytes : List ℕ) (u : FollowerView)
           (more : Option (List ℕ)) → n < length first
           → DeliversAll D (get_or now n d) later bytes → TakesBytes each v bytes u out more
           → AreFollowed D start each first (set now n later) (n + 1) (at_next_log u) was more
-      one_more_followed d later bytes u more l all taken = record {
+      AreFollowed-step d later bytes u more l all taken = record {
         many = length-set now n later ∙ sofar.many;
         unread = drop-set-lt (n + 1) now n later (omega arith)
             ∙ drop_more_same now first n sofar.unread;
         logs = sofar.logs ++ bytes ∷ [];
         text = sofar.text ++ taken.0;
         count = omega (arith, length-append sofar.logs (bytes ∷ []), sofar.count);
-        whole = delivered_step D first now sofar.logs n d later bytes sofar.count l sofar.many
-            sofar.whole (subst (λ s. DeliversAll D s later bytes) (same_next d) all);
+        whole = FirstDeliver-step D first now sofar.logs n d later bytes sofar.count l sofar.many
+            sofar.whole (subst (λ s. DeliversAll D s later bytes) (get_or-next d) all);
         lines = TakesLogs-push each start v u sofar.logs bytes sofar.text taken.0 sofar.lines
             taken.1;
         appended = Appends-trans was out more sofar.text taken.0 sofar.appended taken.2;
       }
 
-      pub stops_in_next : (d later : S) (fault : Fault) (more : Option (List ℕ)) → n < length first
+      pub StopsFollowing-next_log : (d later : S) (fault : Fault) (more : Option (List ℕ))
+          → n < length first
           → StopsWithin D each n (get_or now n d) later v fault [] out more
           → StopsFollowing D start each first (set now n later) fault was more
-      stops_in_next d later fault more l stops =
+      StopsFollowing-next_log d later fault more l stops =
           let within : n < length (set now n later) =
           omega (arith, l, sofar.many, length-set now n later) in
           let is = slice_get-get_or (set now n later) n later within in
           let here = get_or-set_same now n later later (omega (arith, l, sofar.many)) in
           record {
             logs = sofar.logs;
-            whole = delivered_unchanged D first now sofar.logs n later (omega (arith, sofar.count))
+            whole =
+                FirstDeliver-unchanged D first now sofar.logs n later (omega (arith, sofar.count))
                 sofar.whole;
             taken = v;
             text = sofar.text;
@@ -148,17 +151,17 @@ module _ {S : Type 0} (D : SourceModel S) (start : FollowerView) (each : Bool) (
                   (sym sofar.count)
                   (within_after was out more sofar.text sofar.appended D each n (get_or first n d)
                   later v fault (subst (λ s. StopsWithin D each n s later v fault [] out more)
-                  (same_next d) stops)),
+                  (get_or-next d) stops)),
             ));
           }
 
       -- no source is left
       module _ (more : Option (List ℕ)) (all : n ≡ length first) where
-        pub stops_at_end : {X : Type 0} (r : Result X Fault)
+        pub StopsFollowing-at_end : {X : Type 0} (r : Result X Fault)
             → IfErr r (λ fault. StopsAtEnd v fault [] out more)
             → IfErr r (λ fault. StopsFollowing D start each first now fault was more)
-        stops_at_end (Ok last) stops = tt
-        stops_at_end (Err fault) stops = record {
+        StopsFollowing-at_end (Ok last) stops = tt
+        StopsFollowing-at_end (Err fault) stops = record {
           logs = sofar.logs;
           whole = sofar.whole;
           taken = v;
@@ -170,13 +173,13 @@ module _ {S : Type 0} (D : SourceModel S) (start : FollowerView) (each : Bool) (
           ));
         }
 
-        pub all_followed : (r : Result FollowerView Fault)
+        pub IsFollowed-all : (r : Result FollowerView Fault)
             → IfOk r (λ last. (rest : List ℕ) × EndsInput v last rest × Appends out more rest)
             → IfOk r (λ last. (logs : List (List ℕ)) × (text : List ℕ)
             × EachDelivers D first now logs × IsFollowed start each logs last text
             × Appends was more text)
-        all_followed (Err fault) ends = tt
-        all_followed (Ok last) ends = (
+        IsFollowed-all (Err fault) ends = tt
+        IsFollowed-all (Ok last) ends = (
           sofar.logs,
           sofar.text ++ ends.0,
           record { as_many = sofar.count ∙ all; whole = sofar.whole },

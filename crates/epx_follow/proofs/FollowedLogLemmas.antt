@@ -18,8 +18,8 @@ use Rattle.epx_follow.specs.Following.{FollowerView, at_next_log, instances_of, 
 use Rattle.epx_follow.specs.Following.{passed}
 use Rattle.epx_follow.specs.LinesTaken.{EndsIf, TakesAs}
 use Rattle.epx_follow.specs.LogsTaken.{TakesLines, TakesLogs}
-use Rattle.epx_follow.proofs.BatchEndLemmas.{batch_is_a_commit}
-use Rattle.epx_follow.proofs.HoldLemmas.{in_joined}
+use Rattle.epx_follow.proofs.BatchEndLemmas.{BatchIsACommit-holds}
+use Rattle.epx_follow.proofs.HoldLemmas.{Contains-joined}
 
 -- ---- calls after others
 
@@ -91,7 +91,7 @@ module _ (M : Instance → Type 0) where
   one_call : (v w : FollowerView) (text : List ℕ) → HasBatch v → EndsBatch v w text
       → AreCalls (executor_of v) w text
   one_call v w text has ends =
-      let law = batch_is_a_commit v w text (λ p h. (has p h).0) ends in
+      let law = BatchIsACommit-holds v w text (λ p h. (has p h).0) ends in
       let call : Call = (instances_of v.batch, law.0) in
       record {
         calls = call ∷ [];
@@ -126,7 +126,7 @@ module _ (M : Instance → Type 0) where
 
   joined_batch : (v : FollowerView) (e : Instance) → HasBatch v → M e → HasBatch (joined v e)
   joined_batch v e has holds =
-      in_joined (λ p. (¬ Contains v.done p.instance.id) × M p.instance) v e has
+      Contains-joined (λ p. (¬ Contains v.done p.instance.id) × M p.instance) v e has
       (λ left. (left, holds))
 
   calls_of_meaning : (each blank : Bool) (m : Result Line Why) (v w : FollowerView)
@@ -179,8 +179,8 @@ abbrev IsOnALine : List (List ℕ) → Instance → Type 0
 IsOnALine logs e = (log : List ℕ) × Contains logs log
     × ((line : List ℕ) × Contains (lines_of log) line × (meaning_of line ≡ Ok (Entry e)))
 
-pub followed_logs_are_commits : FollowedLogsAreCommits
-followed_logs_are_commits start none each logs last text followed =
+pub FollowedLogsAreCommits-holds : FollowedLogsAreCommits
+FollowedLogsAreCommits-holds start none each logs last text followed =
     let M = IsOnALine logs in
     let v = followed.taken in
     let taken = calls_of_logs M each logs start v followed.batches

@@ -15,14 +15,14 @@ use Rattle.epx_follow.proofs.FirstLineLemmas.{first_line-other}
 
 -- ---- a line without an instance, and the end of a log
 
-pub held_passed : (noted : Id → Option Place) (v : FollowerView) → AreHeld noted v
+pub AreHeld-passed : (noted : Id → Option Place) (v : FollowerView) → AreHeld noted v
     → AreHeld noted (passed v)
-held_passed noted v h =
+AreHeld-passed noted v h =
     record { settled = h.settled; left = h.left; first_places = h.first_places }
 
-pub held_next_log : (noted : Id → Option Place) (v : FollowerView) → AreHeld noted v
+pub AreHeld-next_log : (noted : Id → Option Place) (v : FollowerView) → AreHeld noted v
     → AreHeld noted (at_next_log v)
-held_next_log noted v h =
+AreHeld-next_log noted v h =
     record { settled = h.settled; left = h.left; first_places = h.first_places }
 
 -- ---- what is noted
@@ -33,10 +33,10 @@ place_of p = p.place
 -- ---- one more line
 
 -- what holds of some lines, and of one more, holds of all
-pub each_line : (P : Placed → Type 0) (lines : List Placed) (l : Placed)
+pub Contains-push_each : (P : Placed → Type 0) (lines : List Placed) (l : Placed)
     → ((p : Placed) → Contains lines p → P p) → P l
     → (p : Placed) → Contains (lines ++ l ∷ []) p → P p
-each_line P lines l old new p h = elim (Contains-append_cases lines (l ∷ []) p h) [
+Contains-push_each P lines l old new p h = elim (Contains-append_cases lines (l ∷ []) p h) [
   | inl earlier ↦ old p earlier
   | inr last ↦ elim (Contains-cons_cases l [] p last)
       [ inl here ↦ subst P here new | inr none ↦ absurd (Contains-nil p none) ]
@@ -48,8 +48,8 @@ module _ (before after : Id → Option Place) (l : Placed)
   id = l.instance.id
 
   -- what was noted stays
-  pub stays_noted : (x : Id) (p : Place) → before x ≡ Some p → after x ≡ Some p
-  stays_noted x p e = elim (Id-cases x id) [
+  pub IsNoted-stays : (x : Id) (p : Place) → before x ≡ Some p → after x ≡ Some p
+  IsNoted-stays x p e = elim (Id-cases x id) [
     | inl here ↦
         let was : before id ≡ Some p = ap before (sym here) ∙ e in
         ap after here ∙ subst (λ (o : Option Place). MatchOption o (after id ≡ Some l.place)
@@ -70,12 +70,12 @@ module _ (before after : Id → Option Place) (l : Placed)
         ∙ sym (ap (option_map place_of) (first_line-other l x other))
   ]
 
-  pub first_places_next : (lines : List Placed) → HasFirstPlaces before lines
+  pub HasFirstPlaces-push : (lines : List Placed) → HasFirstPlaces before lines
       → HasFirstPlaces after (lines ++ l ∷ [])
-  first_places_next lines has x = elim (first_line-cases lines x) [
+  HasFirstPlaces-push lines has x = elim (first_line-cases lines x) [
     | inl none ↦ noted_last x (has x ∙ ap (option_map place_of) none)
         ∙ sym (ap (option_map place_of) (first_line-later lines (l ∷ []) x none))
-    | inr some ↦ stays_noted x some.0.place (has x ∙ ap (option_map place_of) some.1)
+    | inr some ↦ IsNoted-stays x some.0.place (has x ∙ ap (option_map place_of) some.1)
         ∙ sym (ap (option_map place_of) (first_line-earlier lines (l ∷ []) x some.0 some.1))
   ]
 
@@ -89,11 +89,12 @@ with_line v e = record v {
   is_open = true;
 }
 
-pub held_joined : (noted : Id → Option Place) (v : FollowerView) (e : Instance) → AreHeld noted v
+pub AreHeld-with_line : (noted : Id → Option Place) (v : FollowerView) (e : Instance)
+    → AreHeld noted v
     → ¬ Contains v.done e.id → AreHeld noted (with_line v e)
-held_joined noted v e h new = record {
+AreHeld-with_line noted v e h new = record {
   settled = h.settled;
-  left = each_line (λ p. ¬ Contains v.done p.instance.id) v.batch
+  left = Contains-push_each (λ p. ¬ Contains v.done p.instance.id) v.batch
       (record { place = v.next; instance = e }) h.left new;
   first_places = h.first_places;
 }

@@ -1,38 +1,38 @@
 -- The lines that a follower holds, as it keeps them, after one more line of an instance.
 use Rattle.std.proofs.Common.{◌≡◌, inl, inr, ◌∙◌, Bool, true, List, [], ◌∷◌, ◌++◌, length}
 use Rattle.std.proofs.Common.{Contains, Option, if◌then◌else◌, refl, sym, ap, ap₂, subst}
-use Rattle.epx_types.proofs.Common.{Contents, Instance, Placed, not_among}
-use Rattle.epx_types.proofs.remaining.RemainingLemmas.{is_among_cases}
+use Rattle.epx_types.proofs.Common.{Contents, Instance, Placed, is_among-false}
+use Rattle.epx_types.proofs.remaining.RemainingLemmas.{is_among-cases}
 use Rattle.epx_types.specs.declared.id.Id.{Id}
 use Rattle.epx_types.specs.declared.place.Place.{Place}
 use Rattle.epx_follow.specs.Following.{FollowerView, joined, next_line, passed}
 use Rattle.epx_follow.specs.inner.HeldLines.{AreHeld, batch_lines, pending_lines}
 use Rattle.epx_follow.proofs.BatchEndLemmas.{batch_lines-push}
-use Rattle.epx_follow.proofs.HeldLineLemmas.{each_line, held_joined, with_line}
+use Rattle.epx_follow.proofs.HeldLineLemmas.{Contains-push_each, AreHeld-with_line, with_line}
 
 -- a line of an executed instance is passed over
-pub joined_done : (v : FollowerView) (e : Instance) → Contains v.done e.id → joined v e ≡ passed v
-joined_done v e h = elim (is_among_cases v.done e.id) [
+pub joined-done : (v : FollowerView) (e : Instance) → Contains v.done e.id → joined v e ≡ passed v
+joined-done v e h = elim (is_among-cases v.done e.id) [
   | inl found ↦ let among = found.0 in rw among refl
   | inr missed ↦ absurd (missed.1 h)
 ]
 
 -- one of another instance joins the batch
-pub joined_new : (v : FollowerView) (e : Instance) → ¬ Contains v.done e.id
+pub joined-new : (v : FollowerView) (e : Instance) → ¬ Contains v.done e.id
     → joined v e ≡ with_line v e
-joined_new v e new = let other = not_among v.done e.id new in rw other refl
+joined-new v e new = let other = is_among-false v.done e.id new in rw other refl
 
 -- what holds of the batch, and of a line that joins it, holds of the batch with this line
-pub in_joined : (P : Placed → Type 0) (v : FollowerView) (e : Instance)
+pub Contains-joined : (P : Placed → Type 0) (v : FollowerView) (e : Instance)
     → ((p : Placed) → Contains v.batch p → P p)
     → (¬ Contains v.done e.id → P (record { place = v.next; instance = e }))
     → (p : Placed) → Contains (joined v e).batch p → P p
-in_joined P v e old new p h =
+Contains-joined P v e old new p h =
     let line : Placed = record { place = v.next; instance = e } in
     let within : Bool → Type 0 = λ b. Contains (if b then v.batch else v.batch ++ line ∷ []) p in
-    elim (is_among_cases v.done e.id) [
+    elim (is_among-cases v.done e.id) [
       | inl executed ↦ old p (subst within executed.0 h)
-      | inr left ↦ each_line P v.batch line old (new left.1) p (subst within left.0 h)
+      | inr left ↦ Contains-push_each P v.batch line old (new left.1) p (subst within left.0 h)
     ]
 
 -- what a follower shows of what it keeps
@@ -69,8 +69,8 @@ module _ (done : List Id) (store : Contents) (noted : Id → Option Place)
     is_open = true;
   }) (sym (ap₂ batch_lines place_more one_more ∙ batch_lines-push places batch next e same))
 
-  pub held_now : AreHeld noted now
-  held_now = subst (AreHeld noted) now_is (held_joined noted was e held new)
+  pub AreHeld-now : AreHeld noted now
+  AreHeld-now = subst (AreHeld noted) now_is (AreHeld-with_line noted was e held new)
 
-  pub now_joined : now ≡ joined was e
-  now_joined = sym now_is ∙ sym (joined_new was e new)
+  pub joined-now : now ≡ joined was e
+  joined-now = sym now_is ∙ sym (joined-new was e new)

@@ -8,10 +8,10 @@ use Rattle.epx_follow.specs.FollowingStops.{StopsAtEnd}
 use Rattle.epx_follow.specs.InputEnds.{EndsInput, IsRest}
 use Rattle.epx_follow.specs.LinesTaken.{EndsIf}
 
-pub ends_input : (v last : FollowerView) (batch rest text : List ℕ)
+pub EndsInput-from_rest : (v last : FollowerView) (batch rest text : List ℕ)
     → EndsIf v.is_open v last batch → IsRest last rest → text ≡ batch ++ rest
     → EndsInput v last text
-ends_input v last batch rest text ended left is = record {
+EndsInput-from_rest v last batch rest text ended left is = record {
   batch = batch;
   rest = rest;
   ended = ended;
@@ -20,7 +20,7 @@ ends_input v last batch rest text ended left is = record {
 }
 
 -- the text is not all written
-pub end_stops : (was now : Option (List ℕ)) (v last : FollowerView) (text : List ℕ)
+pub StopsAtEnd-unwritten : (was now : Option (List ℕ)) (v last : FollowerView) (text : List ℕ)
     (fault : Fault) → EndsInput v last text → fault ≡ Write → AppendsPrefix was now text
     → StopsAtEnd v fault [] was now
-end_stops was now v last text fault ends is h = inr (is, (last, text, ends, (h.0, h.2)))
+StopsAtEnd-unwritten was now v last text fault ends is h = inr (is, (last, text, ends, (h.0, h.2)))

@@ -18,15 +18,15 @@ use Rattle.epx_follow.specs.LogsTaken.{TakesLines, TakesLogs}
 
 -- ---- what is appended
 
-pub appends_nothing : (o : Option (List ℕ)) → Appends o o []
-appends_nothing None = tt
-appends_nothing (Some xs) = sym (append-nil xs)
+pub Appends-nothing : (o : Option (List ℕ)) → Appends o o []
+Appends-nothing None = tt
+Appends-nothing (Some xs) = sym (append-nil xs)
 
 -- some text and a part of the next one, after an earlier text
-pub appends_some : (was mid now : Option (List ℕ)) (first text next : List ℕ)
+pub AppendsSome-append : (was mid now : Option (List ℕ)) (first text next : List ℕ)
     → Appends was mid first → AppendsSome text next mid now
     → AppendsSome (first ++ text) next was now
-appends_some was mid now first text next before h = (
+AppendsSome-append was mid now first text next before h = (
   h.0,
   subst (Appends was now) (sym (append_assoc first text (take h.0 next)))
       (Appends-trans was mid now first (text ++ take h.0 next) before h.1),
@@ -35,13 +35,13 @@ appends_some was mid now first text next before h = (
 -- ---- lines after others
 
 -- no byte, no line
-pub no_lines : (bytes : List ℕ) → length bytes ≡ 0 → lines_of bytes ≡ []
-no_lines [] none = refl
-no_lines (b ∷ bs) none = absurd (omega (arith, none))
+pub lines_of-empty : (bytes : List ℕ) → length bytes ≡ 0 → lines_of bytes ≡ []
+lines_of-empty [] none = refl
+lines_of-empty (b ∷ bs) none = absurd (omega (arith, none))
 
-pub one_line : (each : Bool) (v w : FollowerView) (line text : List ℕ)
+pub TakesLines-one : (each : Bool) (v w : FollowerView) (line text : List ℕ)
     → TakesLine each line v w text → TakesLines each v (line ∷ []) w text
-one_line each v w line text h = (w, text, [], h, (refl, refl), sym (append-nil text))
+TakesLines-one each v w line text h = (w, text, [], h, (refl, refl), sym (append-nil text))
 
 pub TakesLines-append : (each : Bool) (v w u : FollowerView) (xs ys : List (List ℕ))
     (first rest : List ℕ) → TakesLines each v xs w first → TakesLines each w ys u rest
@@ -97,22 +97,22 @@ TakesLogs-split each v w (log ∷ logs) more text h =
 
 -- ---- where lines stop
 
-pub stops_at_later : (each : Bool) (v : FollowerView) (line : List ℕ) (fault : Fault)
+pub StopsAtLine-later : (each : Bool) (v : FollowerView) (line : List ℕ) (fault : Fault)
     (was mid now : Option (List ℕ)) (first text : List ℕ) → Appends was mid first
     → StopsAtLine each v line fault text mid now
     → StopsAtLine each v line fault (first ++ text) was now
-stops_at_later each v line fault was mid now first text before (inl (refused, appended)) =
+StopsAtLine-later each v line fault was mid now first text before (inl (refused, appended)) =
     inl (refused, Appends-trans was mid now first text before appended)
-stops_at_later each v line fault was mid now first text before (inr (is, h)) =
-    inr (is, (h.0, h.1, h.2, appends_some was mid now first text h.1 before h.3))
+StopsAtLine-later each v line fault was mid now first text before (inr (is, h)) =
+    inr (is, (h.0, h.1, h.2, AppendsSome-append was mid now first text h.1 before h.3))
 
 -- a line after others stops it
-pub stops_there : (each : Bool) (v w : FollowerView) (xs ys all : List (List ℕ)) (line : List ℕ)
+pub StopsAmong-line : (each : Bool) (v w : FollowerView) (xs ys all : List (List ℕ)) (line : List ℕ)
     (fault : Fault) (was mid now : Option (List ℕ)) (first : List ℕ)
     → TakesLines each v xs w first → Appends was mid first
     → StopsAtLine each w line fault [] mid now → all ≡ xs ++ line ∷ ys
     → StopsAmong each v all fault [] was now
-stops_there each v w xs ys all line fault was mid now first taken before stopped cut = record {
+StopsAmong-line each v w xs ys all line fault was mid now first taken before stopped cut = record {
   before = xs;
   line = line;
   after = ys;
@@ -121,15 +121,15 @@ stops_there each v w xs ys all line fault was mid now first taken before stopped
   batches = first;
   taken = taken;
   stopped = subst (λ t. StopsAtLine each w line fault t was now) (append-nil first)
-      (stops_at_later each w line fault was mid now first [] before stopped);
+      (StopsAtLine-later each w line fault was mid now first [] before stopped);
 }
 
 -- one of some lines after others stops it
-pub stops_among_later : (each : Bool) (v w : FollowerView) (xs ys : List (List ℕ)) (fault : Fault)
+pub StopsAmong-later : (each : Bool) (v w : FollowerView) (xs ys : List (List ℕ)) (fault : Fault)
     (was mid now : Option (List ℕ)) (first : List ℕ) → TakesLines each v xs w first
     → Appends was mid first → StopsAmong each w ys fault [] mid now
     → StopsAmong each v (xs ++ ys) fault [] was now
-stops_among_later each v w xs ys fault was mid now first taken before h = record {
+StopsAmong-later each v w xs ys fault was mid now first taken before h = record {
   before = xs ++ h.before;
   line = h.line;
   after = h.after;
@@ -137,14 +137,14 @@ stops_among_later each v w xs ys fault was mid now first taken before h = record
   then = h.then;
   batches = first ++ h.batches;
   taken = TakesLines-append each v w h.then xs h.before first h.batches taken h.taken;
-  stopped = stops_at_later each h.then h.line fault was mid now first h.batches before h.stopped;
+  stopped = StopsAtLine-later each h.then h.line fault was mid now first h.batches before h.stopped;
 }
 
 -- one of some lines stops it once the text of other logs is written
-pub stops_among_after : (each : Bool) (v : FollowerView) (lines : List (List ℕ)) (fault : Fault)
+pub StopsAmong-after : (each : Bool) (v : FollowerView) (lines : List (List ℕ)) (fault : Fault)
     (was mid now : Option (List ℕ)) (text : List ℕ) → Appends was mid text
     → StopsAmong each v lines fault [] mid now → StopsAmong each v lines fault text was now
-stops_among_after each v lines fault was mid now text before h = record {
+StopsAmong-after each v lines fault was mid now text before h = record {
   before = h.before;
   line = h.line;
   after = h.after;
@@ -152,7 +152,7 @@ stops_among_after each v lines fault was mid now text before h = record {
   then = h.then;
   batches = h.batches;
   taken = h.taken;
-  stopped = stops_at_later each h.then h.line fault was mid now text h.batches before h.stopped;
+  stopped = StopsAtLine-later each h.then h.line fault was mid now text h.batches before h.stopped;
 }
 
 -- ---- lines of one log
@@ -170,9 +170,9 @@ log_as each false (Ok (Entry e)) v w text h = log_if each (joined v e) w text h
 log_as each false (Err why) v w text h = absurd h
 
 -- lines end no log
-pub same_log : (each : Bool) (v w : FollowerView) (lines : List (List ℕ)) (text : List ℕ)
+pub TakesLines-same_log : (each : Bool) (v w : FollowerView) (lines : List (List ℕ)) (text : List ℕ)
     → TakesLines each v lines w text → w.next.log ≡ v.next.log
-same_log each v w [] text h = sym (ap (λ (u : FollowerView). u.next.log) h.0)
-same_log each v w (line ∷ lines) text h =
-    same_log each h.0 w lines h.2 h.4
+TakesLines-same_log each v w [] text h = sym (ap (λ (u : FollowerView). u.next.log) h.0)
+TakesLines-same_log each v w (line ∷ lines) text h =
+    TakesLines-same_log each h.0 w lines h.2 h.4
     ∙ log_as each (is_blank line) (meaning_of line) v h.0 h.1 h.3

@@ -10,7 +10,7 @@ use Rattle.epx_follow.specs.inner.FirstPlaces.{HasFirstPlaces, HasOtherPlaces, I
 use Rattle.epx_follow.specs.inner.HeldLines.{batch_lines}
 use Rattle.epx_follow.proofs.BatchEndLemmas.{batch_lines-push}
 use Rattle.epx_follow.proofs.FirstPlaceLemmas.{AreForgotten}
-use Rattle.epx_follow.proofs.HeldLineLemmas.{first_places_next}
+use Rattle.epx_follow.proofs.HeldLineLemmas.{HasFirstPlaces-push}
 
 -- the first k lines of a batch, after some lines
 abbrev pub with_first : List Placed → List Place → List Instance → ℕ → List Placed
@@ -31,28 +31,29 @@ with_next lines places es k p e same l =
     ∙ ap₂ batch_lines (sym (take_more places k p (omega (arith, same, l))))
     (sym (take_more es k e l)))
 
-pub one_more_noted : (before after : Id → Option Place) (lines : List Placed)
+pub HasFirstPlaces-batch_step : (before after : Id → Option Place) (lines : List Placed)
     (places : List Place) (es : List Instance) (k : ℕ) (p : Place) (e : Instance)
     → length places ≡ length es → k < length es
     → HasFirstPlaces before (with_first lines places es k)
     → IsNoted before (get_or es k e).id (get_or places k p) after
     → HasFirstPlaces after (with_first lines places es (k + 1))
-one_more_noted before after lines places es k p e same l has noted =
+HasFirstPlaces-batch_step before after lines places es k p e same l has noted =
     subst (HasFirstPlaces after) (with_next lines places es k p e same l)
-    (first_places_next before after
+    (HasFirstPlaces-push before after
     (record { place = get_or places k p; instance = get_or es k e }) noted
     (with_first lines places es k) has)
 
-pub all_noted : (noted : Id → Option Place) (lines : List Placed) (places : List Place)
+pub HasFirstPlaces-batch : (noted : Id → Option Place) (lines : List Placed) (places : List Place)
     (es : List Instance) (k : ℕ) → length places ≡ k → length es ≡ k
     → HasFirstPlaces noted (with_first lines places es k)
     → HasFirstPlaces noted (lines ++ batch_lines places es)
-all_noted noted lines places es k ps ds has =
+HasFirstPlaces-batch noted lines places es k ps ds has =
     subst (HasFirstPlaces noted) (ap (λ ls. lines ++ ls) (ap₂ batch_lines
     (take_all k places (omega (arith, ps))) (take_all k es (omega (arith, ds))))) has
 
 -- what is left of them
-pub others_noted : (noted left : Id → Option Place) (lines : List Placed) (ids : List Id)
+pub HasOtherPlaces-forgotten : (noted left : Id → Option Place) (lines : List Placed)
+    (ids : List Id)
     → HasFirstPlaces noted lines → AreForgotten noted ids left → HasOtherPlaces left lines ids
-others_noted noted left lines ids has forgotten =
+HasOtherPlaces-forgotten noted left lines ids has forgotten =
     (forgotten.0, λ x h. forgotten.1 x h ∙ has x)

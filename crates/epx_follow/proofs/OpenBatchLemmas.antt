@@ -12,7 +12,7 @@ use Rattle.epx_types.specs.declared.id.Id.{Id}
 use Rattle.epx_types.specs.declared.place.Place.{Place}
 use Rattle.epx_executor.specs.Commits.{ExecutorView}
 use Rattle.epx_devices.proofs.KnownBytesLemmas.{Appends-trans}
-use Rattle.epx_lines.specs.Faults.{IsFaultOf}
+use Rattle.epx_lines.specs.between.Faults.{IsFaultOf}
 use Rattle.epx_lines.specs.Lines.{lines_of}
 use Rattle.epx_lines.specs.Meaning.{is_blank, meaning_of}
 use Rattle.epx_lines.specs.declared.Line.{Line}
@@ -30,11 +30,11 @@ use Rattle.epx_follow.specs.inner.HeldLines.{AreHeld, AreNewlyHeld, HoldsEntry, 
 use Rattle.epx_follow.specs.inner.HeldLines.{passed_lines, view_of}
 use Rattle.epx_follow.specs.inner.OpenBatches.{BatchGoesOn, HoldsBytes, IsReadOf, RefusesText}
 use Rattle.epx_follow.specs.inner.PartsTaken.{TakesBytes}
-use Rattle.epx_follow.proofs.HeldLineLemmas.{held_passed}
-use Rattle.epx_follow.proofs.HoldLemmas.{held_now, now_joined, shown}
-use Rattle.epx_follow.proofs.LogsTakenLemmas.{TakesLines-append, appends_nothing, no_lines}
-use Rattle.epx_follow.proofs.LogsTakenLemmas.{one_line}
-use Rattle.epx_follow.proofs.LogsTakenLemmas.{stops_among_later, stops_there}
+use Rattle.epx_follow.proofs.HeldLineLemmas.{AreHeld-passed}
+use Rattle.epx_follow.proofs.HoldLemmas.{AreHeld-now, joined-now, shown}
+use Rattle.epx_follow.proofs.LogsTakenLemmas.{TakesLines-append, Appends-nothing, lines_of-empty}
+use Rattle.epx_follow.proofs.LogsTakenLemmas.{TakesLines-one}
+use Rattle.epx_follow.proofs.LogsTakenLemmas.{StopsAmong-later, StopsAmong-line}
 
 -- ---- what is held
 
@@ -44,8 +44,8 @@ module _ (v : ExecutorView) (places : BTreeMap Id Place) (next : Place) (h : Hel
   abbrev begun : FollowerView
   begun = shown v.done v.store (place_in places) v.pending [] [] next false
 
-  pub newly_shown : view_of v h ≡ begun
-  newly_shown =
+  pub view_of-begun : view_of v h ≡ begun
+  view_of-begun =
       ap (λ (ps : BTreeMap Id Place). shown v.done v.store (place_in ps) v.pending
       h.batch_places.items h.batch.items h.next h.is_open) new.0
       ∙ ap₂ (λ (ps : List Place) (es : List Instance). shown v.done v.store (place_in places)
@@ -53,18 +53,18 @@ module _ (v : ExecutorView) (places : BTreeMap Id Place) (next : Place) (h : Hel
       ∙ ap₂ (λ (p : Place) (is_open : Bool). shown v.done v.store (place_in places) v.pending [] []
       p is_open) new.3 new.4
 
-  pub newly_held : AreHeld (place_in places) begun → IsHeld v h
-  newly_held held = (
+  pub IsHeld-begun : AreHeld (place_in places) begun → IsHeld v h
+  IsHeld-begun held = (
     subst₂ (λ (ps : BTreeMap Id Place) (w : FollowerView). AreHeld (place_in ps) w) (sym new.0)
-        (sym newly_shown) held,
+        (sym view_of-begun) held,
     ap length new.2 ∙ sym (ap length new.1),
   )
 
 -- a line without an instance came
-pub holds_passed : (v : ExecutorView) (h now : HeldLines) → IsHeld v h → now ≡ passed_lines h
+pub IsHeld-passed : (v : ExecutorView) (h now : HeldLines) → IsHeld v h → now ≡ passed_lines h
     → IsHeld v now
-holds_passed v h now held is =
-    subst (IsHeld v) (sym is) (held_passed (place_in h.places) (view_of v h) held.0, held.1)
+IsHeld-passed v h now held is =
+    subst (IsHeld v) (sym is) (AreHeld-passed (place_in h.places) (view_of v h) held.0, held.1)
 
 -- a line of an instance that is not executed came
 module _ (v : ExecutorView) (old new : HeldLines) (e : Instance) (held : IsHeld v old)
@@ -76,11 +76,11 @@ module _ (v : ExecutorView) (old new : HeldLines) (e : Instance) (held : IsHeld 
       ∙ ap₂ (λ (p : Place) (is_open : Bool). shown v.done v.store (place_in new.places)
       v.pending new.batch_places.items new.batch.items p is_open) (sym h.next) (sym h.is_open)
 
-  pub holds_entry : IsHeld v new
-  holds_entry = (
+  pub IsHeld-entry : IsHeld v new
+  IsHeld-entry = (
     subst₂ (λ (ps : BTreeMap Id Place) (w : FollowerView). AreHeld (place_in ps) w)
         (sym h.places) now_shown
-        (held_now v.done v.store (place_in old.places) v.pending old.batch_places.items
+        (AreHeld-now v.done v.store (place_in old.places) v.pending old.batch_places.items
         new.batch_places.items old.batch.items new.batch.items old.next old.is_open e held.0 held.1
         left h.batch_places h.batch),
     ap length h.batch_places ∙ length-append old.batch_places.items (old.next ∷ [])
@@ -88,40 +88,40 @@ module _ (v : ExecutorView) (old new : HeldLines) (e : Instance) (held : IsHeld 
         ∙ sym (ap length h.batch),
   )
 
-  pub shows_joined : view_of v new ≡ joined (view_of v old) e
-  shows_joined = sym now_shown
-      ∙ now_joined v.done v.store (place_in old.places) v.pending old.batch_places.items
+  pub view_of-joined : view_of v new ≡ joined (view_of v old) e
+  view_of-joined = sym now_shown
+      ∙ joined-now v.done v.store (place_in old.places) v.pending old.batch_places.items
       new.batch_places.items old.batch.items new.batch.items old.next old.is_open e held.0 held.1
       left h.batch_places h.batch
 
 -- ---- what a line does
 
 -- the line is taken, and with it the batch ends or stays open
-pub line_taken : (each : Bool) (line : List ℕ) (v w u : FollowerView) (text : List ℕ)
+pub TakesLine-goes_on : (each : Bool) (line : List ℕ) (v w u : FollowerView) (text : List ℕ)
     → is_blank line ≡ false → BatchGoesOn line v w → EndsIf each w u text
     → TakesLine each line v u text
-line_taken each line v w u text filled (Blank, means, is) h =
+TakesLine-goes_on each line v w u text filled (Blank, means, is) h =
     subst₂ (λ b m. TakesAs each b m v u text) (sym filled) (sym means)
     (subst (λ (x : FollowerView). EndsIf each x u text) is h)
-line_taken each line v w u text filled (Entry e, means, is) h =
+TakesLine-goes_on each line v w u text filled (Entry e, means, is) h =
     subst₂ (λ b m. TakesAs each b m v u text) (sym filled) (sym means)
     (subst (λ (x : FollowerView). EndsIf each x u text) is h)
 
 -- what was read of it, as a reader of lines says
-pub read_is : (line : List ℕ) (read : Result Line LineFault)
+pub IsReadOf-result : (line : List ℕ) (read : Result Line LineFault)
     → IfOk read (λ l. meaning_of line ≡ Ok l)
     → IfErr read (λ fault. IsFaultOf fault (meaning_of line)) → IsReadOf line read
-read_is line (Ok l) good bad = good
-read_is line (Err fault) good bad = bad
+IsReadOf-result line (Ok l) good bad = good
+IsReadOf-result line (Err fault) good bad = bad
 
 -- or the line is refused
 memory_refuses : (each : Bool) (v : FollowerView) → RefusesIf each v Memory
 memory_refuses false v = refl
 memory_refuses true v = inl refl
 
-pub text_refused : (each : Bool) (line : List ℕ) (v : FollowerView) (fault : Fault)
+pub RefusesLine-text : (each : Bool) (line : List ℕ) (v : FollowerView) (fault : Fault)
     → is_blank line ≡ false → RefusesText line v.next fault → RefusesLine each line v fault
-text_refused each line v fault filled h =
+RefusesLine-text each line v fault filled h =
     subst (λ b. RefusesAs each b (meaning_of line) v fault) (sym filled)
     (by_meaning (meaning_of line) h)
   where
@@ -136,11 +136,12 @@ text_refused each line v fault filled h =
         subst (λ r. RefusesAs each false r v fault) (sym is) (inr named)
 
 -- which is no fault of the output
-pub text_unwritten : (line : List ℕ) (place : Place) (fault : Fault) → RefusesText line place fault
+pub RefusesText-not_write : (line : List ℕ) (place : Place) (fault : Fault)
+    → RefusesText line place fault
     → fault ≢ Write
-text_unwritten line place fault (inl memory) write =
+RefusesText-not_write line place fault (inl memory) write =
     let same : Memory ≡ Write = sym memory ∙ write in cc same
-text_unwritten line place fault (inr (why, means, named)) write =
+RefusesText-not_write line place fault (inr (why, means, named)) write =
     let same : BadLine place why ≡ Write = sym named ∙ write in cc same
 
 -- ---- lines one after another
@@ -153,25 +154,25 @@ TakesTo each v bytes w rest was now = (done : List (List ℕ)) × (text : List �
     × Appends was now text
 
 -- with the next line
-pub line_on : (each : Bool) (v w u : FollowerView) (bytes rest line more : List ℕ)
+pub TakesTo-line : (each : Bool) (v w u : FollowerView) (bytes rest line more : List ℕ)
     (was mid now : Option (List ℕ)) (text : List ℕ) → TakesTo each v bytes w rest was mid
     → lines_of rest ≡ line ∷ lines_of more → TakesLine each line w u text → Appends mid now text
     → TakesTo each v bytes u more was now
-line_on each v w u bytes rest line more was mid now text so_far cut taken written = (
+TakesTo-line each v w u bytes rest line more was mid now text so_far cut taken written = (
   so_far.0 ++ line ∷ [],
   so_far.1 ++ text,
   so_far.2 ∙ ap (λ ls. so_far.0 ++ ls) cut
       ∙ sym (append_assoc so_far.0 (line ∷ []) (lines_of more)),
   TakesLines-append each v w u so_far.0 (line ∷ []) so_far.1 text so_far.3
-      (one_line each w u line text taken),
+      (TakesLines-one each w u line text taken),
   Appends-trans was mid now so_far.1 text so_far.4 written,
 )
 
 -- with the lines that end no batch
-pub held_on : (each : Bool) (v w u : FollowerView) (bytes rest others : List ℕ)
+pub TakesTo-held : (each : Bool) (v w u : FollowerView) (bytes rest others : List ℕ)
     (was now : Option (List ℕ)) → TakesTo each v bytes w rest was now
     → HoldsBytes each w rest u others → TakesTo each v bytes u others was now
-held_on each v w u bytes rest others was now so_far h = (
+TakesTo-held each v w u bytes rest others was now so_far h = (
   so_far.0 ++ h.0,
   so_far.1,
   so_far.2 ∙ ap (λ ls. so_far.0 ++ ls) h.1 ∙ sym (append_assoc so_far.0 h.0 (lines_of others)),
@@ -181,46 +182,48 @@ held_on each v w u bytes rest others was now so_far h = (
 )
 
 -- all lines are taken
-pub all_taken : (each : Bool) (v w : FollowerView) (bytes rest : List ℕ)
+pub TakesBytes-to_end : (each : Bool) (v w : FollowerView) (bytes rest : List ℕ)
     (was now : Option (List ℕ)) → TakesTo each v bytes w rest was now → length rest ≡ 0
     → TakesBytes each v bytes w was now
-all_taken each v w bytes rest was now h none = (
+TakesBytes-to_end each v w bytes rest was now h none = (
   h.1,
   subst (λ (ls : List (List ℕ)). TakesLines each v ls w h.1) (sym (h.2
-      ∙ ap (λ ls. h.0 ++ ls) (no_lines rest none) ∙ append-nil h.0)) h.3,
+      ∙ ap (λ ls. h.0 ++ ls) (lines_of-empty rest none) ∙ append-nil h.0)) h.3,
   h.4,
 )
 
 -- ---- lines that end no batch
 
-pub none_held : (each : Bool) (v : FollowerView) (bytes : List ℕ) → HoldsBytes each v bytes v bytes
-none_held each v bytes = ([], refl, (refl, refl))
+pub HoldsBytes-none : (each : Bool) (v : FollowerView) (bytes : List ℕ)
+    → HoldsBytes each v bytes v bytes
+HoldsBytes-none each v bytes = ([], refl, (refl, refl))
 
-pub one_more_held : (each : Bool) (v w u : FollowerView) (bytes rest line more : List ℕ)
+pub HoldsBytes-step : (each : Bool) (v w u : FollowerView) (bytes rest line more : List ℕ)
     → HoldsBytes each v bytes w rest → lines_of rest ≡ line ∷ lines_of more
     → TakesLine each line w u [] → HoldsBytes each v bytes u more
-one_more_held each v w u bytes rest line more h cut taken = (
+HoldsBytes-step each v w u bytes rest line more h cut taken = (
   h.0 ++ line ∷ [],
   h.1 ∙ ap (λ ls. h.0 ++ ls) cut ∙ sym (append_assoc h.0 (line ∷ []) (lines_of more)),
-  TakesLines-append each v w u h.0 (line ∷ []) [] [] h.2 (one_line each w u line [] taken),
+  TakesLines-append each v w u h.0 (line ∷ []) [] [] h.2 (TakesLines-one each w u line [] taken),
 )
 
 -- one of them is refused
-pub held_stops : (each : Bool) (v w : FollowerView) (bytes rest line more : List ℕ) (fault : Fault)
+pub StopsAmong-held : (each : Bool) (v w : FollowerView) (bytes rest line more : List ℕ)
+    (fault : Fault)
     (was : Option (List ℕ)) → HoldsBytes each v bytes w rest
     → lines_of rest ≡ line ∷ lines_of more → RefusesLine each line w fault
     → StopsAmong each v (lines_of bytes) fault [] was was
-held_stops each v w bytes rest line more fault was h cut refused =
-    stops_there each v w h.0 (lines_of more) (lines_of bytes) line fault was was was [] h.2
-    (appends_nothing was) (inl (refused, appends_nothing was))
+StopsAmong-held each v w bytes rest line more fault was h cut refused =
+    StopsAmong-line each v w h.0 (lines_of more) (lines_of bytes) line fault was was was [] h.2
+    (Appends-nothing was) (inl (refused, Appends-nothing was))
     (h.1 ∙ ap (λ ls. h.0 ++ ls) cut)
 
 -- after others that are taken
-pub taken_stops : (each : Bool) (v w : FollowerView) (bytes rest : List ℕ) (fault : Fault)
+pub StopsAmong-taken : (each : Bool) (v w : FollowerView) (bytes rest : List ℕ) (fault : Fault)
     (was mid now : Option (List ℕ)) → TakesTo each v bytes w rest was mid
     → StopsAmong each w (lines_of rest) fault [] mid now
     → StopsAmong each v (lines_of bytes) fault [] was now
-taken_stops each v w bytes rest fault was mid now so_far stops =
+StopsAmong-taken each v w bytes rest fault was mid now so_far stops =
     subst (λ (ls : List (List ℕ)). StopsAmong each v ls fault [] was now) (sym so_far.2)
-    (stops_among_later each v w so_far.0 (lines_of rest) fault was mid now so_far.1 so_far.3
+    (StopsAmong-later each v w so_far.0 (lines_of rest) fault was mid now so_far.1 so_far.3
     so_far.4 stops)

@@ -4,14 +4,14 @@ use Rattle.std.proofs.Common.{AllPairs, Contains, Result, Ok, Err, append-nil, a
 use Rattle.std.proofs.Common.{None, Some, refl, sym, ap, ◌∙◌, subst}
 use Rattle.epx_types.proofs.Common.{AllPairs-append, Contains-append_cases, Contains-append_left}
 use Rattle.epx_types.proofs.Common.{Contains-append_right, Contains-cons_cases, Contains-nil}
-use Rattle.epx_types.proofs.Common.{Earlier, Instance, IsRising, Placed, below_trans, ids_of}
-use Rattle.epx_types.proofs.Common.{below_asymm, below_irrefl, cases_Bool, id_cmp, is_among}
-use Rattle.epx_types.proofs.Common.{is_among_cases, is_eq, nat_tests, place_cmp_total}
+use Rattle.epx_types.proofs.Common.{Earlier, Instance, IsRising, Placed, is_lt-trans, ids_of}
+use Rattle.epx_types.proofs.Common.{is_lt-asymm, is_lt-irrefl, cases_Bool, id_cmp, is_among}
+use Rattle.epx_types.proofs.Common.{is_among-cases, is_eq, nat_tests, place_cmp-IsTotalOrder}
 use Rattle.epx_types.proofs.lists.ListPositionLemmas.{AllPairs-head, AllPairs-tail}
 use Rattle.epx_types.specs.declared.fault.Why.{Why}
 use Rattle.epx_types.specs.declared.id.Id.{Id}
 use Rattle.epx_types.specs.declared.place.Place.{Place}
-use Rattle.epx_committed.proofs.LineOrderLemmas.{earlier_line}
+use Rattle.epx_committed.proofs.LineOrderLemmas.{Earlier-same_log}
 use Rattle.epx_committed.specs.MergedLines.{IsMergeFault}
 use Rattle.epx_lines.specs.Meaning.{is_blank, meaning_of}
 use Rattle.epx_lines.specs.declared.Line.{Line}
@@ -22,18 +22,19 @@ use Rattle.epx_follow.specs.Following.{new_follower, passed}
 use Rattle.epx_follow.specs.LinesTaken.{EndsIf, TakesAs}
 use Rattle.epx_follow.specs.PlaceOrderLaws.{AreInPlaceOrder, FirstLinesAreEarliest}
 use Rattle.epx_follow.specs.PlaceOrderLaws.{LinesStayInOrder, RefusedBatchIsARefusedMerge}
-use Rattle.epx_follow.proofs.CallPlaceLemmas.{fault_real}
-use Rattle.epx_follow.proofs.CountLemmas.{rising_passing}
+use Rattle.epx_follow.proofs.CallPlaceLemmas.{IsMergeFault-real}
+use Rattle.epx_follow.proofs.CountLemmas.{IsRising-filter}
 use Rattle.epx_follow.proofs.FirstLineLemmas.{first_line-cases, first_line-earlier}
 use Rattle.epx_follow.proofs.FirstLineLemmas.{first_line-finds, first_line-found}
-use Rattle.epx_follow.proofs.FirstLineLemmas.{first_line-later, same_line, test_of_name}
-use Rattle.epx_follow.proofs.HeldLineLemmas.{each_line, with_line}
-use Rattle.epx_follow.proofs.HoldLemmas.{joined_done, joined_new}
+use Rattle.epx_follow.proofs.FirstLineLemmas.{first_line-later, Placed-same_instance}
+use Rattle.epx_follow.proofs.FirstLineLemmas.{id_cmp-from_same}
+use Rattle.epx_follow.proofs.HeldLineLemmas.{Contains-push_each, with_line}
+use Rattle.epx_follow.proofs.HoldLemmas.{joined-done, joined-new}
 
 -- what is before a line is before the next one
 before_next : (p q : Place) → Earlier p q → Earlier p (next_line q)
-before_next p q l = below_trans place_cmp_total p q (next_line q) l
-    (earlier_line q (next_line q) refl (omega arith))
+before_next p q l = is_lt-trans place_cmp-IsTotalOrder p q (next_line q) l
+    (Earlier-same_log q (next_line q) refl (omega arith))
 
 earlier_next : (p : Place) → Earlier p (record { log = p.log + 1; line = 1 })
 earlier_next p = grind (arith, nat_tests)
@@ -62,7 +63,7 @@ order_next_log v h = record {
   left = h.left;
   in_order = h.in_order;
   apart = h.apart;
-  past = λ p in_p. below_trans place_cmp_total p.place v.next (at_next_log v).next
+  past = λ p in_p. is_lt-trans place_cmp-IsTotalOrder p.place v.next (at_next_log v).next
       (h.past p in_p) (earlier_next v.next);
 }
 
@@ -75,7 +76,7 @@ module _ (v : FollowerView) (e : Instance) (h : AreInPlaceOrder v) where
   order_with : ¬ Contains v.done e.id → AreInPlaceOrder (with_line v e)
   order_with new = record {
     rising = h.rising;
-    left = each_line (λ p. ¬ Contains v.done p.instance.id) v.batch line h.left new;
+    left = Contains-push_each (λ p. ¬ Contains v.done p.instance.id) v.batch line h.left new;
     in_order = AllPairs-append (λ p q. Earlier p.place q.place) v.batch (line ∷ []) h.in_order
         (λ i j d l k. absurd (omega (arith, l, k)))
         (λ p q in_p last. elim (Contains-cons_cases line [] q last) [
@@ -83,19 +84,20 @@ module _ (v : FollowerView) (e : Instance) (h : AreInPlaceOrder v) where
               (h.past p (Contains-append_right v.pending v.batch p in_p))
           | inr none ↦ absurd (Contains-nil q none)
         ]);
-    apart = λ p q in_p. each_line (λ r. Earlier p.place r.place) v.batch line
+    apart = λ p q in_p. Contains-push_each (λ r. Earlier p.place r.place) v.batch line
         (λ r. h.apart p r in_p) (h.past p (Contains-append_left v.pending v.batch p in_p)) q;
-    past = λ p in_p. each_line (λ q. Earlier q.place (next_line v.next)) (held_lines v) line
+    past =
+        λ p in_p. Contains-push_each (λ q. Earlier q.place (next_line v.next)) (held_lines v) line
         (λ q in_q. before_next q.place v.next (h.past q in_q))
-        (earlier_line v.next (next_line v.next) refl (omega arith)) p
+        (Earlier-same_log v.next (next_line v.next) refl (omega arith)) p
         (subst (λ (ls : List Placed). Contains ls p)
         (sym (append_assoc v.pending v.batch (line ∷ []))) in_p);
   }
 
   order_joined : AreInPlaceOrder (joined v e)
-  order_joined = elim (is_among_cases v.done e.id) [
-    | inl executed ↦ subst AreInPlaceOrder (sym (joined_done v e executed.1)) (order_passed v h)
-    | inr left ↦ subst AreInPlaceOrder (sym (joined_new v e left.1)) (order_with left.1)
+  order_joined = elim (is_among-cases v.done e.id) [
+    | inl executed ↦ subst AreInPlaceOrder (sym (joined-done v e executed.1)) (order_passed v h)
+    | inr left ↦ subst AreInPlaceOrder (sym (joined-new v e left.1)) (order_with left.1)
   ]
 
 -- ---- the end of a batch
@@ -107,7 +109,7 @@ order_ended v w text h ends =
     λ p there. Contains-nil p (subst (λ (ls : List Placed). Contains ls p) ends.closed.0 there) in
     record {
       rising = subst (λ (m : List Instance). IsRising (ids_of m)) (sym ends.pending.instances)
-          (rising_passing (λ e. not (is_among w.done e.id)) ends.other
+          (IsRising-filter (λ e. not (is_among w.done e.id)) ends.other
           ends.merged.committed.rising);
       left = λ p there. absurd (none p there);
       in_order = subst (AllPairs (λ p q. Earlier p.place q.place)) (sym ends.closed.0)
@@ -148,15 +150,15 @@ earliest (l ∷ lines) pairs x p q found in_q named early =
       | inl here ↦
           let is : l ≡ p = cc (rw here at found) in
           elim (Contains-cons_cases l lines q in_q) [
-            | inl same ↦ below_irrefl place_cmp_total p.place
+            | inl same ↦ is_lt-irrefl place_cmp-IsTotalOrder p.place
                 (subst (λ (r : Placed). Earlier r.place p.place) (sym same ∙ is) early)
-            | inr rest ↦ below_asymm place_cmp_total q.place p.place early
+            | inr rest ↦ is_lt-asymm place_cmp-IsTotalOrder q.place p.place early
                 (subst (λ (r : Placed). Earlier r.place q.place) is
                 (AllPairs-head (λ a b. Earlier a.place b.place) l lines q pairs rest))
           ]
       | inr other ↦ elim (Contains-cons_cases l lines q in_q) [
         | inl same ↦
-            let here = test_of_name l.instance.id x
+            let here = id_cmp-from_same l.instance.id x
             (ap (λ (r : Placed). r.instance.id) same ∙ named) in
             cc (here, other)
         | inr rest ↦
@@ -167,8 +169,8 @@ earliest (l ∷ lines) pairs x p q found in_q named early =
 
 -- ---- the laws
 
-pub lines_stay_in_order : LinesStayInOrder
-lines_stay_in_order = (
+pub LinesStayInOrder-holds : LinesStayInOrder
+LinesStayInOrder-holds = (
   order_new,
   order_passed,
   order_joined,
@@ -177,8 +179,8 @@ lines_stay_in_order = (
   order_next_log,
 )
 
-pub first_lines_are_earliest : FirstLinesAreEarliest
-first_lines_are_earliest v h p q found in_q named =
+pub FirstLinesAreEarliest-holds : FirstLinesAreEarliest
+FirstLinesAreEarliest-holds v h p q found in_q named =
     let x = p.instance.id in
     elim (first_line-cases v.pending x) [
       | inl none ↦
@@ -198,17 +200,18 @@ first_lines_are_earliest v h p q found in_q named =
           let known = first_line-found v.pending x some.0 some.1 in
           let waits : Contains v.pending p = subst (Contains v.pending) is known.0 in
           elim (Contains-append_cases v.pending v.batch q in_q) [
-            | inl old ↦ λ early. below_irrefl place_cmp_total p.place
+            | inl old ↦ λ early. is_lt-irrefl place_cmp-IsTotalOrder p.place
                 (subst (λ (r : Placed). Earlier r.place p.place)
-                (same_line v.pending h.rising q p old waits named) early)
-            | inr new ↦ λ early. below_asymm place_cmp_total q.place p.place early
+                (Placed-same_instance v.pending h.rising q p old waits named) early)
+            | inr new ↦ λ early. is_lt-asymm place_cmp-IsTotalOrder q.place p.place early
                 (h.apart p q waits new)
           ]
     ]
 
-pub refused_batch_is_a_refused_merge : RefusedBatchIsARefusedMerge
-refused_batch_is_a_refused_merge v h fault (inl memory) =
+pub RefusedBatchIsARefusedMerge-holds : RefusedBatchIsARefusedMerge
+RefusedBatchIsARefusedMerge-holds v h fault (inl memory) =
     subst (IsMergeFault (held_lines v)) (sym memory) tt
-refused_batch_is_a_refused_merge v h fault (inr call) =
+RefusedBatchIsARefusedMerge-holds v h fault (inr call) =
     subst (IsMergeFault (held_lines v)) (sym call.named)
-    (fault_real v.done v.pending v.batch h.left h.rising h.apart h.in_order call.call call.refused)
+    (IsMergeFault-real v.done v.pending v.batch h.left h.rising h.apart h.in_order call.call
+    call.refused)

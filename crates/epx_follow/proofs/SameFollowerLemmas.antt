@@ -7,7 +7,7 @@ use Rattle.std.proofs.Common.{refl, sym, ap, ap₂, inl, inr, subst, subst₂}
 use Rattle.std.specs.FinMap as contents
 use Rattle.epx_types.proofs.Common.{Contains-from_map, Contains-map, Contains-nil, Contents}
 use Rattle.epx_types.proofs.Common.{IsCommittedBy, Instance, Placed, Waiting, IsWaitingList}
-use Rattle.epx_types.proofs.Common.{ids_of, is_among, is_among_cases, length-map, map-append}
+use Rattle.epx_types.proofs.Common.{ids_of, is_among, is_among-cases, length-map, map-append}
 use Rattle.epx_types.proofs.Common.{remaining}
 use Rattle.epx_types.specs.declared.fault.Why.{Why}
 use Rattle.epx_types.specs.declared.id.Id.{Id}
@@ -27,8 +27,8 @@ use Rattle.epx_follow.specs.Following.{FollowerView, at_next_log, instances_of, 
 use Rattle.epx_follow.specs.InputEnds.{EndsInput, IsFollowed, IsRest}
 use Rattle.epx_follow.specs.LinesTaken.{EndsIf, TakesAs}
 use Rattle.epx_follow.specs.LogsTaken.{TakesLines, TakesLogs}
-use Rattle.epx_follow.proofs.BatchEndLemmas.{batch_is_a_commit}
-use Rattle.epx_follow.proofs.HoldLemmas.{in_joined}
+use Rattle.epx_follow.proofs.BatchEndLemmas.{BatchIsACommit-holds}
+use Rattle.epx_follow.proofs.HoldLemmas.{Contains-joined}
 
 -- ---- executors that hold the same
 
@@ -38,12 +38,12 @@ without test e = record e { deps = filter (λ x. not (test x)) e.deps }
 
 module _ (v w : FollowerView) (same : HoldTheSame (executor_of v) (executor_of w)) where
   among : (x : Id) → is_among v.done x ≡ is_among w.done x
-  among x = elim (is_among_cases v.done x) [
-    | inl found ↦ elim (is_among_cases w.done x) [
+  among x = elim (is_among-cases v.done x) [
+    | inl found ↦ elim (is_among-cases w.done x) [
       | inl there ↦ found.0 ∙ sym there.0
       | inr none ↦ absurd (none.1 ((same.done x).0 found.1))
     ]
-    | inr left ↦ elim (is_among_cases w.done x) [
+    | inr left ↦ elim (is_among-cases w.done x) [
       | inl there ↦ absurd (left.1 ((same.done x).1 there.1))
       | inr none ↦ left.0 ∙ sym none.0
     ]
@@ -117,7 +117,7 @@ with_instance e executed es = if executed then es else es ++ e ∷ []
 
 instances-joined : (v : FollowerView) (e : Instance) → instances_of (joined v e).batch
     ≡ with_instance e (is_among v.done e.id) (instances_of v.batch)
-instances-joined v e = elim (is_among_cases v.done e.id) [
+instances-joined v e = elim (is_among-cases v.done e.id) [
   | inl executed ↦ let among = executed.0 in rw among refl
   | inr left ↦
       let other = left.0 in
@@ -133,7 +133,7 @@ alike_joined v w e a = record {
       ∙ ap₂ (with_instance e) (among v w a.executors e.id) a.batch
       ∙ sym (instances-joined w e);
   is_open = refl;
-  left = in_joined (λ p. ¬ Contains v.done p.instance.id) v e a.left (λ new. new);
+  left = Contains-joined (λ p. ¬ Contains v.done p.instance.id) v e a.left (λ new. new);
 }
 
 -- ---- batches
@@ -148,8 +148,8 @@ module _ (map_is_unique : CommittedMapIsUnique) (list_is_unique : WaitingListIsU
       → EndsBatch v next text → EndsBatch w last other → Follow next last text other
   batch_alike v w next last text other a ends others =
       let came = instances_of v.batch in
-      let first = batch_is_a_commit v next text a.left ends in
-      let second = batch_is_a_commit w last other (other_left v w a) others in
+      let first = BatchIsACommit-holds v next text a.left ends in
+      let second = BatchIsACommit-holds w last other (other_left v w a) others in
       let commits : IsCommit (executor_of w) came (executor_of last) second.0 =
       subst (λ (es : List Instance). IsCommit (executor_of w) es (executor_of last) second.0)
       (sym a.batch) second.1 in
@@ -205,14 +205,14 @@ module _ (map_is_unique : CommittedMapIsUnique) (list_is_unique : WaitingListIsU
       let rest = alike_lines each lines h.0 k.0 next last h.2 k.2 first.1 h.4 k.4 in
       (h.5 ∙ ap₂ (λ (xs ys : List ℕ). xs ++ ys) first.0 rest.0 ∙ sym k.5, rest.1)
 
-  pub alike_logs : (each : Bool) (logs : List (List ℕ)) (v w next last : FollowerView)
+  pub Follow-logs : (each : Bool) (logs : List (List ℕ)) (v w next last : FollowerView)
       (text other : List ℕ) → AreAlike v w → TakesLogs each v logs next text
       → TakesLogs each w logs last other → Follow next last text other
-  alike_logs each [] v w next last text other a h k =
+  Follow-logs each [] v w next last text other a h k =
       (h.1 ∙ sym k.1, subst₂ AreAlike h.0 k.0 a)
-  alike_logs each (log ∷ logs) v w next last text other a h k =
+  Follow-logs each (log ∷ logs) v w next last text other a h k =
       let first = alike_lines each (lines_of log) v w h.0 k.0 h.1 k.1 a h.3 k.3 in
-      let rest = alike_logs each logs (at_next_log h.0) (at_next_log k.0) next last h.2 k.2
+      let rest = Follow-logs each logs (at_next_log h.0) (at_next_log k.0) next last h.2 k.2
       (alike_next_log h.0 k.0 first.1) h.4 k.4 in
       (h.5 ∙ ap₂ (λ (xs ys : List ℕ). xs ++ ys) first.0 rest.0 ∙ sym k.5, rest.1)
 
@@ -224,11 +224,11 @@ module _ (map_is_unique : CommittedMapIsUnique) (list_is_unique : WaitingListIsU
       let rest = same_rest next last ends.1.executors list_is_unique h.rest k.rest h.left k.left in
       (h.printed ∙ ap₂ (λ (xs ys : List ℕ). xs ++ ys) ends.0 rest ∙ sym k.printed, ends.1)
 
-  pub alike_followed : (each : Bool) (logs : List (List ℕ)) (v w last other : FollowerView)
+  pub Follow-followed : (each : Bool) (logs : List (List ℕ)) (v w last other : FollowerView)
       (text same : List ℕ) → AreAlike v w → IsFollowed v each logs last text
       → IsFollowed w each logs other same → Follow last other text same
-  alike_followed each logs v w last other text same a h k =
-      let taken = alike_logs each logs v w h.taken k.taken h.batches k.batches a h.lines
+  Follow-followed each logs v w last other text same a h k =
+      let taken = Follow-logs each logs v w h.taken k.taken h.batches k.batches a h.lines
       k.lines in
       let ended = alike_input h.taken k.taken last other h.rest k.rest taken.1 h.ended k.ended in (
         h.printed ∙ ap₂ (λ (xs ys : List ℕ). xs ++ ys) taken.0 ended.0 ∙ sym k.printed,
@@ -237,8 +237,8 @@ module _ (map_is_unique : CommittedMapIsUnique) (list_is_unique : WaitingListIsU
 
   -- ---- the law
 
-  pub same_followers_follow_alike : SameFollowersFollowAlike
-  same_followers_follow_alike v w closed shut same each logs last other text more h k =
+  pub SameFollowersFollowAlike-holds : SameFollowersFollowAlike
+  SameFollowersFollowAlike-holds v w closed shut same each logs last other text more h k =
       let alike : AreAlike v w = record {
         executors = same;
         batch = ap instances_of closed.0 ∙ sym (ap instances_of shut.0);
@@ -246,5 +246,5 @@ module _ (map_is_unique : CommittedMapIsUnique) (list_is_unique : WaitingListIsU
         left = λ p there. absurd (Contains-nil p
             (subst (λ (ls : List Placed). Contains ls p) closed.0 there));
       } in
-      let followed = alike_followed each logs v w last other text more alike h k in
+      let followed = Follow-followed each logs v w last other text more alike h k in
       (followed.0, followed.1.executors)

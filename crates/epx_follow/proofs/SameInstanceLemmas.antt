@@ -18,11 +18,11 @@ module _ (lines others : List Placed) (there : HaveInstancesOf others lines)
         (r.0, r.1, ap (λ (e : Instance). e.id) r.2 ∙ p.2);
   }
 
-  pub few_alike : FewInstances lines → FewInstances others
-  few_alike few = (few.0, named_alike few.0 few.1, few.2)
+  pub FewInstances-alike : FewInstances lines → FewInstances others
+  FewInstances-alike few = (few.0, named_alike few.0 few.1, few.2)
 
-  pub many_alike : ManyInstances lines → ManyInstances others
-  many_alike many = (many.0, named_alike many.0 many.1, many.2)
+  pub ManyInstances-alike : ManyInstances lines → ManyInstances others
+  ManyInstances-alike many = (many.0, named_alike many.0 many.1, many.2)
 
   committed_alike : (m : List Instance) → IsCommittedBy lines m → IsCommittedBy others m
   committed_alike m committed = record {
@@ -31,9 +31,9 @@ module _ (lines others : List Placed) (there : HaveInstancesOf others lines)
     whole = λ r h. let p = back r h in subst (Contains m) p.2 (committed.whole p.0 p.1);
   }
 
-  pub merged_alike : (m : List Instance) → IsMerged lines m → IsMerged others m
-  merged_alike m merged = record {
-    small = few_alike merged.small;
+  pub IsMerged-alike : (m : List Instance) → IsMerged lines m → IsMerged others m
+  IsMerged-alike m merged = record {
+    small = FewInstances-alike merged.small;
     agree = IsCommittedBy-Agree others m (committed_alike m merged.committed);
     committed = committed_alike m merged.committed;
   }

@@ -2,7 +2,6 @@
 ghost use Rattle.std.specs.Prelude.{◌≡◌, ◌≢◌, ◌<◌, ◌≤◌, ◌+◌, ◌^◌, ℕ, List, [], length, false};
 ghost use Rattle.std.specs.Prelude.{IfErr, IfOk, OnOk, Option};
 ghost use Rattle.epx_lines.specs.Lines.{lines_of};
-ghost use Rattle.epx_lines.specs.Meaning.{is_blank};
 ghost use Rattle.epx_follow.specs.Following.{joined, next_line};
 ghost use Rattle.epx_follow.specs.FollowingStops.{StopsAmong};
 ghost use Rattle.epx_follow.specs.inner.HeldLines.{AreNewlyHeld, HoldsEntry, IsHeld};

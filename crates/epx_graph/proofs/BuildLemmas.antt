@@ -13,16 +13,16 @@ use Rattle.std.proofs.lemmas.List.{get_or-append_right}
 use Rattle.std.proofs.lemmas.List.Elements.{All-replicate}
 use Rattle.epx_graph.specs.Graphs.{edges_of, IsGraph, graph_over}
 use Rattle.epx_graph.specs.GraphOf.{IsGraphOf}
-use Rattle.epx_rows.specs.Rows.{row_of, AreTransposed}
+use Rattle.epx_rows.specs.between.Rows.{row_of, AreTransposed}
 use Rattle.epx_graph.specs.inner.Nodes.{AreNodesOf, AreRowsOf}
-use Rattle.epx_graph.proofs.GraphNodeLemmas.{committed_node, node_is_unique}
-use Rattle.epx_graph.proofs.MapNodeLemmas.{nodes_long}
+use Rattle.epx_graph.proofs.GraphNodeLemmas.{slice_get-from_committed, ids-is_unique}
+use Rattle.epx_graph.proofs.MapNodeLemmas.{length-ids_at_least}
 use Rattle.epx_graph.proofs.RisingPositionLemmas.{slice_get-take}
 
 -- appending empty rows changes no row
-pub row_padded : (rows : List (List ℕ)) (n k : ℕ)
+pub row_of-padded : (rows : List (List ℕ)) (n k : ℕ)
     → row_of (rows ++ replicate n []) k ≡ row_of rows k
-row_padded rows n k =
+row_of-padded rows n k =
     elim (cases_lt k (length rows)) [
       | inl l ↦ get_or_append_left rows (replicate n []) [] k l
       | inr past ↦ get_or-append_right rows (replicate n []) (length rows) k [] refl past
@@ -37,11 +37,11 @@ row_padded rows n k =
               (omega (arith, length-replicate {A = List ℕ} n []))
         ]
 
-pub transpose_padded : (rows transpose : List (List ℕ)) (n : ℕ) → AreTransposed rows transpose
+pub AreTransposed-padded : (rows transpose : List (List ℕ)) (n : ℕ) → AreTransposed rows transpose
     → AreTransposed (rows ++ replicate n []) transpose
-transpose_padded rows transpose n is k j = (
-  λ h. (is k j).0 (subst (λ (row : List ℕ). Contains row j) (row_padded rows n k) h),
-  λ h. subst (λ (row : List ℕ). Contains row j) (sym (row_padded rows n k)) ((is k j).1 h),
+AreTransposed-padded rows transpose n is k j = (
+  λ h. (is k j).0 (subst (λ (row : List ℕ). Contains row j) (row_of-padded rows n k) h),
+  λ h. subst (λ (row : List ℕ). Contains row j) (sym (row_of-padded rows n k)) ((is k j).1 h),
 )
 
 module _ (m : List Instance) (ids : List Id) (rows : List (List ℕ)) (nodes : AreNodesOf m ids)
@@ -67,29 +67,29 @@ module _ (m : List Instance) (ids : List Id) (rows : List (List ℕ)) (nodes : A
       (All-contains_itself (row_of rows k))
 
   no_row : (k : ℕ) → length rows ≤ k → edges_of (graph_over ids rows) k ≡ []
-  no_row k l = row_padded rows (length ids - length rows) k ∙ get_or_past rows k [] l
+  no_row k l = row_of-padded rows (length ids - length rows) k ∙ get_or_past rows k [] l
 
   rows_rise : (k : ℕ) → AllPairs (λ i j. i < j) (edges_of (graph_over ids rows) k)
   rows_rise k =
       elim (cases_lt k (length rows)) [
         | inl l ↦
             let e = instance_of_row k l in
-            subst (AllPairs (λ i j. i < j)) (sym (row_padded rows (length ids - length rows) k))
+            subst (AllPairs (λ i j. i < j)) (sym (row_of-padded rows (length ids - length rows) k))
             (are.1 k e.0 (omega (arith, are.0)) e.1).rising
         | inr past ↦ subst (AllPairs (λ i j. i < j)) (sym (no_row k past))
             (λ i j d l within. absurd (omega arith))
       ]
 
-  pub graph_kept : IsGraph (graph_over ids rows)
-  graph_kept = record {
+  pub IsGraph-graph_over : IsGraph (graph_over ids rows)
+  IsGraph-graph_over = record {
     edge_lists = omega (
       arith,
       length-append rows (replicate (length ids - length rows) []),
       length-replicate {A = List ℕ} (length ids - length rows) [],
       are.0,
-      nodes_long m ids nodes,
+      length-ids_at_least m ids nodes,
     );
-    committed_nodes = omega (arith, are.0, nodes_long m ids nodes);
+    committed_nodes = omega (arith, are.0, length-ids_at_least m ids nodes);
     in_range = All-append (λ (row : List ℕ). All (λ j. j < length ids) row) rows
         (replicate (length ids - length rows) [])
         (All-from_get_or (λ (row : List ℕ). All (λ j. j < length ids) row) rows [] row_in_range)
@@ -116,7 +116,7 @@ module _ (m : List Instance) (ids : List Id) (rows : List (List ℕ)) (nodes : A
             let row = are.1 k e.0 (omega (arith, are.0)) e.1 in
             let number =
             (row.exact j).0 (subst (λ (r : List ℕ). Contains r j)
-            (row_padded rows (length ids - length rows) k) h) in
+            (row_of-padded rows (length ids - length rows) k) h) in
             let one : Some number.0 ≡ Some y = sym number.2 ∙ q in
             (e.0, Contains-slice_get m k e.0 e.1, e.2, subst (Contains e.0.deps) (cc one) number.1)
         | inr past ↦ absurd
@@ -127,10 +127,10 @@ module _ (m : List Instance) (ids : List Id) (rows : List (List ℕ)) (nodes : A
       → DependsOn m x y → Contains (edges_of (graph_over ids rows) k) j
   dep_of_edge k j x y p q d =
       let g = graph_over ids rows in
-      let found = committed_node g graph_kept x
+      let found = slice_get-from_committed g IsGraph-graph_over x
       (subst (λ (l : List Id). Contains l x) (sym committed_is)
       (DependsOn-committed m x y d)) in
-      let same : found.0 ≡ k = node_is_unique g graph_kept found.0 k x found.2 p in
+      let same : found.0 ≡ k = ids-is_unique g IsGraph-graph_over found.0 k x found.2 p in
       let l : k < length rows = omega (arith, found.1) in
       let at : slice_get (ids_of m) k ≡ Some x =
       ap (λ xs. slice_get xs k) (sym committed_is)
@@ -140,12 +140,12 @@ module _ (m : List Instance) (ids : List Id) (rows : List (List ℕ)) (nodes : A
       let listed =
       (DependsOn-listed m nodes.committed_rise e.0 (Contains-slice_get m k e.0 e.1) y).0
       (subst (λ (z : Id). DependsOn m z y) (sym e.2) d) in
-      subst (λ (r : List ℕ). Contains r j) (sym (row_padded rows (length ids - length rows) k))
+      subst (λ (r : List ℕ). Contains r j) (sym (row_of-padded rows (length ids - length rows) k))
       ((row.exact j).1 (y, listed, q))
 
-  pub graph_built : IsGraphOf m (graph_over ids rows)
-  graph_built = record {
-    graph = graph_kept;
+  pub IsGraphOf-graph_over : IsGraphOf m (graph_over ids rows)
+  IsGraphOf-graph_over = record {
+    graph = IsGraph-graph_over;
     committed = committed_is;
     missing = λ x. (
       λ h. (nodes.missing.exact x).0 (subst (λ (l : List Id). Contains l x) missing_is h),

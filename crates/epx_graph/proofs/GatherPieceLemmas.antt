@@ -9,7 +9,7 @@ use Rattle.epx_types.proofs.Common.{drop-drop, map-append, take_all, All-append,
 use Rattle.epx_types.proofs.Common.{slice_get_within, get_or_from_slice_get, IsRising, Instance}
 use Rattle.epx_types.specs.declared.id.Id.{Id}
 use Rattle.std.proofs.lemmas.List.Concat.{flat_map-append}
-use Rattle.epx_claims.specs.Answered.{AreOrderedAnswers}
+use Rattle.epx_claims.specs.between.Answered.{AreOrderedAnswers}
 use Rattle.epx_graph.specs.inner.Nodes.{positions_of, missing_of, IsGatheredOf}
 use Rattle.epx_graph.specs.inner.Nodes.{first_of_piece, instances_of_piece}
 
@@ -24,8 +24,8 @@ parts_joined xs a b c low high =
     ∙ sym (take-add (b - a) (c - b) (drop a xs))
     ∙ ap (λ n. take n (drop a xs)) long
 
-pub whole_range : {X : Type 0} (xs : List X) (n : ℕ) → length xs ≤ n → slice_range xs 0 n ≡ xs
-whole_range xs n l =
+pub slice_range-whole : {X : Type 0} (xs : List X) (n : ℕ) → length xs ≤ n → slice_range xs 0 n ≡ xs
+slice_range-whole xs n l =
     let long : n - 0 ≡ n = omega arith in
     ap (λ k. take k xs) long ∙ take_all n xs l
 
@@ -37,9 +37,9 @@ range_of_one m i e at =
     ap (λ n. take n (drop i m)) one ∙ ap (take 1) (drop-cons m i e (slice_get_within m i e at))
     ∙ ap (λ (d : Instance). d ∷ []) same
 
-pub gathered_none : (m : List Instance) (start : ℕ) (rows : List (List ℕ)) (ids : List Id)
+pub IsGatheredOf-nil : (m : List Instance) (start : ℕ) (rows : List (List ℕ)) (ids : List Id)
     → rows ≡ [] → ids ≡ [] → IsGatheredOf m (slice_range m start start) rows ids
-gathered_none m start rows ids no_rows no_ids =
+IsGatheredOf-nil m start rows ids no_rows no_ids =
     let none : start - start ≡ 0 = omega arith in
     let nothing : [] ≡ slice_range m start start = sym (ap (λ n. take n (drop start m)) none) in
     subst (λ es. IsGatheredOf m es rows ids) nothing
@@ -62,12 +62,12 @@ gathered_joined m es ds rows later ids others is are =
     }
 
 -- one more instance
-pub gathered_more : (m : List Instance) (start i : ℕ) (e : Instance) (rows : List (List ℕ))
+pub IsGatheredOf-push : (m : List Instance) (start i : ℕ) (e : Instance) (rows : List (List ℕ))
     (ids : List Id) → start ≤ i → slice_get m i ≡ Some e → IsRising e.deps
     → IsGatheredOf m (slice_range m start i) rows ids
     → IsGatheredOf m (slice_range m start (i + 1)) (rows ++ positions_of m e.deps ∷ [])
     (ids ++ missing_of m e.deps)
-gathered_more m start i e rows ids low at rise is =
+IsGatheredOf-push m start i e rows ids low at rise is =
     let one : IsGatheredOf m (e ∷ []) (positions_of m e.deps ∷ []) (missing_of m e.deps) = record {
       committed = refl;
       missing = sym (append-nil (missing_of m e.deps));
@@ -100,7 +100,7 @@ module _ {Z : Type 0} (rows_in : Z → List (List ℕ)) (ids_in : Z → List Id)
   gathered_from piece [] each =
       let here : piece ≡ piece + 0 = omega arith in
       subst (λ k. IsGatheredOf m (slice_range m (first piece) (first k)) [] []) here
-      (gathered_none m (first piece) [] [] refl refl)
+      (IsGatheredOf-nil m (first piece) [] [] refl refl)
   gathered_from piece (z ∷ zs) each =
       let at = each 0 (omega arith) in
       let same : at.0 ≡ z = cc (at.1) in
@@ -126,16 +126,16 @@ module _ {Z : Type 0} (rows_in : Z → List (List ℕ)) (ids_in : Z → List Id)
       (gathered_joined m (instances_of_piece size m piece) _ (rows_in z) (flat_map rows_in zs)
       (ids_in z) (flat_map ids_in zs) one rest)
 
-  pub gathered_all : (zs : List Z) (count : ℕ) → length m ≤ count * size
+  pub IsGatheredOf-all : (zs : List Z) (count : ℕ) → length m ≤ count * size
       → AreOrderedAnswers IsPiece count zs
       → IsGatheredOf m m (flat_map rows_in zs) (flat_map ids_in zs)
-  gathered_all zs count all are =
+  IsGatheredOf-all zs count all are =
       let begin : first 0 ≡ 0 = omega arith in
       let many : count ≡ 0 + length zs = omega (arith, are.len) in
       let end : first (0 + length zs) ≡ length m =
       omega (arith, all, ap (λ k. k * size) many) in
       let whole : slice_range m (first 0) (first (0 + length zs)) ≡ m =
-      (λ i. slice_range m (begin i) (end i)) ∙ whole_range m (length m) (omega arith) in
+      (λ i. slice_range m (begin i) (end i)) ∙ slice_range-whole m (length m) (omega arith) in
       subst (λ es. IsGatheredOf m es (flat_map rows_in zs) (flat_map ids_in zs)) whole
       (gathered_from 0 zs (λ i l.
       let at = are.each i (omega (arith, l, are.len)) in

@@ -4,11 +4,12 @@ use Rattle.std.proofs.Common.{flat_map, Contains, Option, Some, None, slice_get,
 use Rattle.std.proofs.Common.{Less, Equal, Greater, is_lt, refl, sym, ap, subst, inl, inr}
 use Rattle.epx_types.proofs.Common.{nat_cmp_total, length-map, slice_get_within}
 use Rattle.epx_types.proofs.Common.{get_or_from_slice_get, take-append_seam, IsRising, Instance}
-use Rattle.epx_types.proofs.Common.{ids_of, IsCommitted, id_cmp_total, id_cmp-IsAntisymmetric}
+use Rattle.epx_types.proofs.Common.{ids_of, IsCommitted, id_cmp-IsTotalOrder}
+use Rattle.epx_types.proofs.Common.{id_cmp-IsAntisymmetric}
 use Rattle.epx_types.proofs.Common.{Contains-flat_map, Contains-from_flat_map, AllPairs-slice_get}
 use Rattle.epx_types.proofs.Common.{AllPairs-from_slice_get, IsRising-from_AllPairs}
 use Rattle.epx_types.proofs.Common.{Contains-Id_cases, list_positions, Contains-list_positions}
-use Rattle.epx_types.proofs.Common.{not_cases, AreThose, rising_list}
+use Rattle.epx_types.proofs.Common.{negation-cases, AreThose, AreThose-exists}
 use Rattle.epx_types.specs.declared.id.Id.{Id}
 use Rattle.std.specs.Cmp.{ranked}
 use Rattle.std.specs.Ordering.{MatchOrdering}
@@ -18,8 +19,8 @@ use Rattle.epx_types.proofs.lists.ListPositionLemmas.{slice_get-map}
 use Rattle.epx_graph.specs.Graphs.{DependencyGraph, graph_over}
 use Rattle.epx_graph.specs.GraphOf.{IsGraphOf}
 use Rattle.epx_graph.specs.inner.Nodes.{AreMissingIds, AreNodesOf, ArePositionsOf, AreRowsOf}
-use Rattle.epx_rows.specs.Rows.{row_of}
-use Rattle.epx_graph.proofs.BuildLemmas.{graph_built}
+use Rattle.epx_rows.specs.between.Rows.{row_of}
+use Rattle.epx_graph.proofs.BuildLemmas.{IsGraphOf-graph_over}
 
 -- ---- the positions of Ids
 
@@ -48,7 +49,7 @@ module _ (ids xs : List Id) where
 
   positions : (row : List ℕ) × AreThose nat_cmp_total nat_cmp-IsAntisymmetric IsPositionIn
       (list_positions (length ids)) row
-  positions = rising_list nat_cmp_total nat_cmp-IsAntisymmetric IsPositionIn IsPositionIn-cases
+  positions = AreThose-exists nat_cmp_total nat_cmp-IsAntisymmetric IsPositionIn IsPositionIn-cases
       (list_positions (length ids))
 
   places_are : ArePositionsOf ids xs positions.0
@@ -67,10 +68,11 @@ module _ (ids xs : List Id) where
 -- ---- the nodes and the rows of a map
 
 module _ (m : List Instance) (rising : IsRising (ids_of m)) where
-  missing_instances : (those : List Id) × AreThose id_cmp_total id_cmp-IsAntisymmetric
+  missing_instances : (those : List Id) × AreThose id_cmp-IsTotalOrder id_cmp-IsAntisymmetric
       (λ y. ¬ IsCommitted m y) (flat_map (λ e. e.deps) m) those
-  missing_instances = rising_list id_cmp_total id_cmp-IsAntisymmetric (λ y. ¬ IsCommitted m y)
-      (λ y. not_cases (Contains-Id_cases (ids_of m) y)) (flat_map (λ e. e.deps) m)
+  missing_instances =
+      AreThose-exists id_cmp-IsTotalOrder id_cmp-IsAntisymmetric (λ y. ¬ IsCommitted m y)
+      (λ y. negation-cases (Contains-Id_cases (ids_of m) y)) (flat_map (λ e. e.deps) m)
 
   missing_are : AreMissingIds m missing_instances.0
   missing_are = record {
@@ -114,5 +116,5 @@ module _ (m : List Instance) (rising : IsRising (ids_of m)) where
         subst (ArePositionsOf nodes e.deps) (sym row) (places_are nodes e.deps),
   )
 
-  pub graph_exists : (g : DependencyGraph) × IsGraphOf m g
-  graph_exists = (graph_over nodes rows, graph_built m nodes rows nodes_are rows_are)
+  pub IsGraphOf-exists : (g : DependencyGraph) × IsGraphOf m g
+  IsGraphOf-exists = (graph_over nodes rows, IsGraphOf-graph_over m nodes rows nodes_are rows_are)

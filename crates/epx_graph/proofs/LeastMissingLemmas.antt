@@ -1,19 +1,20 @@
 -- The searches back from the missing nodes find the least one that each node reaches.
 use Rattle.std.proofs.Common.{inl, inr, ℕ, List, length, Option, sym, subst}
 use Rattle.epx_types.proofs.Common.{cases_lt}
-use Rattle.epx_rows.specs.Rows.{row_of, AreTransposed}
+use Rattle.epx_rows.specs.between.Rows.{row_of, AreTransposed}
 use Rattle.epx_graph.specs.declared.search.MarkKind.TheVariants as kind
 use Rattle.epx_graph.specs.Graphs.{DependencyGraph, edges_of}
-use Rattle.epx_graph.specs.NodePaths.{NodeReaches}
+use Rattle.epx_graph.specs.between.NodePaths.{NodeReaches}
 use Rattle.epx_graph.specs.inner.LeastMissing.{IsLeastMissing, AreMarksOf}
 use Rattle.epx_graph.specs.inner.Searches.{LeadsIn, mark_by, AreFirstMarks}
 use Rattle.epx_graph.proofs.NodeStepLemmas.{LeadsTo-node_path, LeadsTo-reaches, LeadsTo-turned}
 use Rattle.epx_graph.proofs.NodeStepLemmas.{LeadsIn-turned}
 
-pub least_marks : (g : DependencyGraph) (sources : List (List ℕ)) (marks : List (Option ℕ))
+pub AreMarksOf-first_marks : (g : DependencyGraph) (sources : List (List ℕ))
+    (marks : List (Option ℕ))
     → AreTransposed g.edges sources → AreFirstMarks sources (mark_by kind.Start)
     g.committed (length g.ids) (length g.ids) marks → AreMarksOf g marks
-least_marks g sources marks transpose are = record {
+AreMarksOf-first_marks g sources marks transpose are = record {
   nodes = are.nodes;
   marked = λ k s h.
       let by = are.marked k s h in

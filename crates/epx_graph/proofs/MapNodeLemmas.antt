@@ -5,16 +5,16 @@ use Rattle.epx_types.proofs.Common.{cases_lt, length-take, length-map, get_or_ap
 use Rattle.epx_types.proofs.Common.{get_or_push, length_push, take_at, drop_at, IsRising, Instance}
 use Rattle.epx_types.proofs.Common.{ids_of, IsCommitted, Contains-slice_get}
 use Rattle.epx_types.specs.declared.id.Id.{Id}
-use Rattle.epx_rows.specs.Rows.{row_of}
+use Rattle.epx_rows.specs.between.Rows.{row_of}
 use Rattle.epx_graph.specs.inner.Nodes.{AreMissingIds, AreNodesOf, ArePositionsOf, AreRowsOf}
 use Rattle.epx_graph.proofs.RisingPositionLemmas.{slice_get-take}
 
 -- ---- nodes
 
 -- the committed Ids, and then the missing ones
-pub nodes_joined : (m : List Instance) (missing : List Id) → IsRising (ids_of m)
+pub AreNodesOf-append : (m : List Instance) (missing : List Id) → IsRising (ids_of m)
     → AreMissingIds m missing → AreNodesOf m (ids_of m ++ missing)
-nodes_joined m missing rising are =
+AreNodesOf-append m missing rising are =
     let long : length (ids_of m) ≡ length m = length-map m (λ (e : Instance). e.id) in
     record {
       committed_rise = rising;
@@ -24,16 +24,16 @@ nodes_joined m missing rising are =
 
 module _ (m : List Instance) (ids : List Id) (is : AreNodesOf m ids) where
   -- the nodes begin with the committed ones
-  pub nodes_long : length m ≤ length ids
-  nodes_long =
+  pub length-ids_at_least : length m ≤ length ids
+  length-ids_at_least =
       let long : length (take (length m) ids) ≡ length m =
       ap length is.committed ∙ length-map m (λ (e : Instance). e.id) in
       omega (arith, length-take (length m) ids)
 
   -- and an Id that is not committed comes after them
-  pub missing_above : (x : Id) (j : ℕ) → ¬ IsCommitted m x → slice_get ids j ≡ Some x
+  pub slice_get-missing_above : (x : Id) (j : ℕ) → ¬ IsCommitted m x → slice_get ids j ≡ Some x
       → length m ≤ j
-  missing_above x j missing at =
+  slice_get-missing_above x j missing at =
       elim (cases_lt j (length m)) [
         | inl l ↦ absurd
             (missing (subst (λ (l : List Id). Contains l x) is.committed
@@ -44,10 +44,11 @@ module _ (m : List Instance) (ids : List Id) (is : AreNodesOf m ids) where
 
 -- ---- rows
 
-pub rows_more : (m : List Instance) (ids : List Id) (rows : List (List ℕ)) (n : ℕ) (e : Instance)
+pub AreRowsOf-push : (m : List Instance) (ids : List Id) (rows : List (List ℕ)) (n : ℕ)
+    (e : Instance)
     (row : List ℕ) → slice_get m n ≡ Some e → ArePositionsOf ids e.deps row
     → AreRowsOf m ids rows n → AreRowsOf m ids (rows ++ row ∷ []) (n + 1)
-rows_more m ids rows n e row at is before =
+AreRowsOf-push m ids rows n e row at is before =
     (length_push rows row ∙ ap (λ k. k + 1) before.0, each) where
       each : (k : ℕ) (d : Instance) → k < n + 1 → slice_get m k ≡ Some d
           → ArePositionsOf ids d.deps (row_of (rows ++ row ∷ []) k)

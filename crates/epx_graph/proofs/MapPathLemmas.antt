@@ -7,25 +7,26 @@ use Rattle.epx_types.proofs.Common.{Reaches-trans, Reaches-dependency, Contains-
 use Rattle.epx_types.specs.declared.id.Id.{Id}
 use Rattle.epx_graph.specs.Graphs.{DependencyGraph, edges_of, committed_ids}
 use Rattle.epx_graph.specs.GraphOf.{IsGraphOf}
-use Rattle.epx_graph.specs.NodePaths.{IsNodePath, NodeReaches}
-use Rattle.epx_graph.proofs.GraphNodeLemmas.{committed_at, committed_node, missing_node}
-use Rattle.epx_graph.proofs.GraphNodeLemmas.{Contains-committed, Contains-missing, node_is_unique}
-use Rattle.epx_graph.proofs.GraphNodeLemmas.{edge_within, node_id, committed_order}
+use Rattle.epx_graph.specs.between.NodePaths.{IsNodePath, NodeReaches}
+use Rattle.epx_graph.proofs.GraphNodeLemmas.{slice_get-committed_ids, slice_get-from_committed}
+use Rattle.epx_graph.proofs.GraphNodeLemmas.{slice_get-from_missing}
+use Rattle.epx_graph.proofs.GraphNodeLemmas.{Contains-committed, Contains-missing, ids-is_unique}
+use Rattle.epx_graph.proofs.GraphNodeLemmas.{edges_of-within, slice_get-id_of_node, Below-committed}
 
 module _ (m : List Instance) (g : DependencyGraph) (is : IsGraphOf m g) where
   -- ---- nodes and instances
 
   -- the number of committed nodes is the number of instances of the map
-  pub committed_count : g.committed ≡ length m
-  committed_count =
+  pub committed-count : g.committed ≡ length m
+  committed-count =
       let long : length (committed_ids g) ≡ length m =
       ap length is.committed ∙ length-map m (λ (e : Instance). e.id) in
       omega (arith, length-take g.committed g.ids, is.graph.committed_nodes)
 
   -- a node is committed exactly if its instance is
-  pub node_committed : (k : ℕ) (x : Id) → slice_get g.ids k ≡ Some x
+  pub IsCommitted-iff_node : (k : ℕ) (x : Id) → slice_get g.ids k ≡ Some x
       → (k < g.committed) ↔ IsCommitted m x
-  node_committed k x at = (there, back) where
+  IsCommitted-iff_node k x at = (there, back) where
     there : k < g.committed → IsCommitted m x
     there l = subst (λ (ids : List Id). Contains ids x) is.committed
         (Contains-committed g is.graph k x at l)
@@ -38,42 +39,45 @@ module _ (m : List Instance) (g : DependencyGraph) (is : IsGraphOf m g) where
         ]
 
   -- the node of an Id that is not committed is missing
-  pub missing_number : (j : ℕ) (y : Id) → slice_get g.ids j ≡ Some y → ¬ IsCommitted m y
+  pub committed-if_missing : (j : ℕ) (y : Id) → slice_get g.ids j ≡ Some y → ¬ IsCommitted m y
       → g.committed ≤ j
-  missing_number j y at missing =
+  committed-if_missing j y at missing =
       elim (cases_lt j g.committed) [
-        | inl l ↦ absurd (missing ((node_committed j y at).0 l))
+        | inl l ↦ absurd (missing ((IsCommitted-iff_node j y at).0 l))
         | inr past ↦ past
       ]
 
-  pub missing_id : (j : ℕ) (y : Id) → slice_get g.ids j ≡ Some y → g.committed ≤ j
+  pub IsCommitted-not_past : (j : ℕ) (y : Id) → slice_get g.ids j ≡ Some y → g.committed ≤ j
       → ¬ IsCommitted m y
-  missing_id j y at past h = let l = (node_committed j y at).1 h in absurd (omega arith)
+  IsCommitted-not_past j y at past h = let l =
+      (IsCommitted-iff_node j y at).1 h in absurd (omega arith)
 
   -- the instance at a position of the map is that of the node with this number
-  pub node_instance : (k : ℕ) (x : Id) → slice_get g.ids k ≡ Some x → k < g.committed
+  pub slice_get-instance : (k : ℕ) (x : Id) → slice_get g.ids k ≡ Some x → k < g.committed
       → (e : Instance) × (slice_get m k ≡ Some e) × (e.id ≡ x)
-  node_instance k x at l = slice_get-from_map (λ (e : Instance). e.id) m k x
-      (ap (λ ids. slice_get ids k) (sym is.committed) ∙ committed_at g is.graph k x at l)
+  slice_get-instance k x at l = slice_get-from_map (λ (e : Instance). e.id) m k x
+      (ap (λ ids. slice_get ids k) (sym is.committed) ∙ slice_get-committed_ids g is.graph k x at l)
 
   -- a committed instance has a node, and so has each of its dependencies
-  pub node_of_committed : (x : Id) → IsCommitted m x
+  pub slice_get-if_committed : (x : Id) → IsCommitted m x
       → (k : ℕ) × (k < g.committed) × (slice_get g.ids k ≡ Some x)
-  node_of_committed x h = committed_node g is.graph x
+  slice_get-if_committed x h = slice_get-from_committed g is.graph x
       (subst (λ (ids : List Id). Contains ids x) (sym is.committed) h)
 
-  pub node_of_dependency : (x y : Id) → DependsOn m x y → (j : ℕ) × (slice_get g.ids j ≡ Some y)
-  node_of_dependency x y d =
+  pub slice_get-dependency : (x y : Id) → DependsOn m x y → (j : ℕ) × (slice_get g.ids j ≡ Some y)
+  slice_get-dependency x y d =
       elim (Contains-Id_cases (ids_of m) y) [
-        | inl there ↦ let k = node_of_committed y there in (k.0, k.2)
-        | inr missing ↦ let k = missing_node g is.graph y ((is.missing y).1 ((x, d), missing)) in
+        | inl there ↦ let k = slice_get-if_committed y there in (k.0, k.2)
+        | inr missing ↦ let k =
+            slice_get-from_missing g is.graph y ((is.missing y).1 ((x, d), missing)) in
             (k.0, k.2)
       ]
 
   -- among committed nodes the order of numbers is that of Ids
-  pub node_order : (k j : ℕ) (x y : Id) → slice_get g.ids k ≡ Some x → slice_get g.ids j ≡ Some y
+  pub Below-iff_node : (k j : ℕ) (x y : Id) → slice_get g.ids k ≡ Some x
+      → slice_get g.ids j ≡ Some y
       → k < g.committed → j < g.committed → (k < j) ↔ Below x y
-  node_order = committed_order g is.graph
+  Below-iff_node = Below-committed g is.graph
 
   -- ---- paths
 
@@ -83,7 +87,7 @@ module _ (m : List Instance) (g : DependencyGraph) (is : IsGraphOf m g) where
       let same : Some x ≡ Some y = sym at ∙ ap (slice_get g.ids) path ∙ to in
       inl (cc same)
   node_path k x at (c ∷ cs) j y to path =
-      let z = node_id g is.graph c (edge_within g is.graph k c path.0) in
+      let z = slice_get-id_of_node g is.graph c (edges_of-within g is.graph k c path.0) in
       let step = (is.edges k c x z.0 at z.1).0 path.0 in
       Reaches-trans m x z.0 y (Reaches-dependency m x z.0 step)
       (node_path c z.0 z.1 cs j y to path.1)
@@ -91,25 +95,26 @@ module _ (m : List Instance) (g : DependencyGraph) (is : IsGraphOf m g) where
   map_path : (k : ℕ) (x : Id) → slice_get g.ids k ≡ Some x → (via : List Id) (y : Id)
       → IsPath m x via y → (j : ℕ) × (slice_get g.ids j ≡ Some y) × NodeReaches (edges_of g) k j
   map_path k x at [] y path =
-      let j = node_of_dependency x y path in
+      let j = slice_get-dependency x y path in
       (j.0, j.1, (j.0 ∷ [], ((is.edges k j.0 x y at j.1).1 path, refl)))
   map_path k x at (z ∷ via) y path =
-      let c = node_of_dependency x z path.0 in
+      let c = slice_get-dependency x z path.0 in
       let rest = map_path c.0 z c.1 via y path.1 in
       (rest.0, rest.1, (c.0 ∷ rest.2.0, ((is.edges k c.0 x z at c.1).1 path.0, rest.2.1)))
 
   -- if an instance has a node, each instance that it reaches has a node that this node reaches
-  pub reached_node : (k : ℕ) (x y : Id) → slice_get g.ids k ≡ Some x → Reaches m x y
+  pub NodeReaches-exists : (k : ℕ) (x y : Id) → slice_get g.ids k ≡ Some x → Reaches m x y
       → (j : ℕ) × (slice_get g.ids j ≡ Some y) × NodeReaches (edges_of g) k j
-  reached_node k x y at (inl same) = (k, at ∙ ap Some same, ([], refl))
-  reached_node k x y at (inr path) = map_path k x at path.0 y path.1
+  NodeReaches-exists k x y at (inl same) = (k, at ∙ ap Some same, ([], refl))
+  NodeReaches-exists k x y at (inr path) = map_path k x at path.0 y path.1
 
   -- one node reaches another exactly if its instance reaches the other's instance
-  pub node_reaches : (k j : ℕ) (x y : Id) → slice_get g.ids k ≡ Some x → slice_get g.ids j ≡ Some y
+  pub NodeReaches-iff : (k j : ℕ) (x y : Id) → slice_get g.ids k ≡ Some x
+      → slice_get g.ids j ≡ Some y
       → NodeReaches (edges_of g) k j ↔ Reaches m x y
-  node_reaches k j x y at to = (λ path. node_path k x at path.0 j y to path.1, back) where
+  NodeReaches-iff k j x y at to = (λ path. node_path k x at path.0 j y to path.1, back) where
     back : Reaches m x y → NodeReaches (edges_of g) k j
     back there =
-        let found = reached_node k x y at there in
-        subst (NodeReaches (edges_of g) k) (node_is_unique g is.graph found.0 j y found.1 to)
+        let found = NodeReaches-exists k x y at there in
+        subst (NodeReaches (edges_of g) k) (ids-is_unique g is.graph found.0 j y found.1 to)
         found.2

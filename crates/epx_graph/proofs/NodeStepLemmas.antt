@@ -3,15 +3,15 @@
 use Rattle.std.proofs.Common.{◌≡◌, ℕ, zero, suc, ◌+◌, ◌<◌, List, [], ◌∷◌, length, All, Contains}
 use Rattle.std.proofs.Common.{Option, Some, refl, sym, subst, subst₂, arith}
 use Rattle.epx_types.proofs.Common.{All-from_get_or, All-weaker, All-contains_itself}
-use Rattle.epx_rows.specs.Rows.{row_of, AreTransposed}
+use Rattle.epx_rows.specs.between.Rows.{row_of, AreTransposed}
 use Rattle.epx_graph.specs.declared.search.MarkKind.TheVariants as kind
 use Rattle.epx_graph.specs.Graphs.{DependencyGraph, edges_of, IsGraph}
-use Rattle.epx_graph.specs.NodePaths.{IsNodePath, NodeReaches}
-use Rattle.epx_graph.specs.NodeSteps.{LeadsTo, AreLeast, AreDistancesFrom, AreDistancesTo}
-use Rattle.epx_graph.specs.NodeSteps.{distance_at}
+use Rattle.epx_graph.specs.between.NodePaths.{IsNodePath, NodeReaches}
+use Rattle.epx_graph.specs.between.NodeSteps.{LeadsTo, AreLeast, AreDistancesFrom, AreDistancesTo}
+use Rattle.epx_graph.specs.between.NodeSteps.{distance_at}
 use Rattle.epx_graph.specs.inner.Searches.{LeadsIn, mark_by, AreFirstMarks}
-use Rattle.epx_graph.proofs.GraphNodeLemmas.{edge_from_committed}
-use Rattle.epx_graph.proofs.SearchLemmas.{marked_if_not_none}
+use Rattle.epx_graph.proofs.GraphNodeLemmas.{edges_of-from_committed}
+use Rattle.epx_graph.proofs.SearchLemmas.{IsMarked-if_not_none}
 
 module _ (edges : ℕ → List ℕ) where
   -- a path with one more edge at its end
@@ -85,7 +85,7 @@ search_distances rows k count distances are = record {
       let by = are.marked j n h in
       subst₂ (λ (s i : ℕ). LeadsIn (row_of rows) s i j) (at j n h) (sym by.is) by.leads;
   least = λ j n there.
-      let has = marked_if_not_none distances j
+      let has = IsMarked-if_not_none distances j
       (λ none. are.unmarked j k n none (omega arith) (omega arith) there) in
       let by = are.marked j has.0 has.1 in
       let few = by.fewest n
@@ -95,11 +95,11 @@ search_distances rows k count distances are = record {
   at : (j n : ℕ) (h : distance_at distances j ≡ Some n) → (are.marked j n h).start ≡ k
   at j n h = let by = are.marked j n h in omega (arith, by.after, by.before)
 
-pub found_from : (g : DependencyGraph) (rows : List (List ℕ)) (k : ℕ)
+pub AreDistancesFrom-marks : (g : DependencyGraph) (rows : List (List ℕ)) (k : ℕ)
     (distances : List (Option ℕ)) → ((i : ℕ) → row_of rows i ≡ edges_of g i)
     → AreFirstMarks rows (mark_by kind.Steps) k (k + 1) (length g.ids) distances
     → AreDistancesFrom g k distances
-found_from g rows k distances same are =
+AreDistancesFrom-marks g rows k distances same are =
     let all : (λ (i : ℕ). row_of rows i) ≡ edges_of g = λ d i. same i d in
     AreLeast-same (λ n j. LeadsIn (edges_of g) k n j) (λ n j. LeadsTo (edges_of g) k n j)
     (length g.ids) distances (λ n j. LeadsTo-from_LeadsIn (edges_of g) n k j)
@@ -107,11 +107,11 @@ found_from g rows k distances same are =
     (subst (λ (edges : ℕ → List ℕ). AreLeast (λ n j. LeadsIn edges k n j) (length g.ids)
     distances) all (search_distances rows k (length g.ids) distances are))
 
-pub found_to : (g : DependencyGraph) (sources : List (List ℕ)) (k : ℕ)
+pub AreDistancesTo-marks : (g : DependencyGraph) (sources : List (List ℕ)) (k : ℕ)
     (distances : List (Option ℕ)) → AreTransposed g.edges sources
     → AreFirstMarks sources (mark_by kind.Steps) k (k + 1) (length g.ids) distances
     → AreDistancesTo g k distances
-found_to g sources k distances transpose are =
+AreDistancesTo-marks g sources k distances transpose are =
     AreLeast-same (λ n j. LeadsIn (row_of sources) k n j) (λ n j. LeadsTo (edges_of g) j n k)
     (length g.ids) distances
     (λ n j. LeadsTo-turned (edges_of g) (row_of sources) (λ i l h. (transpose i l).1 h) n k j)
@@ -119,12 +119,12 @@ found_to g sources k distances transpose are =
     (search_distances sources k (length g.ids) distances are)
 
 -- edges come from nodes
-pub sources_within : (g : DependencyGraph) (sources : List (List ℕ)) → IsGraph g
+pub All-sources_within : (g : DependencyGraph) (sources : List (List ℕ)) → IsGraph g
     → AreTransposed g.edges sources → All (λ row. All (λ k. k < length g.ids) row) sources
-sources_within g sources graph transpose =
+All-sources_within g sources graph transpose =
     All-from_get_or (λ (row : List ℕ). All (λ k. k < length g.ids) row) sources [] (λ j l.
     All-weaker (Contains (row_of sources j)) (λ k. k < length g.ids)
     (λ k h.
-    let low = edge_from_committed g graph k j ((transpose k j).1 h) in
+    let low = edges_of-from_committed g graph k j ((transpose k j).1 h) in
     omega (arith, graph.committed_nodes))
     (row_of sources j) (All-contains_itself (row_of sources j)))

@@ -7,9 +7,9 @@ use Rattle.epx_types.proofs.Common.{get_or_append_left, get_or_push, get_or_read
 use Rattle.epx_types.proofs.Common.{take_more, filter-append, AllPairs-filter, slice_get_within}
 use Rattle.epx_types.proofs.Common.{slice_get-get_or, Below, IsRising, Instance, ids_of}
 use Rattle.epx_types.proofs.Common.{position_of, is_among, without_deps, remaining, remaining_ids}
-use Rattle.epx_types.proofs.Common.{Contains-remaining_iff, IsRising-remaining, is_among_cases}
-use Rattle.epx_types.proofs.Common.{not_among, remaining-nil, remaining_skip, remaining_more}
-use Rattle.epx_types.proofs.Common.{remaining_position, Contains-nil, Contains-slice_get}
+use Rattle.epx_types.proofs.Common.{Contains-remaining_iff, IsRising-remaining, is_among-cases}
+use Rattle.epx_types.proofs.Common.{is_among-false, remaining-nil, remaining-skip, remaining-more}
+use Rattle.epx_types.proofs.Common.{remaining-position, Contains-nil, Contains-slice_get}
 use Rattle.epx_types.proofs.Common.{position_of-instance, position_of-found, AllPairs-from_IsRising}
 use Rattle.epx_types.proofs.Common.{IsRising-from_AllPairs}
 use Rattle.epx_types.specs.declared.id.Id.{Id}
@@ -19,8 +19,9 @@ use Rattle.epx_graph.specs.inner.Remainder.{IsPositionLeft, ArePositionTables}
 use Rattle.epx_graph.specs.inner.Nodes.{missing_of, positions_of}
 use Rattle.epx_graph.specs.declared.remainder.IdState.{IdState}
 use Rattle.epx_graph.specs.declared.remainder.IdState.TheVariants as found
-use Rattle.epx_graph.proofs.GatherRowLemmas.{positions_skip, positions_take}
-use Rattle.epx_graph.proofs.MissingIdLemmas.{no_position, none_position, lacking_skip, lacking_take}
+use Rattle.epx_graph.proofs.GatherRowLemmas.{positions_of-skip, positions_of-push}
+use Rattle.epx_graph.proofs.MissingIdLemmas.{IsCommitted-no_position, position_of-if_missing}
+use Rattle.epx_graph.proofs.MissingIdLemmas.{missing_of-skip, missing_of-push}
 
 -- ---- the Ids of a list that are not done
 
@@ -29,35 +30,38 @@ module _ (done : List Id) where
       ≡ remaining_ids done xs ++ cond (not (is_among done x)) (x ∷ []) []
   rest_push xs x = filter-append (λ y. not (is_among done y)) xs (x ∷ [])
 
-  pub rest_skip : (xs : List Id) (x : Id) → Contains done x
+  pub remaining_ids-skip : (xs : List Id) (x : Id) → Contains done x
       → remaining_ids done (xs ++ x ∷ []) ≡ remaining_ids done xs
-  rest_skip xs x among =
-      elim (is_among_cases done x) [
+  remaining_ids-skip xs x among =
+      elim (is_among-cases done x) [
         | inl found ↦ rest_push xs x ∙ ap (λ b. remaining_ids done xs ++ cond (not b) (x ∷ []) [])
             found.0 ∙ append-nil (remaining_ids done xs)
         | inr other ↦ absurd (other.1 among)
       ]
 
-  pub rest_more : (xs : List Id) (x : Id) → ¬ Contains done x
+  pub remaining_ids-push : (xs : List Id) (x : Id) → ¬ Contains done x
       → remaining_ids done (xs ++ x ∷ []) ≡ remaining_ids done xs ++ x ∷ []
-  rest_more xs x left = rest_push xs x
-      ∙ ap (λ b. remaining_ids done xs ++ cond (not b) (x ∷ []) []) (not_among done x left)
+  remaining_ids-push xs x left = rest_push xs x
+      ∙ ap (λ b. remaining_ids done xs ++ cond (not b) (x ∷ []) []) (is_among-false done x left)
 
   -- one more Id of a list
-  pub count_skip : (xs : List Id) (i : ℕ) (d : Id) → i < length xs → Contains done (get_or xs i d)
+  pub length-remaining_skip : (xs : List Id) (i : ℕ) (d : Id) → i < length xs
+      → Contains done (get_or xs i d)
       → length (remaining_ids done (take (i + 1) xs)) ≡ length (remaining_ids done (take i xs))
-  count_skip xs i d l among = ap (λ ys. length (remaining_ids done ys)) (take_more xs i d l)
-      ∙ ap length (rest_skip (take i xs) (get_or xs i d) among)
+  length-remaining_skip xs i d l among =
+      ap (λ ys. length (remaining_ids done ys)) (take_more xs i d l)
+      ∙ ap length (remaining_ids-skip (take i xs) (get_or xs i d) among)
 
-  pub count_more : (xs : List Id) (i : ℕ) (d : Id) → i < length xs
+  pub length-remaining_push : (xs : List Id) (i : ℕ) (d : Id) → i < length xs
       → ¬ Contains done (get_or xs i d) → length (remaining_ids done (take (i + 1) xs))
       ≡ length (remaining_ids done (take i xs)) + 1
-  count_more xs i d l left = ap (λ ys. length (remaining_ids done ys)) (take_more xs i d l)
-      ∙ ap length (rest_more (take i xs) (get_or xs i d) left)
+  length-remaining_push xs i d l left =
+      ap (λ ys. length (remaining_ids done ys)) (take_more xs i d l)
+      ∙ ap length (remaining_ids-push (take i xs) (get_or xs i d) left)
       ∙ length_push (remaining_ids done (take i xs)) (get_or xs i d)
 
-  pub rest_rises : (xs : List Id) → IsRising xs → IsRising (remaining_ids done xs)
-  rest_rises xs rising = IsRising-from_AllPairs (remaining_ids done xs)
+  pub IsRising-remaining_ids : (xs : List Id) → IsRising xs → IsRising (remaining_ids done xs)
+  IsRising-remaining_ids xs rising = IsRising-from_AllPairs (remaining_ids done xs)
       (AllPairs-filter Below (λ x. not (is_among done x)) xs (AllPairs-from_IsRising xs rising))
 
 -- ---- where nothing is done
@@ -66,8 +70,9 @@ rest-nil : (xs : List Id) → remaining_ids [] xs ≡ xs
 rest-nil [] = refl
 rest-nil (x ∷ xs) = ap (λ ys. x ∷ ys) (rest-nil xs)
 
-pub all_rest : (done xs : List Id) → length done ≡ 0 → remaining_ids done xs ≡ xs
-all_rest done xs none = ap (λ ds. remaining_ids ds xs) (nil_from_length done none) ∙ rest-nil xs
+pub remaining_ids-none_done : (done xs : List Id) → length done ≡ 0 → remaining_ids done xs ≡ xs
+remaining_ids-none_done done xs none = ap (λ ds. remaining_ids ds xs) (nil_from_length done none)
+    ∙ rest-nil xs
 
 position-nil : (m : List Instance) (p : ℕ) (e : Instance) → slice_get m p ≡ Some e
     → slice_get (remaining [] m) p ≡ Some (without_deps [] e)
@@ -77,20 +82,20 @@ position-nil (d ∷ m) zero e at = let same : d ≡ e = cc at in
 position-nil (d ∷ m) (suc p) e at = position-nil m p e at
 
 module _ (r : RemainderView) (none : length r.done ≡ 0) where
-  pub all_left : rest_of r ≡ r.whole
-  all_left = ap (λ done. remaining done r.whole) (nil_from_length r.done none)
+  pub rest_of-none_done : rest_of r ≡ r.whole
+  rest_of-none_done = ap (λ done. remaining done r.whole) (nil_from_length r.done none)
       ∙ remaining-nil r.whole
 
   -- each instance has the same position as in the map
-  pub position_as_in_map : (p : ℕ) → p < length (rest_of r) → IsAtPosition r p p
-  position_as_in_map p l =
+  pub IsAtPosition-same : (p : ℕ) → p < length (rest_of r) → IsAtPosition r p p
+  IsAtPosition-same p l =
       let d : Instance = record {
         id = record { replica = 0; number = 0 };
         seq = 0;
         deps = [];
         ops = [];
       } in
-      let at = slice_get-get_or r.whole p d (omega (arith, l, ap length all_left)) in (
+      let at = slice_get-get_or r.whole p d (omega (arith, l, ap length rest_of-none_done)) in (
         get_or r.whole p d,
         at,
         subst (λ (done : List Id). slice_get (remaining done r.whole) p
@@ -98,12 +103,12 @@ module _ (r : RemainderView) (none : length r.done ≡ 0) where
             (position-nil r.whole p (get_or r.whole p d) at),
       )
 
-  pub found_there : (x : Id) (p : ℕ) → position_of r.whole x ≡ Some p
+  pub IsIdStateOf-found : (x : Id) (p : ℕ) → position_of r.whole x ≡ Some p
       → IsIdStateOf r x (found.Left p)
-  found_there x p at = (
+  IsIdStateOf-found x p at = (
     λ h. Contains-nil x (subst (λ (ds : List Id). Contains ds x) (nil_from_length r.done none)
         h),
-    ap (λ m. position_of m x) all_left ∙ at,
+    ap (λ m. position_of m x) rest_of-none_done ∙ at,
   )
 
 -- ---- the tables
@@ -130,29 +135,29 @@ module _ (r : RemainderView) (positions : List ℕ) (positions_left : List (Opti
       ]
 
   -- one more instance, which is done
-  pub tables_skip : Contains r.done e.id
+  pub ArePositionTables-skip : Contains r.done e.id
       → ArePositionTables r positions (positions_left ++ None ∷ []) (n + 1)
-  tables_skip among = record {
-    many = are.many ∙ ap length (sym (remaining_skip r.done r.whole n e at among));
+  ArePositionTables-skip among = record {
+    many = are.many ∙ ap length (sym (remaining-skip r.done r.whole n e at among));
     at_positions = are.at_positions;
     all = length_push positions_left None ∙ ap (λ k. k + 1) are.all;
     all_positions_left = tables_push None among;
   }
 
   -- one more instance, which is left
-  pub tables_more : ¬ Contains r.done e.id
+  pub ArePositionTables-push : ¬ Contains r.done e.id
       → ArePositionTables r (positions ++ n ∷ []) (positions_left ++ Some (length positions) ∷ [])
       (n + 1)
-  tables_more left = record {
+  ArePositionTables-push left = record {
     many = length_push positions n ∙ ap (λ k. k + 1) are.many
-        ∙ sym (ap length (remaining_more r.done r.whole n e at left)
+        ∙ sym (ap length (remaining-more r.done r.whole n e at left)
         ∙ length_push (remaining r.done (take n r.whole)) (without_deps r.done e));
     at_positions = at_positions;
     all = length_push positions_left (Some (length positions)) ∙ ap (λ k. k + 1) are.all;
     all_positions_left = tables_push (Some (length positions)) here;
   } where
     here : slice_get (rest_of r) (length positions) ≡ Some (without_deps r.done e)
-    here = ap (slice_get (rest_of r)) are.many ∙ remaining_position r.done r.whole n e at left
+    here = ap (slice_get (rest_of r)) are.many ∙ remaining-position r.done r.whole n e at left
 
     at_positions : (k : ℕ) → k < length (positions ++ n ∷ [])
         → IsAtPosition r (get_or (positions ++ n ∷ []) k 0) k
@@ -168,15 +173,15 @@ module _ (r : RemainderView) (positions : List ℕ) (positions_left : List (Opti
 
 module _ (r : RemainderView) (positions : List ℕ) (positions_left : List (Option ℕ))
     (are : ArePositionTables r positions positions_left (length r.whole)) where
-  pub tables_long : length positions ≡ length (rest_of r)
-  tables_long = are.many ∙ ap (λ es. length (remaining r.done es))
+  pub length-table : length positions ≡ length (rest_of r)
+  length-table = are.many ∙ ap (λ es. length (remaining r.done es))
       (take_all (length r.whole) r.whole (omega arith))
 
   -- what the table says of the position of an instance that is left
-  pub position_from_table : (k p : ℕ) → k < length (rest_of r) → p ≡ get_or positions k p
+  pub IsAtPosition-from_table : (k p : ℕ) → k < length (rest_of r) → p ≡ get_or positions k p
       → IsAtPosition r p k
-  position_from_table k p l read =
-      let within : k < length positions = omega (arith, l, tables_long) in
+  IsAtPosition-from_table k p l read =
+      let within : k < length positions = omega (arith, l, length-table) in
       subst (λ i. IsAtPosition r i k) (sym (get_or_read positions k p within read 0))
       (are.at_positions k within)
 
@@ -190,10 +195,10 @@ module _ (r : RemainderView) (positions : List ℕ) (positions_left : List (Opti
       (are.all_positions_left p e l at)
 
   -- and of the Id at it
-  pub found_left : IsRising (ids_of r.whole) → (p k : ℕ) (x : Id) (index : Option ℕ)
+  pub IsIdStateOf-left : IsRising (ids_of r.whole) → (p k : ℕ) (x : Id) (index : Option ℕ)
       → position_of r.whole x ≡ Some p → index ≡ get_or positions_left p index → index ≡ Some k
       → IsIdStateOf r x (found.Left k)
-  found_left rising p k x index at read some =
+  IsIdStateOf-left rising p k x index at read some =
       let e = position_of-instance r.whole x p at in
       let there : slice_get (rest_of r) k ≡ Some (without_deps r.done e.0) =
       subst (IsPositionLeft r e.0) some (position_read p e.0 index e.1 read) in
@@ -205,20 +210,21 @@ module _ (r : RemainderView) (positions : List ℕ) (positions_left : List (Opti
             (without_deps r.done e.0) there e.2,
       )
 
-  pub found_done : (p : ℕ) (x : Id) (index : Option ℕ) → position_of r.whole x ≡ Some p
+  pub Contains-done : (p : ℕ) (x : Id) (index : Option ℕ) → position_of r.whole x ≡ Some p
       → index ≡ get_or positions_left p index → index ≡ None → Contains r.done x
-  found_done p x index at read none =
+  Contains-done p x index at read none =
       let e = position_of-instance r.whole x p at in
       subst (Contains r.done) e.2
       (subst (IsPositionLeft r e.0) none (position_read p e.0 index e.1 read))
 
 -- an Id without a position is not left
-pub found_missing : (r : RemainderView) (x : Id) → position_of r.whole x ≡ None
+pub IsIdStateOf-missing : (r : RemainderView) (x : Id) → position_of r.whole x ≡ None
     → ¬ Contains r.done x → IsIdStateOf r x found.Missing
-found_missing r x none left = (
+IsIdStateOf-missing r x none left = (
   left,
-  none_position (rest_of r) x
-      (λ h. no_position r.whole x none ((Contains-remaining_iff r.done r.whole x).0 h).0),
+  position_of-if_missing (rest_of r) x
+      (λ h. IsCommitted-no_position r.whole x none
+      ((Contains-remaining_iff r.done r.whole x).0 h).0),
 )
 
 -- ---- Ids gathered one after another
@@ -245,34 +251,37 @@ module _ (r : RemainderView) where
       → (positions_in (xs ++ x ∷ []) ≡ positions_in xs ++ positions_found f)
       × (missing_in (xs ++ x ∷ []) ≡ missing_in xs ++ missing_found x f)
   gathered_push xs x (found.Left k) is =
-      let rest = rest_more r.done xs x is.0 in (
-        ap (positions_of (rest_of r)) rest ∙ positions_take (rest_of r) (remaining_ids r.done xs) x
+      let rest = remaining_ids-push r.done xs x is.0 in (
+        ap (positions_of (rest_of r)) rest
+            ∙ positions_of-push (rest_of r) (remaining_ids r.done xs) x
             k is.1,
-        ap (missing_of (rest_of r)) rest ∙ lacking_skip (rest_of r) (remaining_ids r.done xs) x k
+        ap (missing_of (rest_of r)) rest ∙ missing_of-skip (rest_of r) (remaining_ids r.done xs) x k
             is.1 ∙ sym (append-nil (missing_in xs)),
       )
   gathered_push xs x found.Done is =
-      let rest = rest_skip r.done xs x is in (
+      let rest = remaining_ids-skip r.done xs x is in (
         ap (positions_of (rest_of r)) rest ∙ sym (append-nil (positions_in xs)),
         ap (missing_of (rest_of r)) rest ∙ sym (append-nil (missing_in xs)),
       )
   gathered_push xs x found.Missing is =
-      let rest = rest_more r.done xs x is.0 in (
-        ap (positions_of (rest_of r)) rest ∙ positions_skip (rest_of r) (remaining_ids r.done xs) x
+      let rest = remaining_ids-push r.done xs x is.0 in (
+        ap (positions_of (rest_of r)) rest
+            ∙ positions_of-skip (rest_of r) (remaining_ids r.done xs) x
             is.1 ∙ sym (append-nil (positions_in xs)),
-        ap (missing_of (rest_of r)) rest ∙ lacking_take (rest_of r) (remaining_ids r.done xs) x
+        ap (missing_of (rest_of r)) rest ∙ missing_of-push (rest_of r) (remaining_ids r.done xs) x
             is.1,
       )
 
   -- one more Id
-  pub gathered_next : (xs : List Id) (i : ℕ) (d : Id) → i < length xs → (f : IdState)
+  pub positions_in-take : (xs : List Id) (i : ℕ) (d : Id) → i < length xs → (f : IdState)
       → IsIdStateOf r (get_or xs i d) f
       → (old numbers new : List ℕ) (before missing after : List Id)
       → numbers ≡ old ++ positions_in (take i xs) → missing ≡ before ++ missing_in (take i xs)
       → new ≡ numbers ++ positions_found f → after ≡ missing ++ missing_found (get_or xs i d) f
       → (new ≡ old ++ positions_in (take (i + 1) xs))
       × (after ≡ before ++ missing_in (take (i + 1) xs))
-  gathered_next xs i d l f is old numbers new before missing after numbers_are missing_are new_is
+  positions_in-take xs i d l f is old numbers new before missing after numbers_are missing_are
+      new_is
       after_is =
       let x = get_or xs i d in
       let next = gathered_push (take i xs) x f is in

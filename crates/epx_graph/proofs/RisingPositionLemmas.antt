@@ -3,8 +3,8 @@ use Rattle.std.proofs.Common.{◌≡◌, ℕ, ◌+◌, ◌-◌, ◌<◌, ◌≤�
 use Rattle.std.proofs.Common.{sym, ap, subst, ◌∙◌, inl, inr, arith}
 use Rattle.epx_types.proofs.Common.{cases_lt, length-take, length-drop, get_or-take, get_or-drop}
 use Rattle.epx_types.proofs.Common.{slice_get_within, slice_get-get_or, get_or_from_slice_get}
-use Rattle.epx_types.proofs.Common.{Below, IsRising, below_irrefl, below_asymm, id_cmp_total}
-use Rattle.epx_types.proofs.Common.{rising_positions}
+use Rattle.epx_types.proofs.Common.{Below, IsRising, is_lt-irrefl, is_lt-asymm, id_cmp-IsTotalOrder}
+use Rattle.epx_types.proofs.Common.{Below-by_position}
 use Rattle.epx_types.specs.declared.id.Id.{Id}
 
 -- ---- what is taken and dropped
@@ -45,18 +45,18 @@ slice_get-from_drop xs n i x at =
 -- ---- rising Ids
 
 -- the lower Id has the lower position
-pub rising_positions_back : (xs : List Id) → IsRising xs → (i j : ℕ) (x y : Id)
+pub IsRising-positions_back : (xs : List Id) → IsRising xs → (i j : ℕ) (x y : Id)
     → slice_get xs i ≡ Some x → slice_get xs j ≡ Some y → Below x y → i < j
-rising_positions_back xs rising i j x y p q below =
+IsRising-positions_back xs rising i j x y p q below =
     elim (cases_lt i j) [
       | inl l ↦ l
       | inr m ↦ elim (cases_lt j i) [
         | inl l ↦ absurd
-            (below_asymm id_cmp_total x y below (rising_positions xs rising j i y x q p l))
+            (is_lt-asymm id_cmp-IsTotalOrder x y below (Below-by_position xs rising j i y x q p l))
         | inr n ↦
             let same : i ≡ j = omega arith in
             let one : Some x ≡ Some y = sym p ∙ ap (slice_get xs) same ∙ q in
             let is : x ≡ y = cc one in
-            absurd (below_irrefl id_cmp_total y (subst (λ (z : Id). Below z y) is below))
+            absurd (is_lt-irrefl id_cmp-IsTotalOrder y (subst (λ (z : Id). Below z y) is below))
       ]
     ]

@@ -12,20 +12,21 @@ use Rattle.epx_types.proofs.Common.{Contains-cons, Contains-cons_cases, Contains
 use Rattle.epx_types.proofs.Common.{Contains-from_filter, Contains-slice_get}
 use Rattle.epx_types.proofs.Common.{slice_get-from_Contains, AllPairs-head, AllPairs-tail}
 use Rattle.epx_types.proofs.Common.{AllPairs-slice_get, AllPairs-from_parts, AllPairs-append}
-use Rattle.epx_types.proofs.Common.{rising_position_is_unique, position_of-instance}
+use Rattle.epx_types.proofs.Common.{slice_get-rising_is_unique, position_of-instance}
 use Rattle.epx_types.specs.declared.id.Id.{Id}
 use Rattle.epx_types.proofs.lists.ListPositionLemmas.{slice_get-map}
 use Rattle.epx_graph.specs.inner.Nodes.{positions_of, missing_of, AreNodesOf, ArePositionsOf}
-use Rattle.epx_graph.proofs.MissingIdLemmas.{no_position, lacks-from_missing, lacking_missing}
-use Rattle.epx_graph.proofs.MapNodeLemmas.{missing_above}
+use Rattle.epx_graph.proofs.MissingIdLemmas.{IsCommitted-no_position, lacks-from_missing}
+use Rattle.epx_graph.proofs.MissingIdLemmas.{IsCommitted-not_missing}
+use Rattle.epx_graph.proofs.MapNodeLemmas.{slice_get-missing_above}
 use Rattle.epx_graph.proofs.RisingPositionLemmas.{slice_get-take, slice_get-from_take}
 use Rattle.epx_graph.proofs.RisingPositionLemmas.{slice_get-drop, slice_get-from_drop}
-use Rattle.epx_graph.proofs.RisingPositionLemmas.{rising_positions_back}
+use Rattle.epx_graph.proofs.RisingPositionLemmas.{IsRising-positions_back}
 
 -- ---- the positions of no Ids
 
-pub positions_none : (ids : List Id) → ArePositionsOf ids [] []
-positions_none ids = record {
+pub ArePositionsOf-nil : (ids : List Id) → ArePositionsOf ids [] []
+ArePositionsOf-nil ids = record {
   rising = λ i j d l within. absurd (omega arith);
   exact = λ j. (λ h. absurd (Contains-nil j h), λ h. absurd (Contains-nil h.0 h.1));
 }
@@ -52,7 +53,7 @@ positions_cons : (ids : List Id) (rising : IsRising ids) (x : Id) (xs : List Id)
 positions_cons ids rising x xs i row rise at are = record {
   rising = AllPairs-from_parts (λ a b. a < b) i row
       (λ j h. let there = (are.exact j).0 h in
-      rising_positions_back ids rising i j x there.0 at there.2
+      IsRising-positions_back ids rising i j x there.0 at there.2
       (AllPairs-head Below x xs there.0 rise there.1)) are.rising;
   exact = λ j. (
     λ h. elim (Contains-cons_cases i row j h) [
@@ -62,7 +63,7 @@ positions_cons ids rising x xs i row rise at are = record {
     ],
     λ h. elim (Contains-cons_cases x xs h.0 h.1) [
       | inl first ↦
-          let same : i ≡ j = rising_position_is_unique ids rising i j x at
+          let same : i ≡ j = slice_get-rising_is_unique ids rising i j x at
           (h.2 ∙ ap Some (sym first)) in
           subst (Contains (i ∷ row)) same (Contains-head i row)
       | inr rest ↦ Contains-cons i row j ((are.exact j).1 (h.0, rest, h.2))
@@ -72,16 +73,16 @@ positions_cons ids rising x xs i row rise at are = record {
 
 -- ---- committed dependencies
 
-pub positions_are_rising : (m : List Instance) → IsRising (ids_of m) → (xs : List Id)
+pub ArePositionsOf-positions_of : (m : List Instance) → IsRising (ids_of m) → (xs : List Id)
     → AllPairs Below xs → ArePositionsOf (ids_of m) xs (positions_of m xs)
-positions_are_rising m rising [] rise = positions_none (ids_of m)
-positions_are_rising m rising (x ∷ xs) rise =
+ArePositionsOf-positions_of m rising [] rise = ArePositionsOf-nil (ids_of m)
+ArePositionsOf-positions_of m rising (x ∷ xs) rise =
     by (position_of m x) refl
-    (positions_are_rising m rising xs (AllPairs-tail Below x xs rise)) where
+    (ArePositionsOf-positions_of m rising xs (AllPairs-tail Below x xs rise)) where
       by : (o : Option ℕ) → position_of m x ≡ o → ArePositionsOf (ids_of m) xs (positions_of m xs)
           → ArePositionsOf (ids_of m) (x ∷ xs) (cons_option o (positions_of m xs))
       by None none rest = positions_skipped (ids_of m) x xs (positions_of m xs)
-          (no_position m x none)
+          (IsCommitted-no_position m x none)
           rest
       by (Some i) some rest =
           let position = position_of-instance m x i some in
@@ -90,10 +91,10 @@ positions_are_rising m rising (x ∷ xs) rise =
           rest
 
 -- each is committed or missing
-pub positions_count : (m : List Instance) (xs : List Id)
+pub length-positions_of : (m : List Instance) (xs : List Id)
     → length (positions_of m xs) + length (missing_of m xs) ≡ length xs
-positions_count m [] = refl
-positions_count m (x ∷ xs) = by (position_of m x) (positions_count m xs) where
+length-positions_of m [] = refl
+length-positions_of m (x ∷ xs) = by (position_of m x) (length-positions_of m xs) where
   by : (o : Option ℕ) → length (positions_of m xs) + length (missing_of m xs) ≡ length xs
       → length (cons_option o (positions_of m xs))
       + length (cond (not (is_some o)) (x ∷ missing_of m xs) (missing_of m xs)) ≡ length (x ∷ xs)
@@ -106,13 +107,14 @@ module _ (m : List Instance) (ids : List Id) (nodes : AreNodesOf m ids) where
   module _ (xs : List Id) (rise : AllPairs Below xs) (high : List ℕ)
       (are : ArePositionsOf ids (missing_of m xs) high) where
     low : ArePositionsOf (ids_of m) xs (positions_of m xs)
-    low = positions_are_rising m nodes.committed_rise xs rise
+    low = ArePositionsOf-positions_of m nodes.committed_rise xs rise
 
     apart : (i j : ℕ) → Contains (positions_of m xs) i → Contains high j → i < j
     apart i j h k =
         let p = (low.exact i).0 h in
         let q = (are.exact j).0 k in
-        let above = missing_above m ids nodes q.0 j (lacking_missing m xs q.0 q.1) q.2 in
+        let above =
+        slice_get-missing_above m ids nodes q.0 j (IsCommitted-not_missing m xs q.0 q.1) q.2 in
         let within = slice_get_within (ids_of m) i p.0 p.2 in
         omega (arith, length-map m (λ (e : Instance). e.id))
 
@@ -162,8 +164,8 @@ module _ (m : List Instance) (ids : List Id) (nodes : AreNodesOf m ids) where
         ]
 
     -- the positions of committed Ids, and then those of missing ones
-    pub row_joined : ArePositionsOf ids xs (positions_of m xs ++ high)
-    row_joined = record {
+    pub ArePositionsOf-append : ArePositionsOf ids xs (positions_of m xs ++ high)
+    ArePositionsOf-append = record {
       rising = AllPairs-append (λ i j. i < j) (positions_of m xs) high low.rising are.rising apart;
       exact = λ j. (there j, λ h. back j h.0 h.1 h.2);
     }
@@ -193,31 +195,33 @@ module _ (m : List Instance) (ids : List Id) (nodes : AreNodesOf m ids) where
           there.0,
           AllPairs-slice_get Below xs rise at.0 i there.0 x before.0 before.1
               (slice_get-get_or xs i (record { replica = 0; number = 0 }) l),
-          missing_above m ids nodes there.0 j missing there.2,
+          slice_get-missing_above m ids nodes there.0 j missing there.2,
           there.2,
         )
 
-    pub missing_skip : ¬ Contains (drop (length m) ids) x
+    pub ArePositionsOf-skip : ¬ Contains (drop (length m) ids) x
         → ArePositionsOf ids (take (i + 1) xs) row
-    missing_skip none = subst (λ (ys : List Id). ArePositionsOf ids ys row) (sym more) (record {
-      rising = are.rising;
-      exact = λ j. (
-        λ h. let there = (are.exact j).0 h in
-            (there.0, Contains-append_left (take i xs) (x ∷ []) there.0 there.1, there.2),
-        λ h. elim (Contains-push_cases (take i xs) x h.0 h.1) [
-          | inl old ↦ (are.exact j).1 (h.0, old, h.2)
-          | inr last ↦
-              let at : slice_get ids j ≡ Some x = h.2 ∙ ap Some (sym last) in
-              absurd (none (Contains-slice_get (drop (length m) ids) (j - length m) x
-              (slice_get-drop ids (length m) j x (missing_above m ids nodes x j lacks_x at)
-              at)))
-        ],
-      );
-    })
+    ArePositionsOf-skip none =
+        subst (λ (ys : List Id). ArePositionsOf ids ys row) (sym more) (record {
+          rising = are.rising;
+          exact = λ j. (
+            λ h. let there = (are.exact j).0 h in
+                (there.0, Contains-append_left (take i xs) (x ∷ []) there.0 there.1, there.2),
+            λ h. elim (Contains-push_cases (take i xs) x h.0 h.1) [
+              | inl old ↦ (are.exact j).1 (h.0, old, h.2)
+              | inr last ↦
+                  let at : slice_get ids j ≡ Some x = h.2 ∙ ap Some (sym last) in
+                  absurd (none (Contains-slice_get (drop (length m) ids) (j - length m) x
+                  (slice_get-drop ids (length m) j x
+                  (slice_get-missing_above m ids nodes x j lacks_x at)
+                  at)))
+            ],
+          );
+        })
 
-    pub missing_more : (index : ℕ) → slice_get (drop (length m) ids) index ≡ Some x
+    pub ArePositionsOf-push : (index : ℕ) → slice_get (drop (length m) ids) index ≡ Some x
         → ArePositionsOf ids (take (i + 1) xs) (row ++ (length m + index) ∷ [])
-    missing_more index at =
+    ArePositionsOf-push index at =
         subst (λ (ys : List Id). ArePositionsOf ids ys (row ++ (length m + index) ∷ [])) (sym more)
         (record {
           rising = AllPairs-append (λ a b. a < b) row ((length m + index) ∷ []) are.rising
@@ -241,15 +245,15 @@ module _ (m : List Instance) (ids : List Id) (nodes : AreNodesOf m ids) where
 
           one : (j : ℕ) → slice_get ids j ≡ Some x → length m + index ≡ j
           one j there =
-              let past = missing_above m ids nodes x j lacks_x there in
-              let same = rising_position_is_unique (drop (length m) ids) nodes.missing.rising index
+              let past = slice_get-missing_above m ids nodes x j lacks_x there in
+              let same = slice_get-rising_is_unique (drop (length m) ids) nodes.missing.rising index
               (j - length m) x at (slice_get-drop ids (length m) j x past there) in
               omega arith
 
           below : (a b : ℕ) → Contains row a → Contains ((length m + index) ∷ []) b → a < b
           below a b h k =
               let old = above a h in
-              let lower = rising_positions_back (drop (length m) ids) nodes.missing.rising
+              let lower = IsRising-positions_back (drop (length m) ids) nodes.missing.rising
               (a - length m) index old.0 x (slice_get-drop ids (length m) a old.0 old.2 old.3) at
               old.1 in
               elim (Contains-cons_cases (length m + index) [] b k) [

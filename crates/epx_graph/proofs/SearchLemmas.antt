@@ -9,10 +9,10 @@ use Rattle.epx_types.proofs.Common.{nil_from_length, take_all, Contains-append_l
 use Rattle.epx_types.proofs.Common.{Contains-append_right, Contains-append_cases, Contains-push}
 use Rattle.epx_types.proofs.Common.{Contains-push_cases, count_by-le-length, Contains-nil}
 use Rattle.epx_types.proofs.Common.{Contains-head, Contains-cons_cases, Contains-flat_map}
-use Rattle.epx_types.proofs.Common.{Contains-from_flat_map, value_of_some, none_from_test}
+use Rattle.epx_types.proofs.Common.{Contains-from_flat_map, is_some-true, is_some-false}
 use Rattle.std.proofs.lemmas.Grind.{flat_map-append}
 use Rattle.std.proofs.lemmas.List.Sums.{sum_by-set}
-use Rattle.epx_rows.specs.Rows.{row_of}
+use Rattle.epx_rows.specs.between.Rows.{row_of}
 use Rattle.epx_graph.specs.inner.Searches.{LeadsIn, node_mark, IsMarked, SearchView, left_to_do}
 use Rattle.epx_graph.specs.inner.Searches.{IsVisit, IsNewMark, IsLevelSearch, AreClosed}
 use Rattle.epx_graph.specs.inner.Searches.{IsSearchFrom, AreFirstMarks}
@@ -29,9 +29,9 @@ none_before old new kept k none = by (node_mark old k) refl where
   by (Some m) e = let had = kept k m e in absurd (cc (had, none))
 
 -- a node is marked, if it cannot be without a mark
-pub marked_if_not_none : (marks : List (Option ℕ)) (k : ℕ) → ¬ (node_mark marks k ≡ None)
+pub IsMarked-if_not_none : (marks : List (Option ℕ)) (k : ℕ) → ¬ (node_mark marks k ≡ None)
     → IsMarked marks k
-marked_if_not_none marks k some = by (node_mark marks k) refl where
+IsMarked-if_not_none marks k some = by (node_mark marks k) refl where
   by : (o : Option ℕ) → node_mark marks k ≡ o → IsMarked marks k
   by None e = absurd (some e)
   by (Some m) e = (m, e)
@@ -136,39 +136,39 @@ module _ (targets : List ℕ) (mark : ℕ) (old new : SearchView) (x : ℕ)
 
 module _ (targets : List ℕ) (i mark : ℕ) (old new : SearchView) (l : i < length targets)
     (is : IsVisit (take i targets) mark old new) where
-  pub visit_skip : is_some (node_mark new.marks (get_or targets i 0)) ≡ true
+  pub IsVisit-skip : is_some (node_mark new.marks (get_or targets i 0)) ≡ true
       → IsVisit (take (i + 1) targets) mark old new
-  visit_skip some =
+  IsVisit-skip some =
       subst (λ (xs : List ℕ). IsVisit xs mark old new) (sym (take_more targets i 0 l))
       (visits_skip (take i targets) mark old new (get_or targets i 0) is
-      (value_of_some (node_mark new.marks (get_or targets i 0)) some))
+      (is_some-true (node_mark new.marks (get_or targets i 0)) some))
 
-  pub visit_mark : is_some (node_mark new.marks (get_or targets i 0)) ≡ false
+  pub IsVisit-mark : is_some (node_mark new.marks (get_or targets i 0)) ≡ false
       → get_or targets i 0 < length new.marks → IsVisit (take (i + 1) targets) mark old
       (record {
         marks = set new.marks (get_or targets i 0) (Some mark);
         level = new.level ++ get_or targets i 0 ∷ [];
       })
-  visit_mark none within =
+  IsVisit-mark none within =
       let after : SearchView = record {
         marks = set new.marks (get_or targets i 0) (Some mark);
         level = new.level ++ get_or targets i 0 ∷ [];
       } in
       subst (λ (xs : List ℕ). IsVisit xs mark old after) (sym (take_more targets i 0 l))
       (visits_mark (take i targets) mark old new (get_or targets i 0) is
-      (none_from_test (node_mark new.marks (get_or targets i 0)) none) within)
+      (is_some-false (node_mark new.marks (get_or targets i 0)) none) within)
 
 -- ---- the targets of one more node
 
-pub flat_map_next : {X Y : Type 0} (f : X → List Y) (xs : List X) (n : ℕ) (d : X)
+pub flat_map-take_next : {X Y : Type 0} (f : X → List Y) (xs : List X) (n : ℕ) (d : X)
     → n < length xs → flat_map f (take (n + 1) xs) ≡ flat_map f (take n xs) ++ f (get_or xs n d)
-flat_map_next {X} f xs n d l =
+flat_map-take_next {X} f xs n d l =
     ap (flat_map f) (take_more xs n d l) ∙ flat_map-append f (take n xs) (get_or xs n d ∷ [])
     ∙ ap (λ zs. flat_map f (take n xs) ++ zs) (append-nil (f (get_or xs n d)))
 
-pub visits_append : (xs ys : List ℕ) (mark : ℕ) (a b c : SearchView) → IsVisit xs mark a b
+pub IsVisit-append : (xs ys : List ℕ) (mark : ℕ) (a b c : SearchView) → IsVisit xs mark a b
     → IsVisit ys mark b c → IsVisit (xs ++ ys) mark a c
-visits_append xs ys mark a b c p q = record {
+IsVisit-append xs ys mark a b c p q = record {
   len = q.len ∙ p.len;
   kept = λ k m h. q.kept k m (p.kept k m h);
   marked = λ k m h. elim (q.marked k m h) [
@@ -199,13 +199,15 @@ visits_append xs ys mark a b c p q = record {
   same_work = q.same_work ∙ p.same_work;
 }
 
-pub visits_next : (rows : List (List ℕ)) (level : List ℕ) (i mark : ℕ) (a b c : SearchView)
+pub IsVisit-take : (rows : List (List ℕ)) (level : List ℕ) (i mark : ℕ) (a b c : SearchView)
     → i < length level → IsVisit (flat_map (row_of rows) (take i level)) mark a b
     → IsVisit (row_of rows (get_or level i 0)) mark b c
     → IsVisit (flat_map (row_of rows) (take (i + 1) level)) mark a c
-visits_next rows level i mark a b c l p q =
-    subst (λ (xs : List ℕ). IsVisit xs mark a c) (sym (flat_map_next (row_of rows) level i 0 l))
-    (visits_append (flat_map (row_of rows) (take i level)) (row_of rows (get_or level i 0)) mark a b
+IsVisit-take rows level i mark a b c l p q =
+    subst (λ (xs : List ℕ). IsVisit xs mark a c)
+    (sym (flat_map-take_next (row_of rows) level i 0 l))
+    (IsVisit-append (flat_map (row_of rows) (take i level)) (row_of rows (get_or level i 0)) mark a
+    b
     c p q)
 
 -- ---- from level to level
@@ -213,10 +215,10 @@ visits_next rows level i mark a b c l p q =
 module _ (rows : List (List ℕ)) (start : ℕ) (mark : ℕ → ℕ) (before : List (Option ℕ))
     (are : AreClosed rows before) where
   -- the start is the first level
-  pub search_first : (s : SearchView)
+  pub IsLevelSearch-start : (s : SearchView)
       → IsVisit (start ∷ []) (mark 0) (record { marks = before; level = [] }) s
       → IsLevelSearch rows start mark before 0 s
-  search_first s visits = record {
+  IsLevelSearch-start s visits = record {
     len = visits.len;
     kept = visits.kept;
     new = λ k m h. elim (visits.marked k m h) [
@@ -297,8 +299,8 @@ module _ (rows : List (List ℕ)) (start : ℕ) (mark : ℕ → ℕ) (before : L
       ];
     }
 
-    pub search_next : IsLevelSearch rows start mark before (n + 1) new
-    search_next = record {
+    pub IsLevelSearch-next : IsLevelSearch rows start mark before (n + 1) new
+    IsLevelSearch-next = record {
       len = visits.len ∙ is.len;
       kept = λ k m h. visits.kept k m (is.kept k m h);
       new = λ k m h. elim (visits.marked k m h) [
@@ -318,34 +320,35 @@ module _ (rows : List (List ℕ)) (start : ℕ) (mark : ℕ → ℕ) (before : L
     }
 
   -- after the last level
-  pub search_end : (n : ℕ) (s : SearchView) → IsLevelSearch rows start mark before n s
+  pub IsSearchFrom-at_end : (n : ℕ) (s : SearchView) → IsLevelSearch rows start mark before n s
       → s.level ≡ [] → IsSearchFrom rows start mark before s.marks
-  search_end n s is none = record { len = is.len; kept = is.kept; new = is.new; all = all } where
-    all : (k i : ℕ) → LeadsIn (row_of rows) start i k → IsMarked s.marks k
-    all k zero there = is.found k zero (omega arith) there
-    all k (suc i) there =
-        elim (is.closed there.0 k (all there.0 i there.1) there.2) [
-          | inl on ↦ absurd (Contains-nil there.0
-              (subst (λ (l : List ℕ). Contains l there.0) none on))
-          | inr has ↦ has
-        ]
+  IsSearchFrom-at_end n s is none =
+      record { len = is.len; kept = is.kept; new = is.new; all = all } where
+        all : (k i : ℕ) → LeadsIn (row_of rows) start i k → IsMarked s.marks k
+        all k zero there = is.found k zero (omega arith) there
+        all k (suc i) there =
+            elim (is.closed there.0 k (all there.0 i there.1) there.2) [
+              | inl on ↦ absurd (Contains-nil there.0
+                  (subst (λ (l : List ℕ). Contains l there.0) none on))
+              | inr has ↦ has
+            ]
 
 -- ---- from start to start
 
 module _ (rows : List (List ℕ)) (mark : ℕ → ℕ → ℕ) (first count : ℕ) where
   module _ (start : ℕ) (old : List (Option ℕ))
       (are : AreFirstMarks rows mark first start count old) where
-    pub marks_closed : AreClosed rows old
-    marks_closed k j has edge =
-        marked_if_not_none old j
+    pub AreClosed-marks : AreClosed rows old
+    AreClosed-marks k j has edge =
+        IsMarked-if_not_none old j
         (λ none.
         let by = are.marked k has.0 has.1 in
         are.unmarked j by.start (suc by.steps) none by.after by.before (k, by.leads, edge))
 
-    pub marks_more : first ≤ start → (new : List (Option ℕ))
+    pub AreFirstMarks-step : first ≤ start → (new : List (Option ℕ))
         → IsSearchFrom rows start (mark start) old new
         → AreFirstMarks rows mark first (start + 1) count new
-    marks_more l new is = record {
+    AreFirstMarks-step l new is = record {
       nodes = is.len ∙ are.nodes;
       marked = λ k m h. elim (is.new k m h) [
         | inl was ↦
@@ -382,9 +385,9 @@ module _ (rows : List (List ℕ)) (mark : ℕ → ℕ → ℕ) (first count : �
     }
 
 -- what a slice of a whole vector was changed to is what the vector has
-pub written_back : (xs ys : List (Option ℕ)) (n : ℕ) → length xs ≡ length ys → n ≡ length ys
+pub take-written_marks : (xs ys : List (Option ℕ)) (n : ℕ) → length xs ≡ length ys → n ≡ length ys
     → take n (xs ++ drop (length xs) ys) ≡ xs
-written_back xs ys n same all =
+take-written_marks xs ys n same all =
     let none : drop (length xs) ys ≡ [] =
     nil_from_length (drop (length xs) ys) (omega (arith, length-drop (length xs) ys)) in
     ap (λ zs. take n (xs ++ zs)) none ∙ ap (take n) (append-nil xs)

@@ -9,28 +9,30 @@ use Rattle.epx_types.proofs.Common.{UpTo-antisymm}
 use Rattle.epx_types.specs.declared.id.Id.{Id}
 use Rattle.epx_graph.specs.Graphs.{DependencyGraph, edges_of, IsGraph}
 use Rattle.epx_graph.specs.GraphOf.{IsGraphOf}
-use Rattle.epx_graph.specs.NodePaths.{NodeReaches}
+use Rattle.epx_graph.specs.between.NodePaths.{NodeReaches}
 use Rattle.epx_graph.specs.inner.LeastMissing.{AreMarksOf}
 use Rattle.epx_graph.specs.inner.Searches.{node_mark}
 use Rattle.epx_graph.specs.inner.Waiters.{IsWaiter, AreWaiters}
-use Rattle.epx_graph.proofs.GraphNodeLemmas.{committed_order, missing_order, node_id}
-use Rattle.epx_graph.proofs.GraphNodeLemmas.{reached_within}
-use Rattle.epx_graph.proofs.MapPathLemmas.{node_committed, node_of_committed, node_reaches}
-use Rattle.epx_graph.proofs.MapPathLemmas.{reached_node, missing_number, missing_id}
+use Rattle.epx_graph.proofs.GraphNodeLemmas.{Below-committed, Below-missing, slice_get-id_of_node}
+use Rattle.epx_graph.proofs.GraphNodeLemmas.{IsNodePath-within}
+use Rattle.epx_graph.proofs.MapPathLemmas.{IsCommitted-iff_node, slice_get-if_committed}
+use Rattle.epx_graph.proofs.MapPathLemmas.{NodeReaches-iff}
+use Rattle.epx_graph.proofs.MapPathLemmas.{NodeReaches-exists, committed-if_missing}
+use Rattle.epx_graph.proofs.MapPathLemmas.{IsCommitted-not_past}
 
 -- ---- node by node
 
-pub waiters_none : (g : DependencyGraph) (marks : List (Option ℕ)) → AreWaiters g marks 0 []
-waiters_none g marks = record {
+pub AreWaiters-nil : (g : DependencyGraph) (marks : List (Option ℕ)) → AreWaiters g marks 0 []
+AreWaiters-nil g marks = record {
   from = λ w h. absurd (Contains-nil w h);
   whole = λ k w l h. absurd (omega arith);
   rising = tt;
 }
 
 -- a node without a mark
-pub waiters_skip : (g : DependencyGraph) (marks : List (Option ℕ)) (n : ℕ) (ws : List Waiting)
+pub AreWaiters-skip : (g : DependencyGraph) (marks : List (Option ℕ)) (n : ℕ) (ws : List Waiting)
     → node_mark marks n ≡ None → AreWaiters g marks n ws → AreWaiters g marks (n + 1) ws
-waiters_skip g marks n ws none is = record {
+AreWaiters-skip g marks n ws none is = record {
   from = λ w h. let at = is.from w h in (at.0, omega (arith, at.1), at.2);
   whole = λ k w l h. elim (cases_lt k n) [
     | inl lower ↦ is.whole k w lower h
@@ -57,10 +59,10 @@ waiter_is_unique g marks k n v w same p q =
     λ i. record { id = id i; missing = missing i }
 
 -- a marked node
-pub waiters_more : (g : DependencyGraph) (graph : IsGraph g) (marks : List (Option ℕ)) (n : ℕ)
+pub AreWaiters-push : (g : DependencyGraph) (graph : IsGraph g) (marks : List (Option ℕ)) (n : ℕ)
     (ws : List Waiting) (w : Waiting) → n < g.committed → IsWaiter g marks n w
     → AreWaiters g marks n ws → AreWaiters g marks (n + 1) (ws ++ w ∷ [])
-waiters_more g graph marks n ws w within waits is = record {
+AreWaiters-push g graph marks n ws w within waits is = record {
   from = λ v h. elim (Contains-push_cases ws w v h) [
     | inl old ↦ let at = is.from v old in (at.0, omega (arith, at.1), at.2)
     | inr last ↦ (n, omega arith, subst (IsWaiter g marks n) last waits)
@@ -81,7 +83,7 @@ waiters_more g graph marks n ws w within waits is = record {
       let at = is.from from.0 from.1 in
       let lower : at.0 < n = at.1 in
       subst (λ (y : Id). Below y w.id) from.2
-      ((committed_order g graph at.0 n from.0.id w.id at.2.id waits.id (omega arith) within).0
+      ((Below-committed g graph at.0 n from.0.id w.id at.2.id waits.id (omega arith) within).0
       lower)
 
 -- ---- the waiting list
@@ -93,7 +95,7 @@ module _ (m : List Instance) (g : DependencyGraph) (is : IsGraphOf m g) (marks :
       → g.committed ≤ s → s ≤ j → UpTo x y
   up_to s j x y p q past l =
       elim (cases_lt s j) [
-        | inl lower ↦ inr ((missing_order g is.graph s j x y p q past (omega arith)).0 lower)
+        | inl lower ↦ inr ((Below-missing g is.graph s j x y p q past (omega arith)).0 lower)
         | inr not_lower ↦
             let same : s ≡ j = omega arith in
             let one : Some x ≡ Some y = sym p ∙ ap (slice_get g.ids) same ∙ q in
@@ -105,21 +107,21 @@ module _ (m : List Instance) (g : DependencyGraph) (is : IsGraphOf m g) (marks :
   waiter_waits k w l h =
       let found = are.marked k h.mark h.marked in
       record {
-        committed = (node_committed m g is k w.id h.id).0 l;
-        reached = (node_reaches m g is k h.mark w.id w.missing h.id h.missing).0 found.reached;
-        missing = missing_id m g is h.mark w.missing h.missing found.missing;
+        committed = (IsCommitted-iff_node m g is k w.id h.id).0 l;
+        reached = (NodeReaches-iff m g is k h.mark w.id w.missing h.id h.missing).0 found.reached;
+        missing = IsCommitted-not_past m g is h.mark w.missing h.missing found.missing;
         least = λ z there lacks.
-            let j = reached_node m g is k w.id z h.id there in
+            let j = NodeReaches-exists m g is k w.id z h.id there in
             up_to h.mark j.0 w.missing z h.missing j.1 found.missing
-            (found.least j.0 (missing_number m g is j.0 z j.1 lacks) j.2);
+            (found.least j.0 (committed-if_missing m g is j.0 z j.1 lacks) j.2);
       }
 
   waits_marked : (x y : Id) → WaitsFor m x y
       → (k : ℕ) × (k < g.committed) × IsWaiter g marks k (record { id = x; missing = y })
   waits_marked x y waits =
-      let k = node_of_committed m g is x waits.committed in
-      let j = reached_node m g is k.0 x y k.2 waits.reached in
-      let past = missing_number m g is j.0 y j.1 waits.missing in
+      let k = slice_get-if_committed m g is x waits.committed in
+      let j = NodeReaches-exists m g is k.0 x y k.2 waits.reached in
+      let past = committed-if_missing m g is j.0 y j.1 waits.missing in
       by k.0 k.1 k.2 j.0 j.1 j.2 past (node_mark marks k.0) refl
     where
       by : (k : ℕ) → k < g.committed → slice_get g.ids k ≡ Some x → (j : ℕ)
@@ -130,12 +132,13 @@ module _ (m : List Instance) (g : DependencyGraph) (is : IsGraphOf m g) (marks :
           absurd (are.unmarked k j l none past (slice_get_within g.ids j y to) there)
       by k l at j to there past (Some s) marked =
           let found = are.marked k s marked in
-          let z = node_id g is.graph s
-          (reached_within g is.graph k found.reached.0 s
+          let z = slice_get-id_of_node g is.graph s
+          (IsNodePath-within g is.graph k found.reached.0 s
           (omega (arith, is.graph.committed_nodes)) found.reached.1) in
-          let reached : Reaches m x z.0 = (node_reaches m g is k s x z.0 at z.1).0 found.reached in
+          let reached : Reaches m x z.0 =
+          (NodeReaches-iff m g is k s x z.0 at z.1).0 found.reached in
           let low : UpTo y z.0 = waits.least z.0 reached
-          (missing_id m g is s z.0 z.1 found.missing) in
+          (IsCommitted-not_past m g is s z.0 z.1 found.missing) in
           let high : UpTo z.0 y = up_to s j z.0 y z.1 to found.missing
           (found.least j past there) in (
             k,
@@ -148,8 +151,9 @@ module _ (m : List Instance) (g : DependencyGraph) (is : IsGraphOf m g) (marks :
             },
           )
 
-  pub waiting_list : (ws : List Waiting) → AreWaiters g marks g.committed ws → IsWaitingList m ws
-  waiting_list ws waiters = record {
+  pub IsWaitingList-from_waiters : (ws : List Waiting) → AreWaiters g marks g.committed ws
+      → IsWaitingList m ws
+  IsWaitingList-from_waiters ws waiters = record {
     waits = λ w h. let at = waiters.from w h in waiter_waits at.0 w at.1 at.2;
     whole = λ x y waits. let at = waits_marked x y waits in
         waiters.whole at.0 (record { id = x; missing = y }) at.1 at.2;

@@ -1,6 +1,5 @@
 pub mod Graphs
 pub mod GraphOf
-pub mod NodePaths
-pub mod NodeSteps
 pub mod GraphLaws
+pub mod between
 pub mod inner

@@ -75,7 +75,9 @@ fn numbered_rows(
     ensures { IfOk result
         (λ rows. AreRowsOf (rest_of left.now) ids.now rows (length (rest_of left.now))) }
 {
-    let mut rows = gathered.rows.room(alloc, gathered.missing.len())?;
+    let mut rows = gathered
+        .rows
+        .empty_with_room(alloc, gathered.missing.len())?;
     let mut missing = gathered.missing.as_slice();
     let mut row = Vec::new(alloc);
     for index in 0..left.len() {

@@ -135,7 +135,7 @@ fn gather_piece(
         gathered.rows gathered.missing.items) }
 {
     let (start, end) = pieces.range(piece);
-    let mut rows = pieces.room(alloc, piece)?;
+    let mut rows = pieces.rows_for_piece(alloc, piece)?;
     let mut missing = Vec::new(alloc);
     for index in start..end {
         begin_run(left, index, end, &mut missing)?;

@@ -1,6 +1,6 @@
 //! The distances of the nodes of a graph from a node, and to it.
 ghost use Rattle.std.specs.Prelude.{◌<◌, length, IfOk};
-ghost use Rattle.epx_graph.specs.NodeSteps.{AreDistancesFrom, AreDistancesTo};
+ghost use Rattle.epx_graph.specs.between.NodeSteps.{AreDistancesFrom, AreDistancesTo};
 
 use crate::graph::Graph;
 use crate::search::{MarkKind, search};

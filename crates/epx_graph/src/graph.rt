@@ -2,7 +2,7 @@
 ghost use Rattle.std.specs.Prelude.{◌≡◌, ◌==◌, ◌↔◌, ℕ, ◌<◌, length, All, Contains, IfOk, IsTrue};
 ghost use Rattle.std.specs.Prelude.{MatchOption, Some, slice_get};
 ghost use Rattle.epx_graph.specs.Graphs.{edges_of, graph_over, missing_ids, IsGraph};
-ghost use Rattle.epx_rows.specs.Rows.{row_of, AreTransposed};
+ghost use Rattle.epx_rows.specs.between.Rows.{row_of, AreTransposed};
 
 use epx_rows::Rows;
 use epx_types::id_list::find_id;

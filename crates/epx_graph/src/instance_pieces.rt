@@ -61,7 +61,7 @@ impl InstancePieces {
 
     /// No rows, with room for those of a piece. The first piece has room for all rows, so that it
     /// does not move when the others are appended.
-    pub(crate) fn room(&self, alloc: Global, piece: usize) -> Result<Rows, Memory>
+    pub(crate) fn rows_for_piece(&self, alloc: Global, piece: usize) -> Result<Rows, Memory>
         ensures { IfOk result (λ rows. rows ≡ []) }
     {
         let rows = if piece == 0 {

@@ -56,7 +56,7 @@ impl<'a> Model for Remainder<'a> {
 }
 
 /// Whether the Id at this position of the done ones is the given one.
-fn is_at(done: &[Id], index: usize, id: Id) -> bool
+fn has_id_at(done: &[Id], index: usize, id: Id) -> bool
     ensures { IsTrue result → Contains done.now id }
 {
     index < done.len() && done[index] == id
@@ -67,7 +67,7 @@ fn is_at_hint(done: &[Id], hints: &PositionHints, id: Id) -> bool
     ensures { IsTrue result → Contains done.now id }
 {
     match hints.hint(id) {
-        Some(index) => is_at(done, index, id),
+        Some(index) => has_id_at(done, index, id),
         None => false,
     }
 }
@@ -95,7 +95,7 @@ fn is_done_near(done: &[Id], index: usize, id: Id) -> bool
     requires { IsRising done.now }
     ensures { IsTrue result ↔ Contains done.now id }
 {
-    if is_at(done, index, id) {
+    if has_id_at(done, index, id) {
         return true;
     }
     !is_absent(done, index, id) && find_id(done, id).is_some()

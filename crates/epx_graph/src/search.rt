@@ -1,7 +1,7 @@
 //! The search of a graph level by level: first the nodes one edge away from a start, then those two
 //! edges away, and so on.
 ghost use Rattle.std.specs.Prelude.{◌≡◌, ◌<◌, ◌≤◌, [], length, flat_map, All, IfOk, OnOk};
-ghost use Rattle.epx_rows.specs.Rows.{row_of};
+ghost use Rattle.epx_rows.specs.between.Rows.{row_of};
 ghost use Rattle.epx_graph.specs.inner.Searches.{AreClosed, AreFirstMarks, IsSearchFrom, IsVisit};
 ghost use Rattle.epx_graph.specs.inner.Searches.{mark_by};
 

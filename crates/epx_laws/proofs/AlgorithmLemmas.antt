@@ -6,8 +6,8 @@ use Rattle.epx_types.proofs.Common.{InOneComponent, Before, SequenceBefore, IsLa
 use Rattle.epx_types.proofs.Common.{IsRising-same, IsReady-reached, AllPairs-from_slice_get}
 use Rattle.epx_types.proofs.Common.{AllPairs-slice_get, AllPairs-append, AllPairs-head}
 use Rattle.epx_types.proofs.Common.{AllPairs-tail, Contains-slice_get, Contains-from_flat_map}
-use Rattle.epx_types.proofs.Common.{Contains-head, Contains-cons, below_asymm, Before-cases}
-use Rattle.epx_types.proofs.Common.{sequence_cmp_total}
+use Rattle.epx_types.proofs.Common.{Contains-head, Contains-cons, is_lt-asymm, Before-cases}
+use Rattle.epx_types.proofs.Common.{sequence_cmp-IsTotalOrder}
 use Rattle.epx_types.specs.declared.id.Id.{Id}
 use Rattle.epx_laws.specs.AlgorithmLaws.{all_members, AreSortedComponents}
 
@@ -21,7 +21,7 @@ SequenceBefore-not_both m rising x y by back =
     (back.first_is ∙ sym by.second_is) in
     let turned = subst₂ (λ (d e : Instance).
     is_lt (ordering_then (nat_cmp d.seq e.seq) (id_cmp y x)) ≡ true) second first back.lower in
-    below_asymm sequence_cmp_total (by.first.seq, x) (by.second.seq, y) by.lower turned
+    is_lt-asymm sequence_cmp-IsTotalOrder (by.first.seq, x) (by.second.seq, y) by.lower turned
 
 -- and none is before itself
 SequenceBefore-differ : (m : List Instance) → IsRising (ids_of m) → (x y : Id)

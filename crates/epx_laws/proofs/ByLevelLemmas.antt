@@ -5,14 +5,15 @@ use Rattle.std.specs.List.{range_with_len}
 use Rattle.epx_types.proofs.Common.{cases_lt, flat_map_more, Before, AreLevels, level_count}
 use Rattle.epx_types.proofs.Common.{level_positions, IsRearrangement, by_level, levels-climb}
 use Rattle.epx_types.proofs.Common.{Contains-from_by_level, Contains-by_level}
-use Rattle.epx_types.proofs.Common.{Contains-level_positions, by_level-distinct, level_below_count}
+use Rattle.epx_types.proofs.Common.{Contains-level_positions, by_level-distinct}
+use Rattle.epx_types.proofs.Common.{level_count-above_each}
 use Rattle.epx_types.proofs.Common.{Before-across, Before-append_left}
 use Rattle.epx_types.specs.declared.op.Op.{Op}
 use Rattle.epx_laws.specs.LevelLaws.{AreByLevel}
 
-pub by_level_rearranges : (commands : List (List Op)) (levels positions : List ℕ)
+pub IsRearrangement-by_level : (commands : List (List Op)) (levels positions : List ℕ)
     → AreLevels commands levels → AreByLevel levels positions → IsRearrangement commands positions
-by_level_rearranges commands levels positions are by = record {
+IsRearrangement-by_level commands levels positions are by = record {
   once = by.once;
   only = λ i h. omega (arith, (by.whole i).0 h, are.whole);
   whole = λ i l. (by.whole i).1 (omega (arith, l, are.whole));
@@ -56,13 +57,13 @@ module _ (levels : List ℕ) where
     once = by_level-distinct levels (level_count levels);
     whole = λ i. (
       λ h. (Contains-from_by_level levels (level_count levels) i h).0,
-      λ l. Contains-by_level levels (level_count levels) i l (level_below_count levels i l),
+      λ l. Contains-by_level levels (level_count levels) i l (level_count-above_each levels i l),
     );
     lower_first = λ i j in_i in_j lower. lower_first (level_count levels) i j in_i in_j
-        (level_below_count levels j in_j) lower;
+        (level_count-above_each levels j in_j) lower;
   }
 
-  pub in_turn_by_level : AreByLevel levels
+  pub AreByLevel-in_turn : AreByLevel levels
       (flat_map (level_positions levels) (range_with_len 0 (level_count levels)))
-  in_turn_by_level =
+  AreByLevel-in_turn =
       subst (AreByLevel levels) (sym (in_turn levels (level_count levels))) by_level_in_turn

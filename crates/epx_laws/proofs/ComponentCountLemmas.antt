@@ -2,7 +2,8 @@
 use Rattle.std.proofs.Common.{◌≡◌, ◌≢◌, Bool, true, List, map, filter, length, Contains, AllPairs}
 use Rattle.std.proofs.Common.{is_eq, sym, ap, ◌∙◌, subst}
 use Rattle.epx_types.proofs.Common.{Equal-is, length-map, AllPairs-filter, id_cmp, Instance, Ranked}
-use Rattle.epx_types.proofs.Common.{ranked_ids, IsExecutionOrder, component_count, id_cmp_total}
+use Rattle.epx_types.proofs.Common.{ranked_ids, IsExecutionOrder, component_count}
+use Rattle.epx_types.proofs.Common.{id_cmp-IsTotalOrder}
 use Rattle.epx_types.proofs.Common.{id_cmp-IsAntisymmetric, Contains-map, Contains-from_map}
 use Rattle.epx_types.proofs.Common.{Contains-filter, Contains-from_filter, passes-from_filter}
 use Rattle.epx_types.proofs.Common.{slice_get-from_map, AllPairs-slice_get, AllPairs-from_slice_get}
@@ -62,7 +63,7 @@ module _ (m : List Instance) (order : List Ranked) (h : IsExecutionOrder m order
   Contains-leaders_of r in_order =
       let l = IsExecutionOrder-leaders m order h r in_order in
       let passes : leads l.0 ≡ true = ap (λ x. is_eq (id_cmp l.0.id x)) l.3
-      ∙ ap is_eq (tied_itself id_cmp_total l.0.id) in
+      ∙ ap is_eq (tied_itself id_cmp-IsTotalOrder l.0.id) in
       subst (Contains (map (λ r. r.id) (filter leads order))) l.2
       (Contains-map (λ (r : Ranked). r.id) (filter leads order) l.0
       (Contains-filter leads order l.0 l.1 passes))

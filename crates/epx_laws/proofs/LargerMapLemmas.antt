@@ -3,7 +3,7 @@ use Rattle.std.proofs.Common.{◌≡◌, ◌∙◌, List, Contains, sym, ap, sub
 use Rattle.epx_types.proofs.Common.{IsRising, Instance, ids_of, instance_of, ops_or_empty}
 use Rattle.epx_types.proofs.Common.{commands_in, IsCommitted, DependsOn, Reaches, IsReady}
 use Rattle.epx_types.proofs.Common.{SequenceBefore, IsLawfulFor, IsLawful, IsRising-same}
-use Rattle.epx_types.proofs.Common.{instance_of_iff, instance_of-found, instance_of-finds}
+use Rattle.epx_types.proofs.Common.{instance_of-iff_contains, instance_of-found, instance_of-finds}
 use Rattle.epx_types.proofs.Common.{IsCommitted-from_Contains, Contains-from_map, map-agree}
 use Rattle.epx_types.proofs.Common.{Reaches-refl, Reaches-trans, Reaches-dependency, Reaches-passes}
 use Rattle.epx_types.specs.declared.id.Id.{Id}
@@ -71,7 +71,7 @@ module _ (m more : List Instance) (rising : IsRising (ids_of more))
       let known = instance_of-found m e.0.id found.0 found.1 in
       ap (λ y. ops_or_empty (instance_of m y)) (sym e.2)
       ∙ ap ops_or_empty
-      (found.1 ∙ sym ((instance_of_iff more rising x found.0).1
+      (found.1 ∙ sym ((instance_of-iff_contains more rising x found.0).1
       (within found.0 known.0, known.1 ∙ e.2)))
 
   -- committed instances have the same commands in both
@@ -80,8 +80,8 @@ module _ (m more : List Instance) (rising : IsRising (ids_of more))
   commands-in_more ids committed = map-agree (λ x. ops_or_empty (instance_of m x))
       (λ x. ops_or_empty (instance_of more x)) ids (λ x h. same_ops x (committed x h))
 
-  pub lawful_in_more : (ids : List Id) → IsLawful m ids → IsLawfulFor more (IsReady m) ids
-  lawful_in_more ids lawful = record {
+  pub IsLawfulFor-in_more : (ids : List Id) → IsLawful m ids → IsLawfulFor more (IsReady m) ids
+  IsLawfulFor-in_more ids lawful = record {
     once = lawful.once;
     only = lawful.only;
     whole = lawful.whole;

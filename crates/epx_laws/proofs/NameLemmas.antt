@@ -3,9 +3,9 @@ use Rattle.std.proofs.Common.{◌≡◌, ◌≢◌, ◌⊎◌, ℕ, ℤ, List, [
 use Rattle.std.proofs.Common.{subst, inl, inr}
 use Rattle.std.specs.Ordering.{int_eq}
 use Rattle.std.proofs.lemmas.Bool.Decides.{Decides-int_eq}
-use Rattle.epx_types.proofs.Common.{All-contains, key_cases, AllPairs-first, AllPairs-tail}
+use Rattle.epx_types.proofs.Common.{All-contains, key_cmp-cases, AllPairs-first, AllPairs-tail}
 use Rattle.epx_types.proofs.Common.{Contains-nil, Contains-cons_cases}
-use Rattle.epx_types.proofs.commands.EqualityLemmas.{decided}
+use Rattle.epx_types.proofs.commands.EqualityLemmas.{Decides-cases}
 use Rattle.epx_laws.specs.Renaming.{IsInjective, Renaming}
 use Rattle.epx_laws.specs.RenamingLaws.{AreOneToOne, GivesNames}
 
@@ -101,11 +101,11 @@ module _ {X : Type 0} (equal : (x y : X) → (x ≡ y) ⊎ (x ≢ y)) where
       ]
 
 keys_equal : (j k : List ℕ) → (j ≡ k) ⊎ (j ≢ k)
-keys_equal j k = elim (key_cases j k) [ inl same ↦ inl same.1 | inr other ↦ inr other.1 ]
+keys_equal j k = elim (key_cmp-cases j k) [ inl same ↦ inl same.1 | inr other ↦ inr other.1 ]
 
 values_equal : (v w : ℤ) → (v ≡ w) ⊎ (v ≢ w)
 values_equal v w =
-    elim (decided (int_eq v w) (Decides-int_eq v w))
+    elim (Decides-cases (int_eq v w) (Decides-int_eq v w))
     [ inl same ↦ inl same.1 | inr other ↦ inr other.1 ]
 
 pub names-renaming : (keys : List (List ℕ × List ℕ)) (values : List (ℤ × ℤ)) → AreOneToOne keys

@@ -7,10 +7,10 @@ use Rattle.epx_types.proofs.Common.{remaining_ids, IsCovered, Before, IsLawful, 
 use Rattle.epx_types.proofs.Common.{Reaches, IsReady, Reaches-cases, IsReady-reached, Reaches-refl}
 use Rattle.epx_types.proofs.Common.{Reaches-trans, Before-across, Before-filter, Contains-filter}
 use Rattle.epx_types.proofs.Common.{Contains-from_filter, passes-from_filter}
-use Rattle.epx_types.proofs.Common.{IsLawful-part_and_rest, passes_rest, Before-not_both}
+use Rattle.epx_types.proofs.Common.{IsLawful-part_and_rest, is_among-passes_rest, Before-not_both}
 use Rattle.epx_types.specs.declared.id.Id.{Id}
 use Rattle.epx_laws.specs.OrderLaws.{ConflictsAreOrdered}
-use Rattle.epx_laws.proofs.PrefixLemmas.{lawful_order}
+use Rattle.epx_laws.proofs.PrefixLemmas.{IsLawful-exists}
 
 -- a test of a property that is decided
 decided : {A : Type 0} → A ⊎ (¬ A) → (b : Bool) × (b ≡ true → A) × (A → b ≡ true)
@@ -73,14 +73,14 @@ module _ (m : List Instance) (x : Id) where
           (λ v w on there. Reaches-trans m x v w on there) part whole part_lawful lawful,
       Before-across part (remaining_ids part whole) x y (to_part x (Reaches-refl m x))
           (Contains-filter (λ z. not (is_among part z)) whole y (lawful.whole y ready_y)
-          (passes_rest part whole y (λ h. not_there (in_part y h).1))),
+          (is_among-passes_rest part whole y (λ h. not_there (in_part y h).1))),
     )
 
 -- if x does not reach y, x is before y in some lawful order
-pub order_before : (m : List Instance) → IsRising (ids_of m) → (x y : Id) → IsReady m x
+pub Before-exists : (m : List Instance) → IsRising (ids_of m) → (x y : Id) → IsReady m x
     → IsReady m y → ¬ Reaches m x y → (ids : List Id) × IsLawful m ids × Before ids x y
-order_before m rising x y ready ready_y not_there =
-    let whole = lawful_order m rising in
+Before-exists m rising x y ready ready_y not_there =
+    let whole = IsLawful-exists m rising in
     reached_and_others m x ready whole.0 whole.1 y ready_y not_there
 
 -- if conflicting instances come in the same order in all lawful orders, the map is covered
@@ -92,8 +92,8 @@ IsCovered-from_ordered m rising ordered d e in_d in_e apart ready ready' conflic
       | inr not_there ↦ elim (Reaches-cases m e.id d.id) [
         | inl back ↦ inr back
         | inr not_back ↦
-            let first = order_before m rising d.id e.id ready ready' not_there in
-            let second = order_before m rising e.id d.id ready' ready not_back in
+            let first = Before-exists m rising d.id e.id ready ready' not_there in
+            let second = Before-exists m rising e.id d.id ready' ready not_back in
             absurd (Before-not_both second.0 second.1.once e.id d.id second.2
             (ordered first.0 second.0 first.1 second.1 d e (record {
               first = in_d;

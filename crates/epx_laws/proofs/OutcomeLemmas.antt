@@ -7,19 +7,20 @@ use Rattle.epx_types.proofs.Common.{Contains-append_cases, id_cmp, IsRising, Ins
 use Rattle.epx_types.proofs.Common.{IsCommitted, Reaches, IsReady, WaitsFor, Ranked}
 use Rattle.epx_types.proofs.Common.{IsExecutionOrder, ranked_ids, Waiting, IsWaitingList}
 use Rattle.epx_types.proofs.Common.{waiting_ids, IsReady-not_waiting, AllPairs-append, Contains-map}
-use Rattle.epx_types.proofs.Common.{Contains-from_map, rising_once, IsExecutionOrder-IsLawful}
-use Rattle.epx_types.proofs.Common.{ready_or_waits, fewer}
+use Rattle.epx_types.proofs.Common.{Contains-from_map, AllPairs-rising_distinct}
+use Rattle.epx_types.proofs.Common.{IsExecutionOrder-IsLawful}
+use Rattle.epx_types.proofs.Common.{IsReady-or_waits, length-at_most}
 use Rattle.epx_types.specs.declared.id.Id.{Id}
 use Rattle.epx_laws.specs.OutcomeLaws.{EachHasOneOutcome}
 
 -- ---- outcomes
 
 -- an instance waits exactly if it is committed and reaches one that is not
-pub WaitsFor_iff : (m : List Instance) (x : Id) → ((y : Id) × WaitsFor m x y)
+pub WaitsFor-iff : (m : List Instance) (x : Id) → ((y : Id) × WaitsFor m x y)
     ↔ IsCommitted m x × ((z : Id) × Reaches m x z × (¬ IsCommitted m z))
-WaitsFor_iff m x = (
+WaitsFor-iff m x = (
   λ w. (w.1.committed, (w.0, w.1.reached, w.1.missing)),
-  λ h. elim (ready_or_waits m x h.0) [
+  λ h. elim (IsReady-or_waits m x h.0) [
     | inl ready ↦ absurd (h.1.2 (ready.complete h.1.0 h.1.1))
     | inr waits ↦ waits
   ],
@@ -40,7 +41,7 @@ module _ (m : List Instance) (rising : IsRising (ids_of m)) (order : List Ranked
 
   either_of : (x : Id) → IsCommitted m x
       → Contains (ranked_ids order) x ⊎ Contains (waiting_ids waiting) x
-  either_of x committed = elim (ready_or_waits m x committed) [
+  either_of x committed = elim (IsReady-or_waits m x committed) [
     | inl ready ↦ inl (ordered.whole x ready)
     | inr waits ↦ inr (Contains-map (λ (w : Waiting). w.id) waiting
         (record { id = x; missing = waits.0 }) (listed.whole x waits.0 waits.1))
@@ -55,7 +56,7 @@ module _ (m : List Instance) (rising : IsRising (ids_of m)) (order : List Ranked
   executed_once = (IsExecutionOrder-IsLawful m order ordered).once
 
   waiting_once : AllPairs (λ x y. x ≢ y) (waiting_ids waiting)
-  waiting_once = rising_once (waiting_ids waiting) listed.rising
+  waiting_once = AllPairs-rising_distinct (waiting_ids waiting) listed.rising
 
   both_once : AllPairs (λ x y. x ≢ y) (ranked_ids order ++ waiting_ids waiting)
   both_once = AllPairs-append (λ x y. x ≢ y) (ranked_ids order) (waiting_ids waiting)
@@ -66,9 +67,10 @@ module _ (m : List Instance) (rising : IsRising (ids_of m)) (order : List Ranked
   counted =
       let executed = ranked_ids order in
       let waits = waiting_ids waiting in
-      let up = fewer (executed ++ waits) (ids_of m) both_once
+      let up = length-at_most (executed ++ waits) (ids_of m) both_once
       (λ x h. committed_in x (Contains-append_cases executed waits x h)) in
-      let down = fewer (ids_of m) (executed ++ waits) (rising_once (ids_of m) rising)
+      let down =
+      length-at_most (ids_of m) (executed ++ waits) (AllPairs-rising_distinct (ids_of m) rising)
       (λ x h. elim (either_of x h) [
         | inl here ↦ Contains-append_left executed waits x here
         | inr there ↦ Contains-append_right executed waits x there
@@ -83,8 +85,8 @@ module _ (m : List Instance) (rising : IsRising (ids_of m)) (order : List Ranked
         length-map m (λ (e : Instance). e.id),
       )
 
-  pub outcomes : EachHasOneOutcome m order waiting
-  outcomes = record {
+  pub EachHasOneOutcome-holds : EachHasOneOutcome m order waiting
+  EachHasOneOutcome-holds = record {
     either = λ x. (either_of x, committed_in x);
     not_both = apart;
     executed_once = executed_once;

@@ -7,14 +7,14 @@ use Rattle.epx_types.proofs.Common.{instance_of, ops_or_empty, commands_in, IsCo
 use Rattle.epx_types.proofs.Common.{remaining_ids, ranked_ids, IsLawfulPrefix, IsLawful}
 use Rattle.epx_types.proofs.Common.{IsLawfulFor, Reaches, IsReady, length-replies, execute-append}
 use Rattle.epx_types.proofs.Common.{slice_get-append_left, IsExecutionOrder-IsLawful, reply-lawful}
-use Rattle.epx_types.proofs.Common.{IsLawful-part_and_rest, execution_order_exists}
+use Rattle.epx_types.proofs.Common.{IsLawful-part_and_rest, IsExecutionOrder-exists}
 use Rattle.epx_types.specs.declared.id.Id.{Id}
 use Rattle.epx_types.specs.declared.reply.Reply.TheVariants.{Abort}
 
 -- each committed map has a lawful order
-pub lawful_order : (m : List Instance) → IsRising (ids_of m) → (ids : List Id) × IsLawful m ids
-lawful_order m rising =
-    let order = execution_order_exists m rising in
+pub IsLawful-exists : (m : List Instance) → IsRising (ids_of m) → (ids : List Id) × IsLawful m ids
+IsLawful-exists m rising =
+    let order = IsExecutionOrder-exists m rising in
     (ranked_ids order.0, IsExecutionOrder-IsLawful m order.0 order.1)
 
 -- a lawful order is a prefix of itself
@@ -28,7 +28,7 @@ pub IsLawfulPrefix-from_closed : (m : List Instance) → IsRising (ids_of m) →
     → ((x y : Id) → Contains ids x → Reaches m x y → Contains ids y)
     → IsLawfulFor m (Contains ids) ids → IsLawfulPrefix m ids
 IsLawfulPrefix-from_closed m rising ids ready closed lawful =
-    let whole = lawful_order m rising in (
+    let whole = IsLawful-exists m rising in (
       remaining_ids ids whole.0,
       IsLawful-part_and_rest m (Contains ids) ready closed ids whole.0 lawful whole.1,
     )

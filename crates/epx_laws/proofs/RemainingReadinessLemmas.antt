@@ -1,7 +1,7 @@
 -- A remaining instance is ready in the remaining map exactly if it is ready in the whole map.
 use Rattle.std.proofs.Common.{◌↔◌, List, [], ◌∷◌, Contains, subst, inl, inr}
 use Rattle.epx_types.proofs.Common.{Instance, IsCommitted, remaining, IsPath, Reaches, IsReady}
-use Rattle.epx_types.proofs.Common.{Contains-remaining_iff, DependsOn-remaining, is_among_cases}
+use Rattle.epx_types.proofs.Common.{Contains-remaining_iff, DependsOn-remaining, is_among-cases}
 use Rattle.epx_types.proofs.Common.{Reaches-trans, Reaches-dependency}
 use Rattle.epx_types.specs.declared.id.Id.{Id}
 
@@ -26,8 +26,8 @@ module _ (done : List Id) (m : List Instance) where
 
   -- ---- readiness in the remaining map and in the whole map
 
-  pub remaining_ready : (x : Id) → ¬ Contains done x → IsReady m x → IsReady (remaining done m) x
-  remaining_ready x left ready = record {
+  pub IsReady-remaining : (x : Id) → ¬ Contains done x → IsReady m x → IsReady (remaining done m) x
+  IsReady-remaining x left ready = record {
     committed = (Contains-remaining_iff done m x).1 (ready.committed, left);
     complete = λ y there.
         let reached = Reaches-from_remaining x y left there in
@@ -40,7 +40,7 @@ module _ (done : List Id) (m : List Instance) where
     path_complete : (x : Id) (via : List Id) (y : Id) → IsReady (remaining done m) x
         → IsPath m x via y → IsCommitted m y
     path_complete x [] y ready step =
-        elim (is_among_cases done y) [
+        elim (is_among-cases done y) [
           | inl found ↦ (all_ready y found.1).committed
           | inr other ↦
               let left = ((Contains-remaining_iff done m x).0 ready.committed).1 in
@@ -49,7 +49,7 @@ module _ (done : List Id) (m : List Instance) where
               (ready.complete y (Reaches-dependency (remaining done m) x y d))).0
         ]
     path_complete x (z ∷ via) y ready path =
-        elim (is_among_cases done z) [
+        elim (is_among-cases done z) [
           | inl found ↦ (all_ready z found.1).complete y (inr (via, path.1))
           | inr other ↦
               let left = ((Contains-remaining_iff done m x).0 ready.committed).1 in
@@ -63,8 +63,8 @@ module _ (done : List Id) (m : List Instance) where
               }) path.1
         ]
 
-    pub ready_from_remaining : (x : Id) → IsReady (remaining done m) x → IsReady m x
-    ready_from_remaining x ready =
+    pub IsReady-from_remaining : (x : Id) → IsReady (remaining done m) x → IsReady m x
+    IsReady-from_remaining x ready =
         let committed = ((Contains-remaining_iff done m x).0 ready.committed).0 in
         record { committed = committed; complete = complete committed } where
           complete : IsCommitted m x → (y : Id) → Reaches m x y → IsCommitted m y
@@ -73,8 +73,8 @@ module _ (done : List Id) (m : List Instance) where
 
 -- if all done instances are ready, an instance that is not done is ready in the remaining map
 -- exactly if it is ready in the whole map
-pub remaining_is_ready_alike : (done : List Id) (m : List Instance)
+pub IsReady-remaining_iff : (done : List Id) (m : List Instance)
     → ((x : Id) → Contains done x → IsReady m x) → (x : Id) → ¬ Contains done x
     → IsReady (remaining done m) x ↔ IsReady m x
-remaining_is_ready_alike done m all_ready x left =
-    (ready_from_remaining done m all_ready x, remaining_ready done m x left)
+IsReady-remaining_iff done m all_ready x left =
+    (IsReady-from_remaining done m all_ready x, IsReady-remaining done m x left)

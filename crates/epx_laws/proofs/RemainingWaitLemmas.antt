@@ -4,7 +4,7 @@ use Rattle.std.proofs.Common.{◌↔◌, List, [], ◌∷◌, Contains, refl, su
 use Rattle.epx_types.proofs.Common.{Instance, IsCommitted, remaining, IsPath, Reaches, HasRemaining}
 use Rattle.epx_types.proofs.Common.{IsReady, WaitsFor, Reaches-trans, Reaches-dependency}
 use Rattle.epx_types.proofs.Common.{Contains-Id_cases, Contains-remaining_iff, DependsOn-remaining}
-use Rattle.epx_types.proofs.Common.{from_remaining, not_done, Contains-left}
+use Rattle.epx_types.proofs.Common.{remaining-from_map, is_among-excludes, Contains-left}
 use Rattle.epx_types.specs.declared.id.Id.{Id}
 use Rattle.epx_laws.proofs.RemainingReadinessLemmas.{Reaches-from_remaining}
 use Rattle.epx_laws.proofs.SameGraphLemmas.{IsInGraphOf, WaitsFor-same}
@@ -62,8 +62,8 @@ module _ (done : List Id) (m : List Instance)
 IsInGraphOf-remaining : (m other : List Instance) (done : List Id) → HasRemaining other done m
     → IsInGraphOf (remaining done other) (remaining done m)
 IsInGraphOf-remaining m other done has e h =
-    let d = from_remaining done m e h in
-    let left = not_done done d.0.id d.2 in (
+    let d = remaining-from_map done m e h in
+    let left = is_among-excludes done d.0.id d.2 in (
       e,
       subst (Contains (remaining done other)) d.3
           (Contains-left done other d.0 (has d.0 d.1 left) left),

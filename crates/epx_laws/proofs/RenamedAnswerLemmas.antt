@@ -1,7 +1,7 @@
 -- Different replies and different contents differ under their new names.
 use Rattle.std.proofs.Common.{[], ◌∷◌, map, Some, None, refl, sym, ap, ap₂, ◌∙◌}
 use Rattle.std.specs.FinMap as contents
-use Rattle.epx_types.proofs.Common.{same_contents}
+use Rattle.epx_types.proofs.Common.{Contents-extensional}
 use Rattle.epx_types.specs.declared.reply.Reply.TheVariants.{Values, Abort}
 use Rattle.epx_laws.specs.Renaming.{IsInjective, Renaming, renamed_value, renamed_reply}
 use Rattle.epx_laws.specs.Renaming.{renamed_contents}
@@ -32,6 +32,6 @@ module _ (r : Renaming) where
 
   pub renamed_contents-IsInjective : IsInjective (renamed_contents r)
   renamed_contents-IsInjective c d e =
-      same_contents c d (λ k.
+      Contents-extensional c d (λ k.
       renamed_value-IsInjective (contents.get c k) (contents.get d k)
       (sym (get-renamed r c k) ∙ ap (λ f. contents.get f (r.key k)) e ∙ get-renamed r d k))

@@ -4,7 +4,8 @@ use Rattle.std.proofs.Common.{◌∷◌, map, Option, Some, None, option_map, re
 use Rattle.std.proofs.Common.{subst, inl, inr}
 use Rattle.epx_types.proofs.Common.{Decides, eq_by_cmp, is_eq, Less, Equal, Greater, get-empty}
 use Rattle.epx_types.proofs.Common.{get-entries, get-from_entries, key_cmp, Contents, assign}
-use Rattle.epx_types.proofs.Common.{same_value, key_cmp_total, key_cases, same_contents, get-assign}
+use Rattle.epx_types.proofs.Common.{same_value, key_cmp-IsTotalOrder, key_cmp-cases}
+use Rattle.epx_types.proofs.Common.{Contents-extensional, get-assign}
 use Rattle.epx_types.proofs.Common.{get-assign_cases}
 use Rattle.std.specs.FinMap as contents
 use Rattle.std.specs.FinMap.{find}
@@ -36,12 +37,12 @@ module _ (r : Renaming) where
   -- renamed keys are equal exactly if the keys are
   same_test : (j k : List ℕ) → eq_by_cmp key_cmp (r.key j) (r.key k) ≡ eq_by_cmp key_cmp j k
   same_test j k =
-      elim (key_cases j k) [
-        | inl same ↦ elim (key_cases (r.key j) (r.key k)) [
+      elim (key_cmp-cases j k) [
+        | inl same ↦ elim (key_cmp-cases (r.key j) (r.key k)) [
           | inl same' ↦ same'.0 ∙ sym same.0
           | inr other' ↦ absurd (other'.1 (ap r.key same.1))
         ]
-        | inr other ↦ elim (key_cases (r.key j) (r.key k)) [
+        | inr other ↦ elim (key_cmp-cases (r.key j) (r.key k)) [
           | inl same' ↦ absurd (other.1 (r.keys_injective j k same'.1))
           | inr other' ↦ other'.0 ∙ sym other.0
         ]
@@ -75,7 +76,7 @@ module _ (r : Renaming) where
       → find key_cmp q (map renamed_entry es) ≡ Some w → (k : List ℕ) × (r.key k ≡ q)
   find-name [] q w found = absurd (cc found)
   find-name (e ∷ es) q w found =
-      elim (key_cases q (r.key e.0)) [
+      elim (key_cmp-cases q (r.key e.0)) [
         | inl same ↦ (e.0, sym same.1)
         | inr other ↦ find-name es q w (rw other.0 at found)
       ]
@@ -84,7 +85,7 @@ module _ (r : Renaming) where
   pub get-renamed : (c : Contents) (k : List ℕ)
       → contents.get (renamed_contents r c) (r.key k) ≡ renamed_value r (contents.get c k)
   get-renamed c k =
-      get-from_entries key_cmp_total (map renamed_entry (contents.entries c)) (r.key k)
+      get-from_entries key_cmp-IsTotalOrder (map renamed_entry (contents.entries c)) (r.key k)
       ∙ find-renamed (contents.entries c) k
       ∙ ap (renamed_value r) (sym (get-entries c k))
 
@@ -93,7 +94,8 @@ module _ (r : Renaming) where
       → contents.get (renamed_contents r c) q ≡ Some w → (k : List ℕ) × (r.key k ≡ q)
   get-name c q w found =
       find-name (contents.entries c) q w
-      (sym (get-from_entries key_cmp_total (map renamed_entry (contents.entries c)) q) ∙ found)
+      (sym (get-from_entries key_cmp-IsTotalOrder (map renamed_entry (contents.entries c)) q)
+      ∙ found)
 
   -- and no other is
   pub get-other : (c : Contents) (q : List ℕ) → ((k : List ℕ) → ¬ (r.key k ≡ q))
@@ -109,7 +111,7 @@ module _ (r : Renaming) where
       → ((k : List ℕ) → contents.get d (r.key k) ≡ renamed_value r (contents.get c k))
       → ((q : List ℕ) (w : ℤ) → contents.get d q ≡ Some w → (k : List ℕ) × (r.key k ≡ q))
       → d ≡ renamed_contents r c
-  same_renamed c d named only = same_contents d (renamed_contents r c) by where
+  same_renamed c d named only = Contents-extensional d (renamed_contents r c) by where
     at_name : (q : List ℕ) → (k : List ℕ) × (r.key k ≡ q)
         → contents.get d q ≡ contents.get (renamed_contents r c) q
     at_name q k =

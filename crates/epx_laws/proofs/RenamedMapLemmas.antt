@@ -5,7 +5,7 @@ use Rattle.epx_types.proofs.Common.{is_eq, cases_Bool, id_cmp, Instance, Content
 use Rattle.epx_types.proofs.Common.{instance_of, ops_or_empty, commands_in, execute, Reaches}
 use Rattle.epx_types.proofs.Common.{IsReady, Conflict, IsCovered, is_among, remaining, without_deps}
 use Rattle.epx_types.proofs.Common.{Ranked, ranked_ids, Contains-nil, Contains-map}
-use Rattle.epx_types.proofs.Common.{Contains-from_map, instance_of-found, from_remaining}
+use Rattle.epx_types.proofs.Common.{Contains-from_map, instance_of-found, remaining-from_map}
 use Rattle.epx_types.specs.declared.id.Id.{Id}
 use Rattle.epx_types.specs.declared.op.Op.{Op}
 use Rattle.std.specs.FinMap as contents
@@ -170,6 +170,6 @@ module _ (r : Renaming) where
       ap (λ n. execute (commands_in n (ranked_ids order)) (renamed_contents r c))
       (remaining-renamed done m)
       ∙ run-renamed (remaining done m) (λ e h.
-      let d = from_remaining done m e h in
+      let d = remaining-from_map done m e h in
       subst (λ (i : Instance). HasNoArithmetic i.ops) d.3 (plain d.0 d.1))
       (ranked_ids order) c

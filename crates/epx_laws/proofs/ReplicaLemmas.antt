@@ -6,21 +6,23 @@ use Rattle.epx_types.proofs.Common.{length-map, Contains-append_left, slice_get_
 use Rattle.epx_types.proofs.Common.{slice_get-get_or, IsRising, Instance, Contents, ids_of}
 use Rattle.epx_types.proofs.Common.{instance_of, commands_in, ops_or_empty, Conflict, IsCovered}
 use Rattle.epx_types.proofs.Common.{remaining_ids, execute, IsLawfulPrefix, Before, IsLawful}
-use Rattle.epx_types.proofs.Common.{Reaches, IsReady, instance_of_iff, length-replies, IsRearranged}
+use Rattle.epx_types.proofs.Common.{Reaches, IsReady, instance_of-iff_contains, length-replies}
+use Rattle.epx_types.proofs.Common.{IsRearranged}
 use Rattle.epx_types.proofs.Common.{execute-rearranged, Once-from_AllPairs, Precedes-from_Before}
 use Rattle.epx_types.proofs.Common.{AllPairs-Precedes, IsReady-reached, Before-append_left}
 use Rattle.epx_types.proofs.Common.{Before-from_Precedes, slice_get-append_left}
 use Rattle.epx_types.proofs.Common.{slice_get-from_Contains, Contains-slice_get}
 use Rattle.epx_types.proofs.Common.{AllPairs-from_slice_get, AllPairs-slice_get, Contains-from_map}
 use Rattle.epx_types.proofs.Common.{Before-in_first, Before-in_second, Before-alike_reaching}
-use Rattle.epx_types.proofs.Common.{Before-alike_reached, same_position, IsLawful-part_and_rest}
-use Rattle.epx_types.proofs.Common.{reply_function}
+use Rattle.epx_types.proofs.Common.{Before-alike_reached, slice_get-is_unique}
+use Rattle.epx_types.proofs.Common.{IsLawful-part_and_rest}
+use Rattle.epx_types.proofs.Common.{map-of_replies}
 use Rattle.epx_types.specs.declared.id.Id.{Id}
 use Rattle.epx_types.specs.declared.op.Op.{Op}
 use Rattle.epx_laws.specs.GrowthLaws.{IsWithin}
 use Rattle.epx_laws.specs.ReplicaLaws.{HasExecuted}
-use Rattle.epx_laws.proofs.PrefixLemmas.{lawful_order, reply-prefix}
-use Rattle.epx_laws.proofs.LargerMapLemmas.{IsReady-in_more, Reaches-in_less, lawful_in_more}
+use Rattle.epx_laws.proofs.PrefixLemmas.{IsLawful-exists, reply-prefix}
+use Rattle.epx_laws.proofs.LargerMapLemmas.{IsReady-in_more, Reaches-in_less, IsLawfulFor-in_more}
 use Rattle.epx_laws.proofs.LargerMapLemmas.{commands-in_more}
 
 -- ---- prefixes in larger maps
@@ -29,12 +31,13 @@ module _ (m more : List Instance) (rising : IsRising (ids_of more)) (within : Is
   pub IsLawfulPrefix-in_more : (ids : List Id) → IsLawfulPrefix m ids
       → IsLawfulPrefix more ids
   IsLawfulPrefix-in_more ids (rest, lawful) =
-      let whole = lawful_order more rising in
+      let whole = IsLawful-exists more rising in
       let left = remaining_ids (ids ++ rest) whole.0 in
       let all = IsLawful-part_and_rest more (IsReady m) (IsReady-in_more m more rising within)
       (λ x y ready there. IsReady-reached m x y
       (Reaches-in_less m more rising within x y ready there) ready)
-      (ids ++ rest) whole.0 (lawful_in_more m more rising within (ids ++ rest) lawful) whole.1 in
+      (ids ++ rest) whole.0 (IsLawfulFor-in_more m more rising within (ids ++ rest) lawful)
+      whole.1 in
       (rest ++ left, subst (IsLawful more) (append_assoc ids rest left) all)
 
   pub IsCovered-in_less : IsCovered more → IsCovered m
@@ -59,7 +62,7 @@ pub Before-in_front : (front rest : List Id) → AllPairs (λ x y. x ≢ y) (fro
     → Before (front ++ rest) x y → Contains front y → Before front x y
 Before-in_front front rest once x y (i, j, l, p, q) h =
     let at = slice_get-from_Contains front y h in
-    let same = same_position (front ++ rest) once j at.0 y q
+    let same = slice_get-is_unique (front ++ rest) once j at.0 y q
     (slice_get-append_left front rest at.0 y at.1) in
     let inside : i < length front = omega (arith, l, same, slice_get_within front at.0 y at.1) in
     let first = slice_get-get_or front i x inside in
@@ -85,7 +88,7 @@ module _ (m : List Instance) (rising : IsRising (ids_of m)) (covered : IsCovered
       → (e : Instance) × Contains m e × (e.id ≡ x) × (ops_or_empty (instance_of m x) ≡ e.ops)
   of_ready x ready =
       let e = Contains-from_map (λ (e : Instance). e.id) m x ready.committed in
-      (e.0, e.1, e.2, ap ops_or_empty ((instance_of_iff m rising x e.0).1 (e.1, e.2)))
+      (e.0, e.1, e.2, ap ops_or_empty ((instance_of-iff_contains m rising x e.0).1 (e.1, e.2)))
 
   -- instances that conflict come in the same order in both
   conflicts_alike : (x y : Id) → Before ids x y → x ≢ y
@@ -136,7 +139,7 @@ module _ (m : List Instance) (rising : IsRising (ids_of m)) (covered : IsCovered
       let replies = (execute (commands_in m ids) c).replies in
       let long : length replies ≡ length ids = length-replies (commands_in m ids) c
       ∙ length-map ids (λ x. ops_or_empty (instance_of m x)) in
-      let reply_of = reply_function ids replies (Once-from_AllPairs ids once_in) long in
+      let reply_of = map-of_replies ids replies (Once-from_AllPairs ids once_in) long in
       (execute-rearranged (λ x. ops_or_empty (instance_of m x)) reply_of.0 other ids rearranged c
       reply_of.1).final
 
@@ -169,7 +172,7 @@ module _ (m : List Instance) (rising : IsRising (ids_of m)) (covered : IsCovered
     pub reply-replicas : slice_get (execute (commands_in a ids) c).replies i
         ≡ slice_get (execute (commands_in b other) c).replies j
     reply-replicas =
-        let whole = lawful_order m rising in
+        let whole = IsLawful-exists m rising in
         let ready = in_whole.1.only x
         (Contains-append_left ids in_whole.0 x (Contains-slice_get ids i x p)) in
         let at = slice_get-from_Contains whole.0 x (whole.1.whole x ready) in

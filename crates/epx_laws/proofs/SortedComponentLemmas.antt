@@ -8,14 +8,14 @@ use Rattle.epx_types.proofs.Common.{Ranked, RanksBelow, IsExecutionOrder, ranked
 use Rattle.epx_types.proofs.Common.{SequenceBefore, IsLawful, Reaches, IsReady, Reaches-cases}
 use Rattle.epx_types.proofs.Common.{IsLeader-along, IsLeader-unique, Reaches-trans}
 use Rattle.epx_types.proofs.Common.{InOneComponent-symm, InOneComponent-trans, IsDepth-along}
-use Rattle.epx_types.proofs.Common.{IsDepth-unique, id_cmp_total, id_cmp-IsAntisymmetric}
+use Rattle.epx_types.proofs.Common.{IsDepth-unique, id_cmp-IsTotalOrder, id_cmp-IsAntisymmetric}
 use Rattle.epx_types.proofs.Common.{AllPairs-from_slice_get, AllPairs-slice_get, Contains-slice_get}
 use Rattle.epx_types.proofs.Common.{slice_get-from_map, Contains-filter, Contains-from_filter}
 use Rattle.epx_types.proofs.Common.{Contains-map, Contains-from_map, Contains-flat_map}
 use Rattle.epx_types.proofs.Common.{Contains-from_flat_map, passes-from_filter, Before-from_rank}
 use Rattle.epx_types.proofs.Common.{IsExecutionOrder-IsLawful, IsExecutionOrder-ranked}
 use Rattle.epx_types.proofs.Common.{Before-differ, Before-in_first, Before-not_both}
-use Rattle.epx_types.proofs.Common.{execution_order_exists}
+use Rattle.epx_types.proofs.Common.{IsExecutionOrder-exists}
 use Rattle.epx_types.specs.declared.id.Id.{Id}
 use Rattle.std.specs.Cmp.{tied_itself}
 use Rattle.epx_laws.specs.AlgorithmLaws.{all_members, AreSortedComponents}
@@ -76,7 +76,7 @@ module _ (m : List Instance) (order : List Ranked) (h : IsExecutionOrder m order
       let same_depth : nat_cmp r.depth s.depth ≡ Equal =
       ap (nat_cmp r.depth) (sym depth) ∙ tied_itself nat_cmp_total r.depth in
       let same_leader : id_cmp r.leader s.leader ≡ Equal =
-      ap (id_cmp r.leader) (sym leader) ∙ tied_itself id_cmp_total r.leader in
+      ap (id_cmp r.leader) (sym leader) ∙ tied_itself id_cmp-IsTotalOrder r.leader in
       record {
         first = d.0;
         second = e.0;
@@ -109,7 +109,7 @@ module _ (m : List Instance) (order : List Ranked) (h : IsExecutionOrder m order
   to_members x ready =
       let r = IsExecutionOrder-ranked m order h x ready in
       let passes : led_by r.0.leader r.0 ≡ true =
-      ap is_eq (tied_itself id_cmp_total r.0.leader) in
+      ap is_eq (tied_itself id_cmp-IsTotalOrder r.0.leader) in
       Contains-flat_map (λ (c : List Id). c) components (component r.0.leader) x
       (Contains-map component (leaders_of order) r.0.leader
       (Contains-leaders_of m order h r.0 r.1))
@@ -180,8 +180,8 @@ module _ (m : List Instance) (order : List Ranked) (h : IsExecutionOrder m order
         subst (AllPairs (SequenceBefore m)) l.2 (sorted_by l.0);
   }
 
-pub sorted_components : (m : List Instance) → IsRising (ids_of m)
+pub AreSortedComponents-exists : (m : List Instance) → IsRising (ids_of m)
     → (components : List (List Id)) × AreSortedComponents m components
-sorted_components m rising =
-    let order = execution_order_exists m rising in
+AreSortedComponents-exists m rising =
+    let order = IsExecutionOrder-exists m rising in
     (components m order.0 order.1, AreSortedComponents-order m order.0 order.1)

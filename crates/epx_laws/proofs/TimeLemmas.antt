@@ -9,10 +9,10 @@ use Rattle.epx_laws.specs.TimeLaws.{RespectsTime}
 use Rattle.epx_laws.proofs.ReplicaLemmas.{Before-in_front}
 
 -- an instance comes after each one that it reaches and that has a lower sequence number
-pub lower_first : (m : List Instance) (ids : List Id) → IsLawful m ids → (d e : Instance)
+pub Before-lower_seq : (m : List Instance) (ids : List Id) → IsLawful m ids → (d e : Instance)
     → Contains m d → Contains m e → Contains ids e.id → Reaches m e.id d.id → d.seq < e.seq
     → Before ids d.id e.id
-lower_first m ids lawful d e in_d in_e h there l =
+Before-lower_seq m ids lawful d e in_d in_e h there l =
     elim (Reaches-cases m d.id e.id) [
       | inr not_back ↦ lawful.after_reached e.id d.id h there not_back
       | inl back ↦ lawful.by_sequence d.id e.id
@@ -31,12 +31,12 @@ lower_first m ids lawful d e in_d in_e h there l =
     ]
 
 -- so a prefix keeps the time that the map respects
-pub time_kept : (m : List Instance) (earlier : Id → Id → Bool) → RespectsTime m earlier
+pub Before-earlier : (m : List Instance) (earlier : Id → Id → Bool) → RespectsTime m earlier
     → (ids : List Id) → IsLawfulPrefix m ids → (d e : Instance) → Contains m d → Contains m e
     → Conflict d.ops e.ops → earlier d.id e.id ≡ true → Contains ids e.id → Before ids d.id e.id
-time_kept m earlier respects ids (rest, lawful) d e in_d in_e conflict precedes h =
+Before-earlier m earlier respects ids (rest, lawful) d e in_d in_e conflict precedes h =
     let apart = respects d e in_d in_e conflict precedes in
     Before-in_front ids rest lawful.once d.id e.id
-    (lower_first m (ids ++ rest) lawful d e in_d in_e (Contains-append_left ids rest e.id h)
+    (Before-lower_seq m (ids ++ rest) lawful d e in_d in_e (Contains-append_left ids rest e.id h)
     apart.0 apart.1)
     h

@@ -15,10 +15,11 @@ use Rattle.epx_types.proofs.Common.{slice_get-get_or, get_or_from_slice_get}
 use Rattle.epx_types.proofs.Common.{AllPairs-slice_get, AllPairs-from_slice_get}
 use Rattle.epx_types.proofs.Common.{slice_get-from_map, slice_get-from_Contains, Contains-slice_get}
 use Rattle.epx_types.proofs.Common.{Contains-permutation, IsPermutation-sym}
-use Rattle.epx_types.proofs.Common.{id_cmp, id_cmp_total, id_cmp-IsAntisymmetric, Below, IsRising}
+use Rattle.epx_types.proofs.Common.{id_cmp, id_cmp-IsTotalOrder, id_cmp-IsAntisymmetric, Below}
+use Rattle.epx_types.proofs.Common.{IsRising}
 use Rattle.epx_types.proofs.Common.{IsRising-from_AllPairs, AllPairs-from_rising_ids}
-use Rattle.epx_types.proofs.Common.{below_asymm, cases_Bool, Contains-from_map}
-use Rattle.epx_types.proofs.lists.RisingIdLemmas.{rising_position_is_unique}
+use Rattle.epx_types.proofs.Common.{is_lt-asymm, cases_Bool, Contains-from_map}
+use Rattle.epx_types.proofs.lists.RisingIdLemmas.{slice_get-rising_is_unique}
 use Rattle.epx_types.proofs.lists.ListPositionLemmas.{slice_get-map}
 use Rattle.epx_types.specs.declared.id.Id.{Id}
 use Rattle.epx_linear.specs.declared.call_table.CallRow.{CallRow}
@@ -33,9 +34,9 @@ abbrev pub AreNumbered : {X : Type 0} → (X → ℕ) → List X → Type 0
 AreNumbered {X} place xs = (k : ℕ) (x : X) → slice_get xs k ≡ Some x → place x ≡ k
 
 -- one more item
-pub number_more : {X : Type 0} (place : X → ℕ) (xs : List X) (x : X) → AreNumbered place xs
+pub AreNumbered-push : {X : Type 0} (place : X → ℕ) (xs : List X) (x : X) → AreNumbered place xs
     → place x ≡ length xs → AreNumbered place (xs ++ x ∷ [])
-number_more {X} place xs x are at k y found =
+AreNumbered-push {X} place xs x are at k y found =
     let within : k < length xs + 1 = omega (
       arith,
       slice_get_within (xs ++ x ∷ []) k y found,
@@ -55,19 +56,19 @@ number_more {X} place xs x are at k y found =
 -- ---- rows
 
 -- the row of one more call
-pub row_more : (calls : List ClientCall) (i : ℕ) (d : ClientCall) → i < length calls
+pub map-push_row : (calls : List ClientCall) (i : ℕ) (d : ClientCall) → i < length calls
     → (rows : List CallRow) → map (λ r. r.id) rows ≡ called_ids (take i calls)
     → map (λ r. r.id) (rows ++ record { id = (get_or calls i d).id; at = i } ∷ [])
     ≡ called_ids (take (i + 1) calls)
-row_more calls i d within rows named =
+map-push_row calls i d within rows named =
     map_push (λ (r : CallRow). r.id) rows (record { id = (get_or calls i d).id; at = i })
     ∙ ap (λ (l : List Id). l ++ (get_or calls i d).id ∷ []) named
     ∙ sym (ap called_ids (take_more calls i d within)
     ∙ map_push (λ (c : ClientCall). c.id) (take i calls) (get_or calls i d))
 
-pub rows_in_order : (ids : List Id) (rows : List CallRow) → AreRowsInOrder ids rows
+pub AreCallRows-in_order : (ids : List Id) (rows : List CallRow) → AreRowsInOrder ids rows
     → AreCallRows ids rows
-rows_in_order ids rows are = record {
+AreCallRows-in_order ids rows are = record {
   each = λ r has.
       let from = slice_get-from_Contains rows r has in
       subst (λ k. slice_get ids k ≡ Some r.id) (sym (are.places from.0 r from.1))
@@ -81,9 +82,9 @@ rows_in_order ids rows are = record {
       subst (Contains rows) same (Contains-slice_get rows k from.0 from.1);
 }
 
-pub rows_moved : (ids : List Id) (old new : List CallRow) → AreCallRows ids old
+pub AreCallRows-permutation : (ids : List Id) (old new : List CallRow) → AreCallRows ids old
     → IsPermutation old new → AreCallRows ids new
-rows_moved ids old new are moved = record {
+AreCallRows-permutation ids old new are moved = record {
   each = λ r has. are.each r (Contains-permutation new old r (IsPermutation-sym old new moved) has);
   whole = λ k x at. Contains-permutation old new _ moved (are.whole k x at);
 }
@@ -93,7 +94,7 @@ row_cmp a b = ordering_then (id_cmp a.id b.id) (nat_cmp a.at b.at)
 
 row_cmp_total : IsTotalOrder row_cmp
 row_cmp_total =
-    then_total (on_total (λ (r : CallRow). r.id) id_cmp_total)
+    then_total (on_total (λ (r : CallRow). r.id) id_cmp-IsTotalOrder)
     (on_total (λ (r : CallRow). r.at) nat_cmp_total)
 
 abbrev lower_row : CallRow → CallRow → Bool
@@ -105,13 +106,13 @@ greater_id a b apart not_below =
     elim (id_cmp b.id a.id) as (λ r. id_cmp b.id a.id ≡ r → Below a.id b.id) [
       | Less ↦ λ e. absurd (cc (e, not_below))
       | Equal ↦ λ e. absurd (apart (sym (id_cmp-IsAntisymmetric b.id a.id e)))
-      | Greater ↦ λ e. ap is_lt (id_cmp_total.antisymm a.id b.id ∙ ap ordering_reverse e)
+      | Greater ↦ λ e. ap is_lt (id_cmp-IsTotalOrder.antisymm a.id b.id ∙ ap ordering_reverse e)
     ] refl
 
 -- the Ids of sorted rows rise, if no two are equal
-pub sorted_rise : (rows : List CallRow) → AllPairs (λ x y. x ≢ y) (map (λ r. r.id) rows)
+pub IsRising-sorted : (rows : List CallRow) → AllPairs (λ x y. x ≢ y) (map (λ r. r.id) rows)
     → IsSorted row_cmp rows → IsRising (map (λ r. r.id) rows)
-sorted_rise rows apart sorted =
+IsRising-sorted rows apart sorted =
     IsRising-from_AllPairs (map (λ (r : CallRow). r.id) rows)
     (AllPairs-from_slice_get Below (map (λ (r : CallRow). r.id) rows) (λ i j x y less at to.
     let a = slice_get-from_map (λ (r : CallRow). r.id) rows i x at in
@@ -129,15 +130,15 @@ sorted_rise rows apart sorted =
 module _ (ids : List Id) (rows : List CallRow) (are : AreCallRows ids rows)
     (rising : IsRising (map (λ r. r.id) rows)) where
   -- no two Ids are equal if those of the rows rise
-  pub apart_by_rows : AllPairs (λ x y. x ≢ y) ids
-  apart_by_rows = AllPairs-from_slice_get (λ x y. x ≢ y) ids (λ i j x y less at to same.
+  pub AllPairs-by_rows : AllPairs (λ x y. x ≢ y) ids
+  AllPairs-by_rows = AllPairs-from_slice_get (λ x y. x ≢ y) ids (λ i j x y less at to same.
       let first : CallRow = record { id = x; at = i } in
       let second : CallRow = record { id = x; at = j } in
       let p = slice_get-from_Contains rows first (are.whole i x at) in
       let q = slice_get-from_Contains rows second
       (are.whole j x (to ∙ ap Some (sym same))) in
       let one : p.0 ≡ q.0 =
-      rising_position_is_unique (map (λ (r : CallRow). r.id) rows) rising p.0 q.0 x
+      slice_get-rising_is_unique (map (λ (r : CallRow). r.id) rows) rising p.0 q.0 x
       (slice_get-map (λ (r : CallRow). r.id) rows p.0 first p.1)
       (slice_get-map (λ (r : CallRow). r.id) rows q.0 second q.1) in
       let both : Some first ≡ Some second =
@@ -159,32 +160,34 @@ module _ (rows : List CallRow) (rising : IsRising (map (λ r. r.id) rows)) (x : 
       within in
       elim (cases_Bool (is_lt (id_cmp (get_or rows (k + 1) d).id (get_or rows k d).id))) [
         | inl back ↦ absurd
-            (below_asymm id_cmp_total (get_or rows k d).id (get_or rows (k + 1) d).id below back)
+            (is_lt-asymm id_cmp-IsTotalOrder (get_or rows k d).id (get_or rows (k + 1) d).id below
+            back)
         | inr level ↦ level
       ]
 
   -- no row has the Id if all before an index have lower Ids and all others greater ones
-  pub row_absent : (i : ℕ) → (IsNonDecreasingBy (λ r. ordering_index (id_cmp r.id x)) rows
+  pub Contains-no_row : (i : ℕ) → (IsNonDecreasingBy (λ r. ordering_index (id_cmp r.id x)) rows
       → IsPartitionPoint (λ r. id_cmp r.id x ≡ Less) (λ r. id_cmp r.id x ≡ Greater) rows i)
       → ¬ Contains (map (λ r. r.id) rows) x
-  row_absent i parts h =
+  Contains-no_row i parts h =
       let point =
-      parts (searchable_from_sorted id_cmp_total (λ (r : CallRow). r.id) rows x sorted_by_id) in
+      parts (searchable_from_sorted id_cmp-IsTotalOrder (λ (r : CallRow). r.id) rows x
+      sorted_by_id) in
       let at = Contains-from_map (λ (r : CallRow). r.id) rows x h in
       let k = at.1.0 in
       let tie : id_cmp (get_or rows k at.0).id x ≡ Equal =
       ap (λ (r : CallRow). id_cmp r.id x) at.1.2 ∙ ap (λ y. id_cmp y x) at.2
-      ∙ tied_itself id_cmp_total x in
+      ∙ tied_itself id_cmp-IsTotalOrder x in
       elim (cases_lt k i) [
         | inl l ↦ let less = point.0 k at.0 (omega arith) l in absurd (cc (less, tie))
         | inr m ↦ let more = point.1 k at.0 m at.1.1 in absurd (cc (more, tie))
       ]
 
   -- a row with an equal Id has the Id
-  pub row_at : (k : ℕ) (d : CallRow) → k < length rows
+  pub Contains-row_at : (k : ℕ) (d : CallRow) → k < length rows
       → HoldsAt (λ r. id_cmp r.id x ≡ Equal) rows k
       → Contains rows (get_or rows k d) × ((get_or rows k d).id ≡ x)
-  row_at k d within h = (
+  Contains-row_at k d within h = (
     Contains-slice_get rows k (get_or rows k d) (slice_get-get_or rows k d within),
     id_cmp-IsAntisymmetric (get_or rows k d).id x (h d),
   )

@@ -21,7 +21,7 @@ use Rattle.serde_json.specs.Read.{converted}
 use Rattle.epx_lines.specs.Elements.{whole}
 use Rattle.epx_lines.specs.DependencyList.{id_of_pair}
 use Rattle.epx_lines.specs.OperationList.{value_or_null}
-use Rattle.epx_lines.specs.Tokens.{ReadsValue, ParsesTo}
+use Rattle.epx_lines.specs.between.Tokens.{ReadsValue, ParsesTo}
 use Rattle.epx_lines.proofs.WrittenPartLemmas.{whole-fits}
 use Rattle.epx_report.proofs.JsonStringLemmas.{IfSome-test, IfSome-branch, IfSome-map}
 use Rattle.epx_report.proofs.JsonStringLemmas.{IfSome-trivial}

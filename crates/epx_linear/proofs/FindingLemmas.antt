@@ -11,14 +11,14 @@ use Rattle.json.specs.Print.{escape_byte}
 use Rattle.epx_types.proofs.Common.{All-cons, All-nil, All-head, All-tail, cases_Bool, Contains-nil}
 use Rattle.epx_types.proofs.Common.{Contains-cons, Contains-head, Contains-map}
 use Rattle.epx_types.proofs.Common.{Contains-filter, id_cmp, is_among}
-use Rattle.epx_types.proofs.Common.{is_among_cases, length-map, match_ordering, slice_get_within}
+use Rattle.epx_types.proofs.Common.{is_among-cases, length-map, match_ordering, slice_get_within}
 use Rattle.epx_types.proofs.Common.{slice_get-get_or}
 use Rattle.epx_types.specs.declared.id.Id.{Id}
 use Rattle.epx_types.specs.declared.op.Op.{Op}
 use Rattle.epx_types.specs.declared.reply.Reply.{Reply}
 use Rattle.epx_lines.specs.DependencyList.{rising_ids}
 use Rattle.epx_verify.specs.Differences.{same_reply}
-use Rattle.epx_verify.proofs.DifferenceLemmas.{both_empty, replies_decide}
+use Rattle.epx_verify.proofs.DifferenceLemmas.{append-both_nil, Decides-same_reply}
 use Rattle.epx_linear.specs.declared.client_call.ClientCall.{ClientCall}
 use Rattle.epx_linear.specs.ClientCalls.{IsHistory, call_of, calls_in}
 use Rattle.epx_linear.specs.LateCalls.{AreFoundLate}
@@ -28,7 +28,7 @@ use Rattle.epx_linear.specs.LinearTexts.{is_other_answer, is_answered_otherwise,
 use Rattle.epx_linear.specs.LinearTexts.{findings_at, is_lost}
 use Rattle.epx_linear.specs.LinearTexts.{lost_ids, findings, or_linear, linear_text}
 use Rattle.epx_linear.proofs.RankLemmas.{call_of-found, call_of-finds}
-use Rattle.epx_linear.proofs.FoundLemmas.{nothing_found, nothing_is_found}
+use Rattle.epx_linear.proofs.FoundLemmas.{HasRealTimeOrder-none_found, All-none_found}
 
 -- ---- no line is empty, nor the line of linear histories
 
@@ -125,9 +125,10 @@ module _ (h : List ClientCall) where
       absurd (omega (arith, whole))
   right_if_no_finding (x ∷ ids) (r ∷ replies) (o ∷ late) as_many whole e =
       let wrong = is_answered_otherwise (call_of h x) r in
-      let parts = both_empty (findings_at h ((x, r), o))
+      let parts = append-both_nil (findings_at h ((x, r), o))
       (flat_map (findings_at h) (zip (zip ids replies) late)) e in
-      let here = both_empty (if wrong then other_reply_line x else []) (lateness x o) parts.0 in
+      let here =
+      append-both_nil (if wrong then other_reply_line x else []) (lateness x o) parts.0 in
       let rest = right_if_no_finding ids replies late (omega (arith, as_many))
       (omega (arith, whole)) parts.1 in
       record {
@@ -217,7 +218,7 @@ module _ (ids : List Id) (h : List ClientCall) where
   executed_if_not_lost : (c : ClientCall) (t : ℕ) → c.returned ≡ Some t → is_lost ids c ≡ false
       → Contains ids c.id
   executed_if_not_lost c t returned not_lost =
-      elim (is_among_cases ids c.id) [
+      elim (is_among-cases ids c.id) [
         | inl found ↦ found.1
         | inr none ↦
             let lost : is_lost ids c ≡ true =
@@ -231,7 +232,7 @@ module _ (ids : List Id) (h : List ClientCall) where
     by : (o : Option ℕ) → c.returned ≡ o → is_lost ids c ≡ false
     by None none = ap (λ o. is_some o && not (is_among ids c.id)) none
     by (Some t) returned =
-        elim (is_among_cases ids c.id) [
+        elim (is_among-cases ids c.id) [
           | inl found ↦ ap₂ (λ o b. is_some o && not b) returned found.0
           | inr none ↦ absurd (none.1 (executed t returned))
         ]
@@ -243,7 +244,7 @@ right_answer : (call : Option ClientCall) (a : ClientCall) (answer reply : Reply
     → answer ≡ reply
 right_answer call a answer reply is answered right =
     elim (cases_Bool (same_reply answer reply)) [
-      | inl same ↦ (replies_decide answer reply).0 same
+      | inl same ↦ (Decides-same_reply answer reply).0 same
       | inr differ ↦
           let wrong : is_answered_otherwise call reply ≡ true =
           ap (λ o. is_answered_otherwise o reply) is
@@ -260,7 +261,7 @@ answered_right (Some a) reply same = by a.answer refl where
   by None none = ap (λ o. is_other_answer o reply) none
   by (Some answer) answered =
       ap (λ o. is_other_answer o reply) answered
-      ∙ ap not ((replies_decide answer reply).1 (same a answer refl answered))
+      ∙ ap not ((Decides-same_reply answer reply).1 (same a answer refl answered))
 
 -- ---- both
 
@@ -270,7 +271,7 @@ module _ (ids : List Id) (commands : List (List Op)) (replies : List Reply)
     (found : AreFoundLate commands (calls_in h ids) late) where
   linear_if_nothing : findings ids replies h late ≡ [] → IsLinear ids commands replies h
   linear_if_nothing e =
-      let parts = both_empty (flat_map (findings_at h) (zip (zip ids replies) late))
+      let parts = append-both_nil (flat_map (findings_at h) (zip (zip ids replies) late))
       (flat_map lost_line (lost_ids ids h)) e in
       let right = right_if_no_finding h ids replies late as_many (found.whole ∙ sym whole)
       parts.0 in
@@ -278,7 +279,7 @@ module _ (ids : List Id) (commands : List (List Op)) (replies : List Reply)
         executed = λ a t has returned. executed_if_not_lost ids h a t returned
             (none_lost ids h parts.1 a has);
         answers = λ a r i has answered here. answer_is right a r i has answered here;
-        real_time = nothing_found commands (calls_in h ids) late
+        real_time = HasRealTimeOrder-none_found commands (calls_in h ids) late
             (length-map ids (call_of h) ∙ whole) found right.none_late;
       }
     where
@@ -302,13 +303,13 @@ module _ (ids : List Id) (commands : List (List Op)) (replies : List Reply)
             (at ∙ ap Some (sym known.1)) in
             let both : Some answer ≡ Some r = sym replied ∙ to in
             cc both);
-        none_late = nothing_is_found commands (calls_in h ids) late found linear.real_time;
+        none_late = All-none_found commands (calls_in h ids) late found linear.real_time;
       })) (no_line_if_none_lost ids h (λ c has. not_lost_if_executed ids h c (λ t returned.
       linear.executed c t has returned)))
 
-  pub linear_line_iff_linear :
+  pub linear_text-iff_linear :
       (linear_text ids replies h late ≡ linear_line) ↔ IsLinear ids commands replies h
-  linear_line_iff_linear = (
+  linear_text-iff_linear = (
     λ e. linear_if_nothing
         (nothing_if_line (findings ids replies h late) (findings_apart ids replies h late) e),
     λ linear. ap or_linear (nothing_if_linear linear),
@@ -316,12 +317,12 @@ module _ (ids : List Id) (commands : List (List Op)) (replies : List Reply)
 
 -- ---- texts as they are written
 
-pub none_zipped : (ids : List Id) (replies : List Reply)
+pub length-zip_nil : (ids : List Id) (replies : List Reply)
     → (length ids ≡ 0) ⊎ (length replies ≡ 0) → length (zip ids replies) ≡ 0
-none_zipped [] replies e = refl
-none_zipped (x ∷ ids) [] e = refl
-none_zipped (x ∷ ids) (r ∷ replies) (inl e) = absurd (cc e)
-none_zipped (x ∷ ids) (r ∷ replies) (inr e) = absurd (cc e)
+length-zip_nil [] replies e = refl
+length-zip_nil (x ∷ ids) [] e = refl
+length-zip_nil (x ∷ ids) (r ∷ replies) (inl e) = absurd (cc e)
+length-zip_nil (x ∷ ids) (r ∷ replies) (inr e) = absurd (cc e)
 
 pub or_linear-none : (text : List ℕ) → length text ≡ 0 → linear_line ≡ or_linear text
 or_linear-none [] e = refl

@@ -3,22 +3,24 @@
 use Rattle.std.proofs.Common.{◌≡◌, ◌⊎◌, inl, inr, ℕ, zero, suc, ◌<◌, List, [], ◌∷◌, ◌++◌}
 use Rattle.std.proofs.Common.{length, Option, Some, None, slice_get, slice_index_or, refl, sym, ap}
 use Rattle.std.proofs.Common.{subst, ◌∙◌, arith}
-use Rattle.epx_types.proofs.Common.{below_cases, below_trans, cases_lt, get_or_append_left}
-use Rattle.epx_types.proofs.Common.{get_or_push, id_cmp-IsAntisymmetric, id_cmp_total, length_push}
+use Rattle.epx_types.proofs.Common.{is_lt-cases, is_lt-trans, cases_lt, get_or_append_left}
+use Rattle.epx_types.proofs.Common.{get_or_push, id_cmp-IsAntisymmetric, id_cmp-IsTotalOrder}
+use Rattle.epx_types.proofs.Common.{length_push}
 use Rattle.epx_types.proofs.Common.{Below, Conflict-cases, ConflictAt, UpTo}
 use Rattle.epx_types.specs.declared.id.Id.{Id}
 use Rattle.epx_types.specs.declared.op.Op.{Op}
 use Rattle.epx_linear.specs.declared.client_call.ClientCall.{ClientCall}
 use Rattle.epx_linear.specs.ClientCalls.{HasCall, IsInvokedUpTo}
 use Rattle.epx_linear.specs.LateCalls.{AreFoundLate, ConflictsUpTo, IsFoundLate, IsLate}
-use Rattle.epx_linear.proofs.LatestLemmas.{up_cases, up_more, up_refl}
+use Rattle.epx_linear.proofs.LatestLemmas.{ConflictsUpTo-cases, ConflictsUpTo-push}
+use Rattle.epx_linear.proofs.LatestLemmas.{ConflictsUpTo-refl}
 
 -- ---- which of two calls is the later one
 
 up_to-trans : (x y z : Id) → UpTo x y → UpTo y z → UpTo x z
 up_to-trans x y z (inl same) q = subst (λ w. UpTo w z) (sym same) q
 up_to-trans x y z (inr less) (inl same) = inr (subst (Below x) same less)
-up_to-trans x y z (inr less) (inr more) = inr (below_trans id_cmp_total x y z less more)
+up_to-trans x y z (inr less) (inr more) = inr (is_lt-trans id_cmp-IsTotalOrder x y z less more)
 
 invoked-trans : (a b c : ClientCall) → IsInvokedUpTo a b → IsInvokedUpTo b c → IsInvokedUpTo a c
 invoked-trans a b c (inl p) (inl q) = inl (omega (arith, p, q))
@@ -34,7 +36,7 @@ invoked-total a b = elim (cases_lt a.invoked b.invoked) [
     | inl less ↦ inr (inl less)
     | inr most ↦
         let same : a.invoked ≡ b.invoked = omega (arith, least, most) in
-        elim (below_cases id_cmp_total id_cmp-IsAntisymmetric a.id b.id) [
+        elim (is_lt-cases id_cmp-IsTotalOrder id_cmp-IsAntisymmetric a.id b.id) [
           | inl below ↦ inr (inr (sym same, inr below))
           | inr (inl tied) ↦ inl (inr (same, inl (sym tied)))
           | inr (inr above) ↦ inl (inr (same, inr above))
@@ -160,10 +162,11 @@ module _ (commands : List (List Op)) (calls : List (Option ClientCall)) where
       × ConflictsUpTo commands i k in
       latest_of_same calls (λ i. (i ≡ j) ⊎ Beside i) (λ i. ConflictsUpTo commands i j)
       (λ i h. elim h [
-        | inl here ↦ subst (λ k. ConflictsUpTo commands k j) (sym here) (up_refl commands j)
-        | inr (k, less, conflict, up) ↦ up_more commands i k j up less conflict
+        | inl here ↦ subst (λ k. ConflictsUpTo commands k j) (sym here)
+            (ConflictsUpTo-refl commands j)
+        | inr (k, less, conflict, up) ↦ ConflictsUpTo-push commands i k j up less conflict
       ])
-      (λ i up. up_cases commands i j up)
+      (λ i up. ConflictsUpTo-cases commands i j up)
       (latest_of_both calls (λ i. i ≡ j) Beside (latest_at calls j)
       (leads_by j j (λ k less. leads_to n k (omega (arith, l, less)))))
 
@@ -177,7 +180,7 @@ module _ (commands : List (List Op)) (calls : List (Option ClientCall)) where
   found_of_call : (j : ℕ) (a : ClientCall) → HasCall calls j a → (t : ℕ) → a.returned ≡ Some t
       → (o : Option Id) × IsFoundLate commands calls j o
   found_of_call j a at t returned = elim (leads_to (suc j) j (omega arith)) [
-    | inl none ↦ absurd (none j a (up_refl commands j) at)
+    | inl none ↦ absurd (none j a (ConflictsUpTo-refl commands j) at)
     | inr (b, among, latest) ↦ elim (cases_lt t b.invoked) [
       | inl less ↦ (
         Some b.id,
@@ -248,7 +251,7 @@ module _ (commands : List (List Op)) (calls : List (Option ClientCall)) where
         ],
       )
 
-  pub found_late_exists : (found : List (Option Id)) × AreFoundLate commands calls found
-  found_late_exists =
+  pub AreFoundLate-exists : (found : List (Option Id)) × AreFoundLate commands calls found
+  AreFoundLate-exists =
       let (found, count, each) = found_below (length commands) in
       (found, record { whole = count; each = each })

@@ -5,13 +5,13 @@ use Rattle.std.proofs.Common.{Err, Contains, refl, sym, ap, ap₂, ◌∙◌, su
 use Rattle.std.proofs.Common.{append-nil, append_assoc}
 use Rattle.epx_types.proofs.Common.{AllPairs-append, AllPairs-from_parts, AllPairs-tail}
 use Rattle.epx_types.proofs.Common.{AllPairs-head, Contains-nil, Contains-cons, Contains-cons_cases}
-use Rattle.epx_types.proofs.Common.{Contains-map, Contains-head, is_among, is_among_cases}
+use Rattle.epx_types.proofs.Common.{Contains-map, Contains-head, is_among, is_among-cases}
 use Rattle.epx_types.proofs.Common.{Contains-append_left}
 use Rattle.epx_lines.specs.Lines.{lines_of}
 use Rattle.epx_lines.specs.Meaning.{is_blank}
 use Rattle.epx_report.specs.Lists.{filled_lines}
-use Rattle.epx_report.proofs.BadLineLemmas.{none_bad, one_bad}
-use Rattle.epx_report.proofs.SaidLineLemmas.{first_some, same_somes}
+use Rattle.epx_report.proofs.BadLineLemmas.{IsFirstNotGood-if_good, IsFirstNotGood-is_unique}
+use Rattle.epx_report.proofs.SaidLineLemmas.{map-Some_cons, map-Some_is_injective}
 use Rattle.epx_linear.specs.declared.client_call.ClientCall.{ClientCall}
 use Rattle.epx_linear.specs.ClientCalls.{IsHistory}
 use Rattle.epx_linear.specs.HistoryLines.{call_line_of}
@@ -27,13 +27,13 @@ abbrev Apart : ClientCall → ClientCall → Type 0
 Apart a b = a.id ≢ b.id
 
 -- one more call, of another instance
-pub new_call : (h : List ClientCall) (c : ClientCall) → IsHistory h
+pub IsHistory-push : (h : List ClientCall) (c : ClientCall) → IsHistory h
     → is_among (called_ids h) c.id ≡ false → IsHistory (h ++ c ∷ [])
-new_call h c history new =
+IsHistory-push h c history new =
     AllPairs-append Apart h (c ∷ []) history
     (AllPairs-from_parts Apart c [] (λ y has. absurd (Contains-nil y has)) (λ i j d l within.
     absurd (omega (arith, within)))) (λ x y in_h is_c same.
-    elim (is_among_cases (called_ids h) c.id) [
+    elim (is_among-cases (called_ids h) c.id) [
       | inl found ↦ absurd (cc (found.0, new))
       | inr none ↦
           elim (Contains-cons_cases c [] y is_c) [
@@ -91,7 +91,7 @@ call_more l ls c h e is said =
 call_less : (l : List ℕ) (ls : List (List ℕ)) (h : List ClientCall) → is_blank l ≡ false
     → Say (l ∷ ls) h → (c : ClientCall) × (rest : List ClientCall) × (call_line_of l ≡ Some c)
     × Say ls rest × (h ≡ c ∷ rest)
-call_less l ls h e said = first_some (call_line_of l) (map call_line_of (filled_lines ls)) h
+call_less l ls h e said = map-Some_cons (call_line_of l) (map call_line_of (filled_lines ls)) h
     (sym (ap (map call_line_of) (filled l ls e)) ∙ said)
 
 -- ---- reading all lines
@@ -199,7 +199,7 @@ calls_again h l c e is again good =
     let less = back_same h l [] c e is good in
     let history : IsHistory (h ++ c ∷ less.0) =
     subst IsHistory (append_assoc h (c ∷ []) less.0) less.1.history in
-    elim (is_among_cases (called_ids h) c.id) [
+    elim (is_among-cases (called_ids h) c.id) [
       | inl found ↦ not_again h c less.0 history found.1
       | inr none ↦ absurd (cc (none.0, again))
     ]
@@ -225,7 +225,7 @@ reads_on h n l ls false (Some c) history e is rest =
     by true again = rw (e, is, again) (stops h n l ls history (calls_again h l c e is again))
     by false new =
         rw (e, is, new) (reads_call h n l ls c (read_call_lines (h ++ c ∷ []) (n + 1) ls) e is
-        (rest (h ++ c ∷ []) (new_call h c history new)))
+        (rest (h ++ c ∷ []) (IsHistory-push h c history new)))
 
 reads_all : (h : List ClientCall) (n : ℕ) (ls : List (List ℕ)) → IsHistory h
     → Reads h n ls (read_call_lines h n ls)
@@ -267,16 +267,16 @@ fewer_lines : (n : ℕ) (ls : List (List ℕ)) → AreHistoryLines ls → AreHis
 fewer_lines n ls are = lines_if_good (take n ls) (fewer_good n [] ls (good_if_lines ls are))
 
 -- what reading yields is the history
-pub history_is_read : (bytes : List ℕ) (h : List ClientCall) → history_reading bytes ≡ Ok h
+pub IsHistoryText-read : (bytes : List ℕ) (h : List ClientCall) → history_reading bytes ≡ Ok h
     → IsHistoryText bytes h
-history_is_read bytes h e =
+IsHistoryText-read bytes h e =
     let all = subst (Reads [] 1 (lines_of bytes)) e (reads_all [] 1 (lines_of bytes) no_calls) in
     subst (AreCalls (lines_of bytes)) (sym all.2) (all.1.said, all.1.history)
 
 -- the line at which reading stops is the first bad one
-pub bad_history_is_read : (bytes : List ℕ) (line : ℕ) → history_reading bytes ≡ Err line
+pub IsBadHistory-read : (bytes : List ℕ) (line : ℕ) → history_reading bytes ≡ Err line
     → IsBadHistory bytes line
-bad_history_is_read bytes line e =
+IsBadHistory-read bytes line e =
     let ls = lines_of bytes in
     let stopped = subst (Reads [] 1 ls) e (reads_all [] 1 ls no_calls) in
     let before : stopped.0 ≡ line - 1 = omega (arith, stopped.1) in
@@ -290,18 +290,19 @@ bad_history_is_read bytes line e =
 
 one_or_the_other : (bytes : List ℕ) (r : Result (List ClientCall) ℕ) → history_reading bytes ≡ r
     → ((h : List ClientCall) × IsHistoryText bytes h) ⊎ ((line : ℕ) × IsBadHistory bytes line)
-one_or_the_other bytes (Ok h) e = inl (h, history_is_read bytes h e)
-one_or_the_other bytes (Err n) e = inr (n, bad_history_is_read bytes n e)
+one_or_the_other bytes (Ok h) e = inl (h, IsHistoryText-read bytes h e)
+one_or_the_other bytes (Err n) e = inr (n, IsBadHistory-read bytes n e)
 
-pub history_or_bad_history : HistoryOrBadHistory
-history_or_bad_history bytes = one_or_the_other bytes (history_reading bytes) refl
+pub HistoryOrBadHistory-holds : HistoryOrBadHistory
+HistoryOrBadHistory-holds bytes = one_or_the_other bytes (history_reading bytes) refl
 
-pub history_is_no_bad_history : HistoryIsNoBadHistory
-history_is_no_bad_history bytes h line is =
-    none_bad AreHistoryLines fewer_lines (lines_of bytes) line (h, is)
+pub HistoryIsNoBadHistory-holds : HistoryIsNoBadHistory
+HistoryIsNoBadHistory-holds bytes h line is =
+    IsFirstNotGood-if_good AreHistoryLines fewer_lines (lines_of bytes) line (h, is)
 
-pub text_is_one_history : TextIsOneHistory
-text_is_one_history bytes h other p q = same_somes h other (sym p.0 ∙ q.0)
+pub TextIsOneHistory-holds : TextIsOneHistory
+TextIsOneHistory-holds bytes h other p q = map-Some_is_injective h other (sym p.0 ∙ q.0)
 
-pub bad_history_is_bad_at_one_line : BadHistoryIsBadAtOneLine
-bad_history_is_bad_at_one_line bytes = one_bad AreHistoryLines fewer_lines (lines_of bytes)
+pub BadHistoryIsBadAtOneLine-holds : BadHistoryIsBadAtOneLine
+BadHistoryIsBadAtOneLine-holds bytes =
+    IsFirstNotGood-is_unique AreHistoryLines fewer_lines (lines_of bytes)

@@ -33,9 +33,9 @@ module _ (commands : List (List Op)) (calls : List (Option ClientCall)) where
       ap Some (sym named ∙ invoked_alike b d (latest'.latest from.0 b from.1 from.2)
       (latest.latest from'.0 d from'.1 from'.2) ∙ named')
 
-  pub found_late_is_unique : (found other : List (Option Id)) → AreFoundLate commands calls found
+  pub AreFoundLate-is_unique : (found other : List (Option Id)) → AreFoundLate commands calls found
       → AreFoundLate commands calls other → found ≡ other
-  found_late_is_unique found other p q =
+  AreFoundLate-is_unique found other p q =
       same_lists found other (p.whole ∙ sym q.whole) (λ j d low.
       let within : j < length commands = omega (arith, low, p.whole) in
       get_or_default found j d None low

@@ -8,29 +8,30 @@ use Rattle.epx_types.proofs.Common.{Conflict-cases, Contains-nil, Contains-head}
 use Rattle.epx_types.proofs.Common.{Contains-cons, Contains-cons_cases, Contains-slice_get}
 use Rattle.epx_types.proofs.Common.{slice_get-from_Contains}
 use Rattle.epx_types.specs.declared.op.Op.{Op}
-use Rattle.epx_apply.specs.KeyTables.{IsLeastAbove}
+use Rattle.epx_apply.specs.between.KeyTables.{IsLeastAbove}
 use Rattle.epx_linear.specs.LateCalls.{ConflictsUpTo}
 
 -- ---- chains
 
 module _ (commands : List (List Op)) where
-  pub up_refl : (j : ℕ) → ConflictsUpTo commands j j
-  up_refl j = ([], tt, Contains-head j [])
+  pub ConflictsUpTo-refl : (j : ℕ) → ConflictsUpTo commands j j
+  ConflictsUpTo-refl j = ([], tt, Contains-head j [])
 
   -- a chain with one more conflict at its end
-  pub up_more : (i k j : ℕ) → ConflictsUpTo commands i k → k < j → ConflictAt commands k j
+  pub ConflictsUpTo-push : (i k j : ℕ) → ConflictsUpTo commands i k → k < j
+      → ConflictAt commands k j
       → ConflictsUpTo commands i j
-  up_more i k j (is, climbs, h) less conflict =
+  ConflictsUpTo-push i k j (is, climbs, h) less conflict =
       (k ∷ is, (less, conflict, climbs), Contains-cons j (k ∷ is) i h)
 
-  pub up_cases : (i j : ℕ) → ConflictsUpTo commands i j
+  pub ConflictsUpTo-cases : (i j : ℕ) → ConflictsUpTo commands i j
       → (i ≡ j) ⊎ ((k : ℕ) × (k < j) × ConflictAt commands k j × ConflictsUpTo commands i k)
-  up_cases i j ([], climbs, h) =
+  ConflictsUpTo-cases i j ([], climbs, h) =
       elim (Contains-cons_cases j [] i h) [
         | inl here ↦ inl (sym here)
         | inr later ↦ absurd (Contains-nil i later)
       ]
-  up_cases i j (k ∷ is, climbs, h) =
+  ConflictsUpTo-cases i j (k ∷ is, climbs, h) =
       elim (Contains-cons_cases j (k ∷ is) i h) [
         | inl here ↦ inl (sym here)
         | inr later ↦ inr (k, climbs.0, climbs.1, (is, climbs.2, later))
@@ -67,10 +68,10 @@ module _ (commands : List (List Op)) (own : ℕ → ℕ) (done : List (List Op �
   n = length done
 
   -- m is the greatest number of the next command
-  pub next_greatest : own n ≤ m → found ≤ suc m → (m ≡ own n) ⊎ (suc m ≡ found)
+  pub IsGreatest-next : own n ≤ m → found ≤ suc m → (m ≡ own n) ⊎ (suc m ≡ found)
       → IsGreatest commands own n m
-  next_greatest not_below not_beside either = record {
-    above = λ i up. elim (up_cases commands i n up) [
+  IsGreatest-next not_below not_beside either = record {
+    above = λ i up. elim (ConflictsUpTo-cases commands i n up) [
       | inl here ↦ let same : own i ≡ own n = ap own here in omega (arith, same, not_below)
       | inr (k, less, conflict, on) ↦
           let none : List Op × ℕ = ([], 0) in
@@ -84,7 +85,7 @@ module _ (commands : List (List Op)) (own : ℕ → ℕ) (done : List (List Op �
           omega (arith, low, is.1.above i on, not_beside)
     ];
     reached = elim either [
-      | inl same ↦ (n, up_refl commands n, sym same)
+      | inl same ↦ (n, ConflictsUpTo-refl commands n, sym same)
       | inr beside ↦ elim least.reached [
         | inl none ↦ absurd (omega (arith, none, beside))
         | inr (o, l, h, meets, e) ↦
@@ -95,7 +96,7 @@ module _ (commands : List (List Op)) (own : ℕ → ℕ) (done : List (List Op �
             (subst (Conflict o) at meets) in
             let up = is.1.reached in (
               up.0,
-              up_more commands up.0 from.0 n up.1
+              ConflictsUpTo-push commands up.0 from.0 n up.1
                   (slice_get_within done from.0 (o, l) from.1) conflict,
               omega (arith, up.2, e, beside),
             )
@@ -103,9 +104,9 @@ module _ (commands : List (List Op)) (own : ℕ → ℕ) (done : List (List Op �
     ];
   }
 
-  pub one_more_greatest : IsGreatest commands own n m
+  pub HaveGreatest-push : IsGreatest commands own n m
       → HaveGreatest commands own (done ++ (ops, m) ∷ [])
-  one_more_greatest is j o l read =
+  HaveGreatest-push is j o l read =
       elim (slice_get-push_cases done (ops, m) j (o, l) read) [
         | inl old ↦ have j o l old
         | inr (here, same) ↦ (
@@ -118,14 +119,14 @@ module _ (commands : List (List Op)) (own : ℕ → ℕ) (done : List (List Op �
 
 -- ---- such numbers exist
 
-pub least_above_exists : (done : List (List Op × ℕ)) (ops : List Op)
+pub IsLeastAbove-exists : (done : List (List Op × ℕ)) (ops : List Op)
     → (n : ℕ) × IsLeastAbove done ops n
-least_above_exists [] ops = (
+IsLeastAbove-exists [] ops = (
   0,
   record { above = λ o l h. absurd (Contains-nil (o, l) h); reached = inl refl },
 )
-least_above_exists (d ∷ done) ops =
-    let rest = least_above_exists done ops in
+IsLeastAbove-exists (d ∷ done) ops =
+    let rest = IsLeastAbove-exists done ops in
     elim (Conflict-cases d.0 ops) [
       | inl meets ↦ (
         max (suc d.1) rest.0,
@@ -173,29 +174,29 @@ least_above_exists (d ∷ done) ops =
     ]
 
 module _ (commands : List (List Op)) (own : ℕ → ℕ) where
-  pub greatest_exist : (n : ℕ) → (done : List (List Op × ℕ)) × (length done ≡ n)
+  pub HaveGreatest-exists : (n : ℕ) → (done : List (List Op × ℕ)) × (length done ≡ n)
       × HaveGreatest commands own done
-  greatest_exist zero = ([], refl, λ j ops m e. absurd (cc e))
-  greatest_exist (suc n) =
-      let rest = greatest_exist n in
+  HaveGreatest-exists zero = ([], refl, λ j ops m e. absurd (cc e))
+  HaveGreatest-exists (suc n) =
+      let rest = HaveGreatest-exists n in
       let done = rest.0 in
       let ops = slice_index_or commands (length done) [] in
-      let found = least_above_exists done ops in
+      let found = IsLeastAbove-exists done ops in
       elim (cases_lt (own (length done)) (found.0)) [
         | inl high ↦
             let m : (k : ℕ) × (suc k ≡ found.0) = before found.0 (omega (arith, high)) in (
               done ++ (ops, m.0) ∷ [],
               omega (arith, length_push done (ops, m.0), rest.1),
-              one_more_greatest commands own done rest.2 ops found.0 m.0 refl found.1
-                  (next_greatest commands own done rest.2 ops found.0 m.0 refl found.1
+              HaveGreatest-push commands own done rest.2 ops found.0 m.0 refl found.1
+                  (IsGreatest-next commands own done rest.2 ops found.0 m.0 refl found.1
                   (omega (arith, high, m.1)) (omega (arith, m.1)) (inr m.1)),
             )
         | inr low ↦
             let m = own (length done) in (
               done ++ (ops, m) ∷ [],
               omega (arith, length_push done (ops, m), rest.1),
-              one_more_greatest commands own done rest.2 ops found.0 m refl found.1
-                  (next_greatest commands own done rest.2 ops found.0 m refl found.1
+              HaveGreatest-push commands own done rest.2 ops found.0 m refl found.1
+                  (IsGreatest-next commands own done rest.2 ops found.0 m refl found.1
                   (omega arith) (omega (arith, low)) (inl refl)),
             )
       ]

@@ -14,7 +14,7 @@ use Rattle.epx_linear.specs.ClientCalls.{call_of, calls_in}
 use Rattle.epx_linear.specs.CallAnswers.{IsAnswerCheck, AreAnswerChecks}
 use Rattle.epx_linear.specs.LateCalls.{AreFoundLate}
 use Rattle.epx_linear.specs.RealTime.{IsLinear}
-use Rattle.epx_linear.proofs.FoundLemmas.{nothing_found, nothing_is_found}
+use Rattle.epx_linear.proofs.FoundLemmas.{HasRealTimeOrder-none_found, All-none_found}
 
 call_at : (h : List ClientCall) (k : ℕ) → k < length h
     → (c : ClientCall) × (slice_get h k ≡ Some c)
@@ -25,12 +25,12 @@ module _ (ids : List Id) (commands : List (List Op)) (replies : List Reply)
     (h : List ClientCall) (checks : List AnswerCheck) (late : List (Option Id))
     (whole : length ids ≡ length commands) (are : AreAnswerChecks ids replies h checks)
     (found : AreFoundLate commands (calls_in h ids) late) where
-  pub linear_from_checks : All (λ o. o ≡ Same) checks × All (λ o. o ≡ None) late
+  pub IsLinear-from_checks : All (λ o. o ≡ Same) checks × All (λ o. o ≡ None) late
       → IsLinear ids commands replies h
-  linear_from_checks (same, none) = record {
+  IsLinear-from_checks (same, none) = record {
     executed = λ a t has returned. (checked a has).0 t returned;
     answers = λ a r i has answer here. (checked a has).1 r i answer here;
-    real_time = nothing_found commands (calls_in h ids) late
+    real_time = HasRealTimeOrder-none_found commands (calls_in h ids) late
         (length-map ids (call_of h) ∙ whole) found none;
   } where
     checked : (a : ClientCall) → Contains h a → IsAnswerCheck ids replies a Same
@@ -41,14 +41,14 @@ module _ (ids : List Id) (commands : List (List Op)) (replies : List Reply)
         are.each at.0 a Same at.1
         (slice_get-get_or checks at.0 Same low ∙ ap Some (same at.0 Same low))
 
-  pub checks_from_linear : IsLinear ids commands replies h
+  pub All-from_IsLinear : IsLinear ids commands replies h
       → All (λ o. o ≡ Same) checks × All (λ o. o ≡ None) late
-  checks_from_linear linear = (
+  All-from_IsLinear linear = (
     All-from_get_or (λ o. o ≡ Same) checks Same (λ k low.
         let c = call_at h k (omega (arith, low, are.whole)) in
         by c.0 (Contains-slice_get h k c.0 c.1) (get_or checks k Same)
         (are.each k c.0 (get_or checks k Same) c.1 (slice_get-get_or checks k Same low))),
-    nothing_is_found commands (calls_in h ids) late found linear.real_time,
+    All-none_found commands (calls_in h ids) late found linear.real_time,
   ) where
     by : (c : ClientCall) → Contains h c → (o : AnswerCheck) → IsAnswerCheck ids replies c o
         → o ≡ Same

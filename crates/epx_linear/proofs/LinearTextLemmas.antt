@@ -11,8 +11,8 @@ use Rattle.epx_linear.specs.declared.client_call.ClientCall.{ClientCall}
 use Rattle.epx_linear.specs.ClientCalls.{calls_in}
 use Rattle.epx_linear.specs.LinearTexts.{linear_text, IsTextOver, IsLinearText}
 use Rattle.epx_linear.specs.LinearTextLaws.{LinearTextIsUnique, LinearLineMeansLinear}
-use Rattle.epx_linear.proofs.LateUniqueLemmas.{found_late_is_unique}
-use Rattle.epx_linear.proofs.FindingLemmas.{linear_line_iff_linear}
+use Rattle.epx_linear.proofs.LateUniqueLemmas.{AreFoundLate-is_unique}
+use Rattle.epx_linear.proofs.FindingLemmas.{linear_text-iff_linear}
 
 module _ (ids : List Id) (commands : List (List Op)) (replies : List Reply)
     (h : List ClientCall) where
@@ -21,17 +21,17 @@ module _ (ids : List Id) (commands : List (List Op)) (replies : List Reply)
   text_over_is_unique text other p q =
       p.printed
       ∙ ap (linear_text ids replies h)
-      (found_late_is_unique commands (calls_in h ids) p.late q.late p.found q.found)
+      (AreFoundLate-is_unique commands (calls_in h ids) p.late q.late p.found q.found)
       ∙ sym q.printed
 
 module _ (m : List Instance) (h : List ClientCall) where
   -- what the text says over an order, from what it says over instances and commands of this order
-  pub linear_text_of_order : (order : List Ranked) → IsExecutionOrder m order → (ids : List Id)
+  pub IsLinearText-of_order : (order : List Ranked) → IsExecutionOrder m order → (ids : List Id)
       (commands : List (List Op)) (replies : List Reply) (text : List ℕ)
       → ids ≡ ranked_ids order → commands ≡ commands_in m (ranked_ids order)
       → replies ≡ (list_execution m (ranked_ids order)).replies
       → IsTextOver ids commands replies h text → IsLinearText m h text
-  linear_text_of_order order ordered ids commands replies text are_ids are_commands are_replies
+  IsLinearText-of_order order ordered ids commands replies text are_ids are_commands are_replies
       said = record {
         order = order;
         ordered = ordered;
@@ -42,28 +42,28 @@ module _ (m : List Instance) (h : List ClientCall) where
       }
 
   -- what the text says over the order of the map
-  pub text_over_order : (order : List Ranked) (text : List ℕ) → IsExecutionOrder m order
+  pub IsTextOver-order : (order : List Ranked) (text : List ℕ) → IsExecutionOrder m order
       → IsLinearText m h text → IsTextOver (ranked_ids order) (commands_in m (ranked_ids order))
       (list_execution m (ranked_ids order)).replies h text
-  text_over_order order text ordered is =
+  IsTextOver-order order text ordered is =
       subst (λ (o : List Ranked). IsTextOver (ranked_ids o) (commands_in m (ranked_ids o))
       (list_execution m (ranked_ids o)).replies h text)
       (IsExecutionOrder-unique m is.order order is.ordered ordered) is.said
 
-pub linear_text_is_unique : LinearTextIsUnique
-linear_text_is_unique m h text other p q =
+pub LinearTextIsUnique-holds : LinearTextIsUnique
+LinearTextIsUnique-holds m h text other p q =
     text_over_is_unique (ranked_ids q.order) (commands_in m (ranked_ids q.order))
     (list_execution m (ranked_ids q.order)).replies h text other
-    (text_over_order m h q.order text q.ordered p) q.said
+    (IsTextOver-order m h q.order text q.ordered p) q.said
 
-pub linear_line_means_linear : LinearLineMeansLinear
-linear_line_means_linear m h order text history ordered is =
+pub LinearLineMeansLinear-holds : LinearLineMeansLinear
+LinearLineMeansLinear-holds m h order text history ordered is =
     let ids = ranked_ids order in
     let commands = commands_in m ids in
     let replies = (list_execution m ids).replies in
-    let said = text_over_order m h order text ordered is in
+    let said = IsTextOver-order m h order text ordered is in
     let as_many : length commands ≡ length ids = length-map ids _ in
-    let iff = linear_line_iff_linear ids commands replies h said.late history (sym as_many)
+    let iff = linear_text-iff_linear ids commands replies h said.late history (sym as_many)
     (length-replies commands contents.empty ∙ as_many) said.found in (
       λ e. iff.0 (sym said.printed ∙ e),
       λ linear. said.printed ∙ iff.1 linear,

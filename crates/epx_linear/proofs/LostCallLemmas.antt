@@ -3,7 +3,7 @@ use Rattle.std.proofs.Common.{◌≡◌, ◌≢◌, ◌⊎◌, inl, inr, ℕ, su
 use Rattle.std.proofs.Common.{List, [], ◌∷◌, ◌++◌, length, map, get_or, set, replicate, Option}
 use Rattle.std.proofs.Common.{Some, None, option_and_then, Contains, slice_get, refl, sym, ap, ap₂}
 use Rattle.std.proofs.Common.{subst, ◌∙◌, zip, filter, arith}
-use Rattle.epx_types.proofs.Common.{is_among, is_among_cases, Contains-append_left}
+use Rattle.epx_types.proofs.Common.{is_among, is_among-cases, Contains-append_left}
 use Rattle.epx_types.proofs.Common.{Contains-append_right, Contains-append_cases, Contains-head}
 use Rattle.epx_types.proofs.Common.{Contains-slice_get, slice_get-from_Contains}
 use Rattle.epx_types.proofs.Common.{slice_get-from_map, slice_get-get_or, get_or_from_slice_get}
@@ -18,13 +18,14 @@ use Rattle.epx_linear.specs.ClientCalls.{IsHistory, HasCall, call_of, calls_at, 
 use Rattle.epx_linear.specs.LinearTexts.{is_lost, lost_ids}
 use Rattle.epx_linear.specs.inner.HistoryReadings.{called_ids}
 use Rattle.epx_linear.specs.inner.MarkedCalls.{AreMarked, unmarked_ids}
-use Rattle.epx_linear.proofs.RankLemmas.{call_of-found, call_of-finds, one_place, place_of_call}
+use Rattle.epx_linear.proofs.RankLemmas.{call_of-found, call_of-finds, id-is_unique}
+use Rattle.epx_linear.proofs.RankLemmas.{slice_get-place}
 
 -- ---- marks
 
 -- no call is marked
-pub none_marked : (n : ℕ) → AreMarked n [] (replicate n false)
-none_marked n = record {
+pub AreMarked-nil : (n : ℕ) → AreMarked n [] (replicate n false)
+AreMarked-nil n = record {
   whole = length-replicate n false;
   each = λ j low. inr (
     slice_get-get_or (replicate n false) j false (omega (arith, low, length-replicate n false))
@@ -51,8 +52,8 @@ module _ (n : ℕ) (places : List (Option ℕ)) (place : Option ℕ) (marks : Li
       ]
 
   -- no call is at it
-  pub not_marked : ((j : ℕ) → j < n → place ≢ Some j) → AreMarked n (places ++ place ∷ []) marks
-  not_marked other = record {
+  pub AreMarked-skip : ((j : ℕ) → j < n → place ≢ Some j) → AreMarked n (places ++ place ∷ []) marks
+  AreMarked-skip other = record {
     whole = are.whole;
     each = λ j low. elim (are.each j low) [
       | inl there ↦ inl (there.0, earlier j there.1)
@@ -61,9 +62,9 @@ module _ (n : ℕ) (places : List (Option ℕ)) (place : Option ℕ) (marks : Li
   }
 
   -- the call at it is marked
-  pub marked : (k : ℕ) → place ≡ Some k → k < n
+  pub AreMarked-push : (k : ℕ) → place ≡ Some k → k < n
       → AreMarked n (places ++ place ∷ []) (set marks k true)
-  marked k is within = record {
+  AreMarked-push k is within = record {
     whole = length-set marks k true ∙ are.whole;
     each = λ j low. elim (cases_eq j k) [
       | inl same ↦ inl (
@@ -118,14 +119,14 @@ module _ (h : List ClientCall) (history : IsHistory h) (places : List (Option �
       subst (λ (l : List (Option ClientCall)). slice_get l from.0 ≡ Some (Some c)) (sym same)
       (slice_get-map (call_of h) ids from.0 c.id from.1
       ∙ ap Some (call_of-finds h history c (Contains-slice_get h j c at))) in
-      let place = place_of_call h places from.0 c read in
-      let one : place.0 ≡ j = one_place h history place.0 j c c place.2 at refl in
+      let place = slice_get-place h places from.0 c read in
+      let one : place.0 ≡ j = id-is_unique h history place.0 j c c place.2 at refl in
       subst (λ k. Contains places (Some k)) one
       (Contains-slice_get places from.0 (Some place.0) place.1)
 
-  pub marks_are : (marks : List Bool) → AreMarked (length h) places marks
+  pub AreMarked-is_among : (marks : List Bool) → AreMarked (length h) places marks
       → marks ≡ map (is_among ids) (called_ids h)
-  marks_are marks are = by_positions marks (map (is_among ids) (called_ids h))
+  AreMarked-is_among marks are = by_positions marks (map (is_among ids) (called_ids h))
       (are.whole ∙ sym (length-map (called_ids h) (is_among ids)
       ∙ length-map h (λ (c : ClientCall). c.id))) (λ j b read.
       let low : j < length h = omega (arith, slice_get_within marks j b read, are.whole) in
@@ -149,13 +150,13 @@ module _ (h : List ClientCall) (history : IsHistory h) (places : List (Option �
       }
 
       among_yes : (x : Id) → Contains ids x → is_among ids x ≡ true
-      among_yes x has = elim (is_among_cases ids x) [
+      among_yes x has = elim (is_among-cases ids x) [
         | inl found ↦ found.0
         | inr absent ↦ absurd (absent.1 has)
       ]
 
       among_no : (x : Id) → (¬ Contains ids x) → is_among ids x ≡ false
-      among_no x absent = elim (is_among_cases ids x) [
+      among_no x absent = elim (is_among-cases ids x) [
         | inl found ↦ absurd (absent found.1)
         | inr not_there ↦ not_there.0
       ]
@@ -177,12 +178,12 @@ module _ (h : List ClientCall) (history : IsHistory h) (places : List (Option �
 -- ---- calls with their marks
 
 -- at the end of the calls or of the marks no calls are left
-pub none_unmarked : (h : List ClientCall) (marks : List Bool)
+pub unmarked_ids-nil : (h : List ClientCall) (marks : List Bool)
     → (length h ≡ 0) ⊎ (length marks ≡ 0) → unmarked_ids (zip h marks) ≡ []
-none_unmarked [] marks e = refl
-none_unmarked (c ∷ h) [] e = refl
-none_unmarked (c ∷ h) (b ∷ marks) (inl e) = absurd (cc e)
-none_unmarked (c ∷ h) (b ∷ marks) (inr e) = absurd (cc e)
+unmarked_ids-nil [] marks e = refl
+unmarked_ids-nil (c ∷ h) [] e = refl
+unmarked_ids-nil (c ∷ h) (b ∷ marks) (inl e) = absurd (cc e)
+unmarked_ids-nil (c ∷ h) (b ∷ marks) (inr e) = absurd (cc e)
 
 unmarked_are_lost : (ids : List Id) (h : List ClientCall)
     → unmarked_ids (zip h (map (is_among ids) (called_ids h)))
@@ -194,9 +195,9 @@ unmarked_are_lost ids (c ∷ h) =
       | inr kept ↦ rw kept (unmarked_are_lost ids h)
     ]
 
-pub lost_by_marks : (ids : List Id) (h : List ClientCall) (marks : List Bool) (lost : List Id)
+pub lost_ids-by_marks : (ids : List Id) (h : List ClientCall) (marks : List Bool) (lost : List Id)
     → marks ≡ map (is_among ids) (called_ids h) → lost ≡ rising_ids (unmarked_ids (zip h marks))
     → lost ≡ lost_ids ids h
-lost_by_marks ids h marks lost are_marks is =
+lost_ids-by_marks ids h marks lost are_marks is =
     is ∙ ap (λ bs. rising_ids (unmarked_ids (zip h bs))) are_marks
     ∙ ap rising_ids (unmarked_are_lost ids h)

@@ -48,16 +48,16 @@ module _ (levels : List ℕ) where
       ]
 
   -- by level, and inside a level in rising order
-  pub sorted_before : (n i j : ℕ) → i < length levels → j < length levels
+  pub Before-by_level : (n i j : ℕ) → i < length levels → j < length levels
       → slice_index levels j < n
       → (slice_index levels i < slice_index levels j)
       ⊎ ((slice_index levels i ≡ slice_index levels j) × (i < j))
       → Before (by_level levels n) i j
-  sorted_before zero i j in_i in_j below either = absurd (omega (arith, below))
-  sorted_before (suc n) i j in_i in_j below either =
+  Before-by_level zero i j in_i in_j below either = absurd (omega (arith, below))
+  Before-by_level (suc n) i j in_i in_j below either =
       elim (cases_lt (slice_index levels j) n) [
         | inl less ↦ Before-append_left (by_level levels n) (level_positions levels n) i j
-            (sorted_before n i j in_i in_j less either)
+            (Before-by_level n i j in_i in_j less either)
         | inr upto ↦ elim either [
           | inl lower ↦ Before-across (by_level levels n) (level_positions levels n) i j
               (Contains-by_level levels n i in_i (omega (arith, below, lower)))

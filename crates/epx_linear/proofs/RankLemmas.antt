@@ -11,7 +11,7 @@ use Rattle.epx_types.proofs.Common.{cases_lt, cases_Bool, slice_get_within, UpTo
 use Rattle.epx_types.proofs.Common.{AllPairs-slice_get, AllPairs-head, AllPairs-tail}
 use Rattle.epx_types.proofs.Common.{slice_get-from_map, slice_get-from_Contains, Contains-nil}
 use Rattle.epx_types.proofs.Common.{Contains-head, Contains-cons, Contains-cons_cases, id_cmp}
-use Rattle.epx_types.proofs.Common.{Contains-slice_get, ids_decide, id_cmp_total}
+use Rattle.epx_types.proofs.Common.{Contains-slice_get, id_eq-Decides, id_cmp-IsTotalOrder}
 use Rattle.epx_types.proofs.Common.{id_cmp-IsAntisymmetric}
 use Rattle.epx_types.proofs.lists.ListPositionLemmas.{slice_get-map}
 use Rattle.epx_types.specs.declared.id.Id.{Id}
@@ -47,7 +47,7 @@ call_of-finds (d ∷ h) history c has =
       | inl same ↦
           let tied : is_eq (id_cmp d.id c.id) ≡ true =
           ap (λ (e : ClientCall). is_eq (id_cmp d.id e.id)) (sym same)
-          ∙ ap is_eq (tied_itself id_cmp_total d.id) in
+          ∙ ap is_eq (tied_itself id_cmp-IsTotalOrder d.id) in
           rw tied (ap Some same)
       | inr later ↦
           let rest = call_of-finds h (AllPairs-tail (λ (a b : ClientCall). a.id ≢ b.id) d h
@@ -76,19 +76,19 @@ first_position p (y ∷ xs) (suc i) x at passes earlier =
     let rest = first_position p xs i x at passes (λ k z l e. earlier (suc k) z (omega arith) e) in
     rw not_here (omega (arith, rest))
 
-pub position_is : (ids : List Id) → AllPairs (λ x y. x ≢ y) ids → (x : Id) (r : ℕ)
+pub position-slice_get : (ids : List Id) → AllPairs (λ x y. x ≢ y) ids → (x : Id) (r : ℕ)
     → slice_get ids r ≡ Some x → position (same_id x) ids ≡ Some r
-position_is ids once x r at =
+position-slice_get ids once x r at =
     let within : r < length ids = slice_get_within ids r x at in
     let test : nat_lt r (length ids) ≡ true = grind (arith, nat_tests) in
-    rw (first_position (same_id x) ids r x at ((ids_decide x x).1 refl) earlier) (rw test refl)
+    rw (first_position (same_id x) ids r x at ((id_eq-Decides x x).1 refl) earlier) (rw test refl)
   where
     earlier : (k : ℕ) (y : Id) → k < r → slice_get ids k ≡ Some y → same_id x y ≡ false
     earlier k y less before =
         elim (cases_Bool (same_id x y)) [
           | inl same ↦ absurd
               (AllPairs-slice_get (λ v w. v ≢ w) ids once k r y x less before at
-              (sym ((ids_decide x y).0 same)))
+              (sym ((id_eq-Decides x y).0 same)))
           | inr other ↦ other
         ]
 
@@ -99,9 +99,9 @@ abbrev pub own_rank : List ℕ → List (Option ℕ) → ℕ → ℕ
 own_rank ranks places i = rank_at ranks (option_and_then (λ o. o) (slice_get places i))
 
 -- two calls of one instance are one
-pub one_place : (h : List ClientCall) → IsHistory h → (j k : ℕ) (a b : ClientCall)
+pub id-is_unique : (h : List ClientCall) → IsHistory h → (j k : ℕ) (a b : ClientCall)
     → slice_get h j ≡ Some a → slice_get h k ≡ Some b → a.id ≡ b.id → j ≡ k
-one_place h history j k a b at to same =
+id-is_unique h history j k a b at to same =
     elim (cases_lt j k) [
       | inl less ↦ absurd (AllPairs-slice_get (λ (c d : ClientCall). c.id ≢ d.id) h history j k a b
           less at to same)
@@ -113,10 +113,10 @@ one_place h history j k a b at to same =
     ]
 
 -- the place of the call at a position
-pub place_of_call : (h : List ClientCall) (places : List (Option ℕ)) (i : ℕ) (c : ClientCall)
+pub slice_get-place : (h : List ClientCall) (places : List (Option ℕ)) (i : ℕ) (c : ClientCall)
     → HasCall (calls_at h places) i c
     → (k : ℕ) × (slice_get places i ≡ Some (Some k)) × (slice_get h k ≡ Some c)
-place_of_call h places i c has =
+slice_get-place h places i c has =
     let from = slice_get-from_map (option_and_then (slice_get h)) places i (Some c) has in
     by from.0 from.1 from.2
   where
@@ -129,15 +129,15 @@ module _ (h : List ClientCall) (history : IsHistory h) (spans : List Span)
     (are : AreSpansOf h spans) (ranks : List ℕ) (ranked : AreRanksOf spans ranks)
     (places : List (Option ℕ)) where
   -- the call at a position has a span
-  pub rank_of_call : (i : ℕ) (c : ClientCall) → HasCall (calls_at h places) i c
+  pub HasRank-exists : (i : ℕ) (c : ClientCall) → HasCall (calls_at h places) i c
       → (s : Span) × HasRank spans (own_rank ranks places i) s
       × (times_of_call c ≡ times_of_span s)
-  rank_of_call i c has =
-      let at = place_of_call h places i c has in
+  HasRank-exists i c has =
+      let at = slice_get-place h places i c has in
       let span = are.whole c (Contains-slice_get h at.0 c at.2) in
       let place = slice_get-from_Contains spans span.0 span.1 in
       let own = are.each span.0 span.1 in
-      let same : span.0.at ≡ at.0 = one_place h history span.0.at at.0 own.0 c own.1 at.2
+      let same : span.0.at ≡ at.0 = id-is_unique h history span.0.at at.0 own.0 c own.1 at.2
       (ap (λ (t : ℕ × (Id × Option ℕ)). t.1.0) (own.2 ∙ sym span.2)) in
       let rank : own_rank ranks places i ≡ suc place.0 =
       ap (λ o. rank_at ranks (option_and_then (λ p. p) o)) at.1
@@ -146,10 +146,10 @@ module _ (h : List ClientCall) (history : IsHistory h) (spans : List Span)
       (span.0, (place.0, rank, place.1), span.2)
 
   -- a rank above 0 is that of the call at the position
-  pub call_of_rank : (i r : ℕ) → own_rank ranks places i ≡ suc r
+  pub HasCall-exists : (i r : ℕ) → own_rank ranks places i ≡ suc r
       → (c : ClientCall) × (s : Span) × HasCall (calls_at h places) i c
       × (slice_get spans r ≡ Some s) × (times_of_call c ≡ times_of_span s)
-  call_of_rank i r e = at_place (slice_get places i) refl e where
+  HasCall-exists i r e = at_place (slice_get places i) refl e where
     Found : Type 0
     Found = (c : ClientCall) × (s : Span) × HasCall (calls_at h places) i c
         × (slice_get spans r ≡ Some s) × (times_of_call c ≡ times_of_span s)
@@ -175,9 +175,9 @@ module _ (h : List ClientCall) (history : IsHistory h) (spans : List Span)
     at_place (Some (Some k)) at e = at_rank k at (slice_get ranks k) refl e
 
   -- a span with no greater rank is up to the other
-  pub rank_up_to : (p q : ℕ) (a b : Span) → p ≤ q → slice_get spans p ≡ Some a
+  pub IsSpanUpTo-from_ranks : (p q : ℕ) (a b : Span) → p ≤ q → slice_get spans p ≡ Some a
       → slice_get spans q ≡ Some b → IsSpanUpTo a b
-  rank_up_to p q a b upto at to =
+  IsSpanUpTo-from_ranks p q a b upto at to =
       elim (cases_lt p q) [
         | inl less ↦ are.rising p q a b less at to
         | inr more ↦
@@ -187,9 +187,9 @@ module _ (h : List ClientCall) (history : IsHistory h) (spans : List Span)
             inr (ap (λ (s : Span). s.invoked) same, inl (ap id_of_span (sym same)))
       ]
 
-pub calls_up_to : (a b : ClientCall) (s t : Span) → times_of_call a ≡ times_of_span s
+pub IsInvokedUpTo-from_spans : (a b : ClientCall) (s t : Span) → times_of_call a ≡ times_of_span s
     → times_of_call b ≡ times_of_span t → IsSpanUpTo s t → IsInvokedUpTo a b
-calls_up_to a b s t at bt upto =
+IsInvokedUpTo-from_spans a b s t at bt upto =
     let ai : a.invoked ≡ s.invoked = ap (λ (u : ℕ × (Id × Option ℕ)). u.0) at in
     let bi : b.invoked ≡ t.invoked = ap (λ (u : ℕ × (Id × Option ℕ)). u.0) bt in
     let an : a.id ≡ id_of_span s = ap (λ (u : ℕ × (Id × Option ℕ)). u.1.0) at in

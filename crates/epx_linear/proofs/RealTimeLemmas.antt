@@ -7,17 +7,18 @@ use Rattle.std.proofs.lemmas.Option.{slice_get-get_or}
 use Rattle.epx_types.proofs.Common.{length-map, slice_get_within, cases_lt, get_or_past, Conflict}
 use Rattle.epx_types.proofs.Common.{ConflictAt, Climbs, Before, IsRearrangement, by_level}
 use Rattle.epx_types.proofs.Common.{by_level-distinct, Contains-by_level, Contains-from_by_level}
-use Rattle.epx_types.proofs.Common.{level_count, level_below_count, Contains-nil}
+use Rattle.epx_types.proofs.Common.{level_count, level_count-above_each, Contains-nil}
 use Rattle.epx_types.proofs.Common.{Contains-cons_cases}
-use Rattle.epx_types.proofs.levels.LevelOrderLemmas.{no_conflict_past_end}
+use Rattle.epx_types.proofs.levels.LevelOrderLemmas.{Conflict-not_past_end}
 use Rattle.epx_types.specs.declared.op.Op.{Op}
 use Rattle.epx_linear.specs.declared.client_call.ClientCall.{ClientCall}
 use Rattle.epx_linear.specs.ClientCalls.{HasCall}
 use Rattle.epx_linear.specs.LateCalls.{ConflictsUpTo, NoneLate}
 use Rattle.epx_linear.specs.RealTime.{KeepsRealTime, HasRealTimeOrder}
-use Rattle.epx_linear.proofs.LatestLemmas.{up_refl, up_more, IsGreatest, HaveGreatest}
-use Rattle.epx_linear.proofs.LatestLemmas.{greatest_exist}
-use Rattle.epx_linear.proofs.PositionLemmas.{Before-trans, Before-irrefl, sorted_before}
+use Rattle.epx_linear.proofs.LatestLemmas.{ConflictsUpTo-refl, ConflictsUpTo-push, IsGreatest}
+use Rattle.epx_linear.proofs.LatestLemmas.{HaveGreatest}
+use Rattle.epx_linear.proofs.LatestLemmas.{HaveGreatest-exists}
+use Rattle.epx_linear.proofs.PositionLemmas.{Before-trans, Before-irrefl, Before-by_level}
 
 -- ---- from an order that keeps real time
 
@@ -41,9 +42,9 @@ module _ (commands : List (List Op)) (positions : List ℕ)
         ]
       ]
 
-  pub none_late : (calls : List (Option ClientCall)) → KeepsRealTime calls positions
+  pub NoneLate-if_kept : (calls : List (Option ClientCall)) → KeepsRealTime calls positions
       → NoneLate commands calls
-  none_late calls in_time j i (a, b, at_j, at_i, up, earlier) =
+  NoneLate-if_kept calls in_time j i (a, b, at_j, at_i, up, earlier) =
       let turned : Before positions j i = in_time j i a b at_j at_i earlier in
       elim (chain_before up.0 i j up.1 up.2) [
         | inl same ↦ Before-irrefl positions arranged.once j
@@ -86,7 +87,7 @@ module _ (commands : List (List Op)) (calls : List (Option ClientCall))
         → slice_index latest i ≤ slice_index latest j
     rises i j less low conflict =
         let from = (at i (omega (arith, less, low))).reached in
-        let up = up_more commands from.0 i j from.1 less conflict in
+        let up = ConflictsUpTo-push commands from.0 i j from.1 less conflict in
         omega (arith, (at j low).above from.0 up, from.2)
 
     -- the latest invocation for a call that returned is no later than its return
@@ -117,8 +118,8 @@ module _ (commands : List (List Op)) (calls : List (Option ClientCall))
         ⊎ ((slice_index latest i ≡ slice_index latest j) × (i < j)) → Before positions i j
     before i j in_i in_j either =
         let in_j' : j < length latest = omega (arith, in_j, length_latest) in
-        sorted_before latest (level_count latest) i j (omega (arith, in_i, length_latest)) in_j'
-        (level_below_count latest j in_j') either
+        Before-by_level latest (level_count latest) i j (omega (arith, in_i, length_latest)) in_j'
+        (level_count-above_each latest j in_j') either
 
     keeps : (i j : ℕ) → i < j → ConflictAt commands i j → Before positions i j
     keeps i j less conflict =
@@ -131,7 +132,7 @@ module _ (commands : List (List Op)) (calls : List (Option ClientCall))
                     (inr (omega (arith, up, upto), less))
               ]
           | inr past ↦ absurd
-              (no_conflict_past_end (slice_index_or commands i [])
+              (Conflict-not_past_end (slice_index_or commands i [])
               (subst (Conflict (slice_index_or commands i [])) (get_or_past commands j [] past)
               conflict))
         ]
@@ -142,7 +143,8 @@ module _ (commands : List (List Op)) (calls : List (Option ClientCall))
       only = λ i h. let from = Contains-from_by_level latest (level_count latest) i h in
           omega (arith, from.0, length_latest);
       whole = λ i low. let in_i : i < length latest = omega (arith, low, length_latest) in
-          Contains-by_level latest (level_count latest) i in_i (level_below_count latest i in_i);
+          Contains-by_level latest (level_count latest) i in_i
+          (level_count-above_each latest i in_i);
       keeps = keeps;
     }
 
@@ -152,16 +154,16 @@ module _ (commands : List (List Op)) (calls : List (Option ClientCall))
         omega (arith, whole, slice_get_within calls j (Some a) at_j) in
         let low' : i < length commands =
         omega (arith, whole, slice_get_within calls i (Some b) at_i) in
-        let up = (at i low').above i (up_refl commands i) in
+        let up = (at i low').above i (ConflictsUpTo-refl commands i) in
         let time : own i ≡ suc b.invoked = ap time_of at_i in
         before j i low low'
         (inl (omega (arith, returns_late j t a at_j returned low, up, time, less)))
 
-    pub real_time_order : HasRealTimeOrder commands calls
-    real_time_order = (positions, arranged, in_time)
+    pub HasRealTimeOrder-by_level : HasRealTimeOrder commands calls
+    HasRealTimeOrder-by_level = (positions, arranged, in_time)
 
-pub keeps_real_time : (commands : List (List Op)) (calls : List (Option ClientCall))
+pub HasRealTimeOrder-none_late : (commands : List (List Op)) (calls : List (Option ClientCall))
     → length calls ≡ length commands → NoneLate commands calls → HasRealTimeOrder commands calls
-keeps_real_time commands calls whole none =
-    let found = greatest_exist commands (λ i. time_of (slice_get calls i)) (length commands) in
-    real_time_order commands calls whole none found.0 found.1 found.2
+HasRealTimeOrder-none_late commands calls whole none =
+    let found = HaveGreatest-exists commands (λ i. time_of (slice_get calls i)) (length commands) in
+    HasRealTimeOrder-by_level commands calls whole none found.0 found.1 found.2

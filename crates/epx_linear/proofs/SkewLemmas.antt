@@ -8,9 +8,9 @@ use Rattle.epx_linear.specs.ClientCalls.{IsHistory}
 use Rattle.epx_linear.specs.Skews.{later_by}
 use Rattle.epx_linear.specs.inner.HistoryReadings.{called_ids}
 
-pub later_history : (skew : ℕ) (h : List ClientCall) → IsHistory h
+pub IsHistory-later_by : (skew : ℕ) (h : List ClientCall) → IsHistory h
     → IsHistory (map (later_by skew) h)
-later_history skew h history =
+IsHistory-later_by skew h history =
     AllPairs-from_slice_get (λ (a b : ClientCall). a.id ≢ b.id) (map (later_by skew) h)
     (λ i j a b less at to same.
     let before = slice_get-from_map (later_by skew) h i a at in
@@ -19,7 +19,7 @@ later_history skew h history =
     before.1 after.1
     (ap (λ (c : ClientCall). c.id) before.2 ∙ same ∙ sym (ap (λ (c : ClientCall). c.id) after.2)))
 
-pub later_ids : (skew : ℕ) (h : List ClientCall)
+pub called_ids-later_by : (skew : ℕ) (h : List ClientCall)
     → called_ids (map (later_by skew) h) ≡ called_ids h
-later_ids skew [] = refl
-later_ids skew (c ∷ h) = ap (λ (ids : List Id). c.id ∷ ids) (later_ids skew h)
+called_ids-later_by skew [] = refl
+called_ids-later_by skew (c ∷ h) = ap (λ (ids : List Id). c.id ∷ ids) (called_ids-later_by skew h)

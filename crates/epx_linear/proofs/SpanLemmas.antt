@@ -21,7 +21,7 @@ use Rattle.epx_types.proofs.Common.{Contains-slice_get, map_push}
 use Rattle.epx_types.proofs.Common.{Contains-from_map, Contains-permutation, IsPermutation-map}
 use Rattle.epx_types.proofs.Common.{IsPermutation-sym, IsDistinct-IsPermutation, id_cmp, UpTo}
 use Rattle.epx_types.proofs.Common.{AllPairs-from_IsDistinct, IsDistinct-from_AllPairs}
-use Rattle.epx_types.proofs.Common.{ids_decide, ids_flip, list_any, id_cmp_total}
+use Rattle.epx_types.proofs.Common.{id_eq-Decides, id_eq-sym, list_any, id_cmp-IsTotalOrder}
 use Rattle.epx_types.proofs.Common.{id_cmp-IsAntisymmetric}
 use Rattle.epx_types.proofs.lists.ListPositionLemmas.{slice_get-map}
 use Rattle.epx_types.specs.declared.id.Id.{Id}
@@ -55,7 +55,7 @@ module _ {X : Type 0} (id_of : X → Id) (xs : List X)
   fresh =
       elim (cases_Bool (list_any (same_id (id_of s)) (map id_of (take i xs)))) [
         | inl known ↦
-            let h = Contains-from_any {eq = same_id} (λ x y e. (ids_decide x y).0 e)
+            let h = Contains-from_any {eq = same_id} (λ x y e. (id_eq-Decides x y).0 e)
             (id_of s) (map id_of (take i xs)) known in
             let from = slice_get-from_Contains (map id_of (take i xs)) (id_of s) h in
             let before = slice_get-from_map id_of (take i xs) from.0 (id_of s) from.1 in
@@ -69,10 +69,10 @@ module _ {X : Type 0} (id_of : X → Id) (xs : List X)
       ]
 
   -- the keys of a table after one more Id, which is new
-  pub one_more_id : (x : Id) → x ≡ id_of (get_or xs i d) → (keys : List Id)
+  pub map-take_new_id : (x : Id) → x ≡ id_of (get_or xs i d) → (keys : List Id)
       → keys ≡ map id_of (take i xs)
       → (if list_any (same_id x) keys then keys else keys ++ x ∷ []) ≡ map id_of (take (i + 1) xs)
-  one_more_id x at keys is =
+  map-take_new_id x at keys is =
       let new : list_any (same_id x) keys ≡ false =
       ap₂ (λ (y : Id) (l : List Id). list_any (same_id y) l) at is ∙ fresh in
       let longer : map id_of (take (i + 1) xs) ≡ map id_of (take i xs) ++ id_of s ∷ [] =
@@ -89,7 +89,7 @@ span_cmp a b = ordering_then (nat_cmp a.invoked b.invoked)
 span_cmp_total : IsTotalOrder span_cmp
 span_cmp_total =
     then_total (on_total (λ (s : Span). s.invoked) nat_cmp_total)
-    (then_total (on_total id_of_span (back_total id_cmp_total))
+    (then_total (on_total id_of_span (back_total id_cmp-IsTotalOrder))
     (then_total (on_total (λ (s : Span). s.returned) (options_total nat_cmp_total))
     (on_total (λ (s : Span). s.at) nat_cmp_total)))
 
@@ -122,7 +122,7 @@ up_to a b not_below =
                     (true≢false (ap (λ r. is_lt (ordering_then r opt)) (sym f) ∙ by_id))
                 | Equal ↦ λ f. inl (sym (id_cmp-IsAntisymmetric x y f))
                 | Greater ↦ λ f. inr
-                    (ap is_lt (id_cmp_total.antisymm y x ∙ ap ordering_reverse f))
+                    (ap is_lt (id_cmp-IsTotalOrder.antisymm y x ∙ ap ordering_reverse f))
               ] refl,
             )
       ]
@@ -133,8 +133,8 @@ up_to a b not_below =
 abbrev call_ids : List ClientCall → List Id
 call_ids h = map (λ c. c.id) h
 
-pub ids_apart : (h : List ClientCall) → IsHistory h → AllPairs (λ x y. x ≢ y) (call_ids h)
-ids_apart h history =
+pub AllPairs-call_ids : (h : List ClientCall) → IsHistory h → AllPairs (λ x y. x ≢ y) (call_ids h)
+AllPairs-call_ids h history =
     AllPairs-from_slice_get (λ x y. x ≢ y) (call_ids h) (λ i j x y l at to.
     let a = slice_get-from_map (λ (c : ClientCall). c.id) h i x at in
     let b = slice_get-from_map (λ (c : ClientCall). c.id) h j y to in
@@ -153,21 +153,21 @@ same_ids (c ∷ h) (s ∷ spans) e =
     (same_ids h spans rest)
 
 -- items in another order have other Ids as before
-pub apart_moved : {X : Type 0} (id_of : X → Id) (old new : List X)
+pub AllPairs-permutation : {X : Type 0} (id_of : X → Id) (old new : List X)
     → AllPairs (λ x y. x ≢ y) (map id_of old) → IsPermutation old new
     → AllPairs (λ x y. x ≢ y) (map id_of new)
-apart_moved id_of old new before moved =
-    AllPairs-from_IsDistinct {eq = same_id} ids_decide (map id_of new)
-    (IsDistinct-IsPermutation same_id ids_flip (map id_of old) (map id_of new)
+AllPairs-permutation id_of old new before moved =
+    AllPairs-from_IsDistinct {eq = same_id} id_eq-Decides (map id_of new)
+    (IsDistinct-IsPermutation same_id id_eq-sym (map id_of old) (map id_of new)
     (IsPermutation-map id_of old new moved)
-    (IsDistinct-from_AllPairs {eq = same_id} ids_decide (map id_of old) before))
+    (IsDistinct-from_AllPairs {eq = same_id} id_eq-Decides (map id_of old) before))
 
 -- one more span
-pub span_more : (h : List ClientCall) (i : ℕ) (d : ClientCall) → i < length h
+pub map-push_span : (h : List ClientCall) (i : ℕ) (d : ClientCall) → i < length h
     → (spans : List Span) → map times_of_span spans ≡ map times_of_call (take i h) → (s : Span)
     → times_of_span s ≡ times_of_call (get_or h i d)
     → map times_of_span (spans ++ s ∷ []) ≡ map times_of_call (take (i + 1) h)
-span_more h i d within spans before s is =
+map-push_span h i d within spans before s is =
     map_push times_of_span spans s
     ∙ ap₂ (λ (l : List (ℕ × (Id × Option ℕ))) (t : ℕ × (Id × Option ℕ)). l ++ t ∷ []) before is
     ∙ sym (ap (map times_of_call) (take_more h i d within)
@@ -178,15 +178,16 @@ module _ (h : List ClientCall) (history : IsHistory h) (old new : List Span)
     (places : (k : ℕ) (s : Span) → slice_get old k ≡ Some s → s.at ≡ k)
     (moved : IsPermutation old new) where
   spans_apart : AllPairs (λ x y. x ≢ y) (map id_of_span new)
-  spans_apart = apart_moved id_of_span old new
-      (subst (AllPairs (λ x y. x ≢ y)) (sym (same_ids h old same)) (ids_apart h history)) moved
+  spans_apart = AllPairs-permutation id_of_span old new
+      (subst (AllPairs (λ x y. x ≢ y)) (sym (same_ids h old same)) (AllPairs-call_ids h history))
+      moved
 
-  pub as_many : length new ≡ length h
-  as_many = length_permutation old new moved ∙ sym (length-map old times_of_span)
+  pub length-sorted_spans : length new ≡ length h
+  length-sorted_spans = length_permutation old new moved ∙ sym (length-map old times_of_span)
       ∙ ap length same ∙ length-map h times_of_call
 
-  pub sorted_spans : IsSortedBy (λ a b. is_lt (span_cmp a b)) new → AreSpansOf h new
-  sorted_spans sorted = record {
+  pub AreSpansOf-sorted : IsSortedBy (λ a b. is_lt (span_cmp a b)) new → AreSpansOf h new
+  AreSpansOf-sorted sorted = record {
     each = λ s in_new.
         let in_old = Contains-permutation new old s (IsPermutation-sym old new moved) in_new in
         let at = slice_get-from_Contains old s in_old in
@@ -212,9 +213,9 @@ module _ (h : List ClientCall) (history : IsHistory h) (old new : List Span)
   }
 
 -- the spans of a history have different places
-pub spans_have_places : (h : List ClientCall) (spans : List Span) → AreSpansOf h spans
+pub HavePlaces-spans : (h : List ClientCall) (spans : List Span) → AreSpansOf h spans
     → length spans ≡ length h → HavePlaces spans
-spans_have_places h spans are len = record {
+HavePlaces-spans h spans are len = record {
   within = λ r s at.
       let c = are.each s (Contains-slice_get spans r s at) in
       omega (arith, len, slice_get_within h s.at c.0 c.1);

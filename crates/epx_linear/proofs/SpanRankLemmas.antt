@@ -15,9 +15,9 @@ pub record AreNoted (spans : List Span) (i : ℕ) (ranks : List ℕ) : Type 0 wh
   pub no_other : (k r : ℕ) → slice_get ranks k ≡ Some (suc r)
       → (s : Span) × (slice_get spans r ≡ Some s) × (s.at ≡ k)
 
-pub none_noted : (spans : List Span) (n : ℕ) → n ≡ length spans
+pub AreNoted-nil : (spans : List Span) (n : ℕ) → n ≡ length spans
     → AreNoted spans 0 (replicate n 0)
-none_noted spans n len = record {
+AreNoted-nil spans n len = record {
   len = length-replicate {A = ℕ} n 0 ∙ len;
   each = λ r s less at. absurd (omega (arith, less));
   no_other = λ k r read.
@@ -32,17 +32,17 @@ none_noted spans n len = record {
       absurd (omega (arith, zero_there));
 }
 
-pub all_noted : (spans : List Span) (i : ℕ) (ranks : List ℕ) → i ≡ length spans
+pub AreRanksOf-noted : (spans : List Span) (i : ℕ) (ranks : List ℕ) → i ≡ length spans
     → AreNoted spans i ranks → AreRanksOf spans ranks
-all_noted spans i ranks all are = record {
+AreRanksOf-noted spans i ranks all are = record {
   each = λ r s at. are.each r s (omega (arith, slice_get_within spans r s at, all)) at;
   no_other = are.no_other;
 }
 
-pub rank_within : (spans : List Span) (ranks : List ℕ) → AreRanksOf spans ranks → (k n : ℕ)
+pub AreRanksOf-within : (spans : List Span) (ranks : List ℕ) → AreRanksOf spans ranks → (k n : ℕ)
     → slice_get ranks k ≡ Some n → n ≤ length spans
-rank_within spans ranks are k zero read = omega arith
-rank_within spans ranks are k (suc r) read =
+AreRanksOf-within spans ranks are k zero read = omega arith
+AreRanksOf-within spans ranks are k (suc r) read =
     let span = are.no_other k r read in
     omega (arith, slice_get_within spans r span.0 span.1)
 
@@ -79,8 +79,8 @@ module _ (spans : List Span) (have : HavePlaces spans) (i : ℕ) (ranks : List �
       ∙ ap Some (sym (get_or-set_other ranks s.at k (suc i) 0 other)
       ∙ get_or_from_slice_get more k n 0 read)
 
-  pub one_more_noted : AreNoted spans (i + 1) (set ranks s.at (suc i))
-  one_more_noted = record {
+  pub AreNoted-set : AreNoted spans (i + 1) (set ranks s.at (suc i))
+  AreNoted-set = record {
     len = length-set ranks s.at (suc i) ∙ are.len;
     each = λ r t less to. elim (cases_eq r i) [
       | inl same ↦

@@ -1,5 +1,5 @@
 //! The text of the answer about a history.
-ghost use Rattle.std.specs.Prelude.{◌≡◌, ◌++◌, [], length, map, flat_map, zip, option_map, IfOk};
+ghost use Rattle.std.specs.Prelude.{◌≡◌, ◌++◌, flat_map, zip, option_map, IfOk};
 ghost use Rattle.std.specs.Prelude.{OnOk, option_and_then, slice_get};
 ghost use Rattle.epx_linear.specs.ClientCalls.{IsHistory, calls_at, calls_in};
 ghost use Rattle.epx_linear.specs.LinearTexts.{is_answered_otherwise, findings_at};

@@ -1,12 +1,12 @@
 //! Reads a line of a history from its JSON value.
 ghost use Rattle.std.specs.Prelude.{◌≡◌, IfOk};
 ghost use Rattle.serde_json.specs.View.{view};
-ghost use Rattle.epx_report.specs.Forms.{is_text};
 ghost use Rattle.epx_linear.specs.HistoryLines.{time_from, time_or_null, is_up_to, call_with};
 ghost use Rattle.epx_linear.specs.HistoryLines.{call_alone, answered_call, call_from};
 
 use crate::client_call::ClientCall;
 use epx_lines::read_id_parts;
+use epx_report::has_text;
 use epx_types::{Memory, Reply};
 use epx_verify::read_reply;
 use serde_json::Value;
@@ -14,16 +14,6 @@ use std::alloc::Global;
 
 /// Each time is below this.
 const END_OF_TIME: u64 = 1 << 63;
-
-/// Whether a value is this text.
-fn has_text(value: &Value, text: &str) -> bool
-    ensures { result ≡ is_text text.now (view value.now) }
-{
-    match value.as_str() {
-        Some(found) => found == text,
-        None => false,
-    }
-}
 
 /// Reads a time. None if the value is no whole number below `END_OF_TIME`.
 #[tactic(auto, unfolding(epx_lines::specs::Elements::whole))]

@@ -4,7 +4,7 @@
 ghost use Rattle.std.specs.Prelude.{◌≡◌, [], ◌∷◌, Some, IfSome, option_and_then};
 ghost use Rattle.serde_json.specs.Data.{Data};
 ghost use Rattle.epx_lines.specs.Meaning.{json_of};
-ghost use Rattle.epx_lines.specs.Tokens.{ReadsValues, ParsesTo};
+ghost use Rattle.epx_lines.specs.between.Tokens.{ReadsValues, ParsesTo};
 ghost use Rattle.epx_verify.specs.SaidLines.{values_of, op_index_of, reply_of};
 ghost use Rattle.epx_linear.specs.HistoryLines.{time_from, time_or_null, call_from};
 ghost use Rattle.epx_linear.specs.inner.AnswerTokens.{answer_from, ParsesToEnd};

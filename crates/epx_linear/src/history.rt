@@ -1,7 +1,6 @@
 //! Reads a history.
 ghost use Rattle.std.specs.Prelude.{◌≡◌, true, IfOk, IfErr, OnOk};
 ghost use Rattle.epx_report.specs.inner.Progress.{some_if};
-ghost use Rattle.epx_linear.specs.ClientCalls.{IsHistory};
 ghost use Rattle.epx_linear.specs.HistoryTexts.{IsHistoryText, IsHistoryFault};
 ghost use Rattle.epx_linear.specs.inner.HistoryReadings.{called_ids, after_call, after_call_line};
 

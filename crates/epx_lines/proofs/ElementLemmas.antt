@@ -27,11 +27,11 @@ joined : {B : Type 0} (done : List B) (y : B) (rest : Option (List B))
 joined done y None = refl
 joined done y (Some ys) = ap Some (sym (append_assoc done (y ∷ []) ys))
 
-pub read_one_more : {A B : Type 0} (f : A → Option B) (xs : List A) (i : ℕ) (x : A) (y : B)
+pub every-one_more : {A B : Type 0} (f : A → Option B) (xs : List A) (i : ℕ) (x : A) (y : B)
     (done : List B) (whole : Option (List B)) → i < length xs → x ≡ get_or xs i x → f x ≡ Some y
     → whole ≡ option_map (λ more. done ++ more) (every f (drop i xs))
     → whole ≡ option_map (λ more. (done ++ y ∷ []) ++ more) (every f (drop (i + 1) xs))
-read_one_more f xs i x y done whole l at is e =
+every-one_more f xs i x y done whole l at is e =
     e ∙ ap (λ rest. option_map (λ more. done ++ more) (every f rest))
     (drop_more xs i x l ∙ ap (λ z. z ∷ drop (i + 1) xs) (sym at))
     ∙ ap (λ o. option_map (λ more. done ++ more)
@@ -51,15 +51,15 @@ no_pair_of_more (a ∷ []) l = absurd (omega arith)
 no_pair_of_more (a ∷ b ∷ []) l = absurd (omega arith)
 no_pair_of_more (a ∷ b ∷ c ∷ vs) l = refl
 
-pub id_of_short : (d : Data) (vs : List Value) → Some (items_view vs) ≡ as_array d → length vs < 2
+pub id_of-short : (d : Data) (vs : List Value) → Some (items_view vs) ≡ as_array d → length vs < 2
     → None ≡ id_of d
 unfolding id_of
-id_of_short d vs e l = rw (← e) (sym (no_pair vs l))
+id_of-short d vs e l = rw (← e) (sym (no_pair vs l))
 
-pub id_of_long : (d : Data) (vs : List Value) → Some (items_view vs) ≡ as_array d → 3 ≤ length vs
+pub id_of-long : (d : Data) (vs : List Value) → Some (items_view vs) ≡ as_array d → 3 ≤ length vs
     → None ≡ id_of d
 unfolding id_of
-id_of_long d vs e l = rw (← e) (sym (no_pair_of_more vs l))
+id_of-long d vs e l = rw (← e) (sym (no_pair_of_more vs l))
 
 no_op : (vs : List Value) → length vs < 2 → op_of_list (list_of (items_view vs)) ≡ None
 no_op [] l = refl
@@ -74,15 +74,15 @@ op_of_list-too_long (a ∷ b ∷ []) l = absurd (omega arith)
 op_of_list-too_long (a ∷ b ∷ c ∷ []) l = absurd (omega arith)
 op_of_list-too_long (a ∷ b ∷ c ∷ e ∷ vs) l = refl
 
-pub op_of_short : (d : Data) (vs : List Value) → Some (items_view vs) ≡ as_array d → length vs < 2
+pub op_of-short : (d : Data) (vs : List Value) → Some (items_view vs) ≡ as_array d → length vs < 2
     → None ≡ op_of d
 unfolding op_of
-op_of_short d vs e l = rw (← e) (sym (no_op vs l))
+op_of-short d vs e l = rw (← e) (sym (no_op vs l))
 
-pub op_of_long : (d : Data) (vs : List Value) → Some (items_view vs) ≡ as_array d → 4 ≤ length vs
+pub op_of-long : (d : Data) (vs : List Value) → Some (items_view vs) ≡ as_array d → 4 ≤ length vs
     → None ≡ op_of d
 unfolding op_of
-op_of_long d vs e l = rw (← e) (sym (op_of_list-too_long vs l))
+op_of-long d vs e l = rw (← e) (sym (op_of_list-too_long vs l))
 
 -- ---- arrays with too many elements, and arrays with few enough
 
@@ -108,36 +108,36 @@ too_many : {B : Type 0} (f : Data → Option B) (n : ℕ) (vs : List Value) → 
 too_many f n vs l = ap (option_and_then (every f))
     (at_most-past n _ (omega (arith, length-list_of vs)))
 
-pub deps_of_many : (self : Id) (d : Data) (vs : List Value) → Some (items_view vs) ≡ as_array d
+pub deps_of-many : (self : Id) (d : Data) (vs : List Value) → Some (items_view vs) ≡ as_array d
     → 256 < length vs → None ≡ deps_of self d
 unfolding deps_of
-deps_of_many self d vs e l = rw (← e, too_many id_of 256 vs l)
+deps_of-many self d vs e l = rw (← e, too_many id_of 256 vs l)
 
 pub ops_of-too_many : (d : Data) (vs : List Value) → Some (items_view vs) ≡ as_array d
     → 64 < length vs → None ≡ ops_of d
 unfolding ops_of
 ops_of-too_many d vs e l = rw (← e, too_many op_of 64 vs l)
 
-pub ops_of_some : (d : Data) (vs : List Value) → Some (items_view vs) ≡ as_array d → length vs ≤ 64
+pub ops_of-some : (d : Data) (vs : List Value) → Some (items_view vs) ≡ as_array d → length vs ≤ 64
     → ops_of d ≡ every (λ v. op_of (view v)) vs
 unfolding ops_of
-ops_of_some d vs e l = rw (← e) (some_elements op_of 64 vs l)
+ops_of-some d vs e l = rw (← e) (some_elements op_of 64 vs l)
 
 same_option : {A : Type 0} (o : Option A) → o ≡ option_map (λ x. x) o
 same_option None = refl
 same_option (Some x) = refl
 
 -- at the start of a loop, no element has been read
-pub ops_begin : (d : Data) (vs items : List Value) (ops : List Op)
+pub ops_of-begin : (d : Data) (vs items : List Value) (ops : List Op)
     → Some (items_view vs) ≡ as_array d → length vs ≤ 64 → items ≡ vs → ops ≡ []
     → ops_of d ≡ option_map (λ more. ops ++ more) (every (λ v. op_of (view v)) (drop 0 items))
-ops_begin d vs items ops e l same none = rw (same, none) (ops_of_some d vs e l ∙ same_option _)
+ops_of-begin d vs items ops e l same none = rw (same, none) (ops_of-some d vs e l ∙ same_option _)
 
-pub ids_begin : (d : Data) (vs items : List Value) (ids : List Id)
+pub each_of_at_most-begin : (d : Data) (vs items : List Value) (ids : List Id)
     → Some (items_view vs) ≡ as_array d → length vs ≤ 256 → items ≡ vs → ids ≡ []
     → each_of_at_most 256 id_of d ≡ option_map (λ more. ids ++ more)
     (every (λ v. id_of (view v)) (drop 0 items))
-ids_begin d vs items ids e l same none =
+each_of_at_most-begin d vs items ids e l same none =
     rw (same, none, ← e) (some_elements id_of 256 vs l ∙ same_option _)
 
 -- ---- a loop: `ahead` takes the results of the rest, `later` all of them but the first

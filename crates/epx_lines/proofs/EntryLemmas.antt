@@ -5,7 +5,8 @@ use Rattle.std.proofs.Common.{Contains, Option, Some, None, option_map, option_a
 use Rattle.std.proofs.Common.{ap, ◌∙◌, arith}
 use Rattle.epx_types.proofs.Common.{false≢true, nat_tests, All-from_recursion, insert_key}
 use Rattle.epx_types.proofs.Common.{AllByRecursion, is_lt, is_eq, match_ordering, ordering_reverse}
-use Rattle.epx_types.proofs.Common.{id_cmp, Below, BelowAll, IsRising, IsWellFormed, id_cmp_total}
+use Rattle.epx_types.proofs.Common.{id_cmp, Below, BelowAll, IsRising, IsWellFormed}
+use Rattle.epx_types.proofs.Common.{id_cmp-IsTotalOrder}
 use Rattle.epx_types.proofs.Common.{BelowAll-trans}
 use Rattle.epx_types.specs.declared.id.Id.{Id}
 use Rattle.epx_types.specs.declared.op.Op.{Op}
@@ -18,7 +19,7 @@ use Rattle.epx_lines.specs.OperationList.{op_of, ops_of}
 -- ---- an insertion keeps the list rising
 
 Below-turned : (x y : Id) → id_cmp x y ≡ Greater → Below y x
-Below-turned x y e = ap is_lt (id_cmp_total.antisymm y x ∙ ap ordering_reverse e)
+Below-turned x y e = ap is_lt (id_cmp-IsTotalOrder.antisymm y x ∙ ap ordering_reverse e)
 
 BelowAll-at : (o : Ordering) (x k y : Id) (ys rest : List Id) → Below x k → BelowAll x (y ∷ ys)
     → BelowAll x rest → BelowAll x (match_ordering o (k ∷ y ∷ ys) (y ∷ ys) (y ∷ rest))
@@ -91,7 +92,7 @@ others-filter self (x ∷ xs) = others-filter_at (is_other self x) self x _ refl
     (others-filter self xs)
 
 not_other : (self : Id) → is_other self self ≡ false
-not_other self = ap (λ o. not (is_eq o)) (tied_itself id_cmp_total self)
+not_other self = ap (λ o. not (is_eq o)) (tied_itself id_cmp-IsTotalOrder self)
 
 not_among : (self : Id) (xs : List Id) → AllOthers self xs → ¬ Contains xs self
 unfolding AllOthers
@@ -154,11 +155,11 @@ module _ {A B : Type 0} where
 
 -- ---- the parts of an entry
 
-pub few_ops : (o : Option Data) (ops : List Op) → Some ops ≡ option_and_then ops_of o
+pub length-ops : (o : Option Data) (ops : List Op) → Some ops ≡ option_and_then ops_of o
     → length ops ≤ 64
 unfolding ops_of
-few_ops None ops e = cc
-few_ops (Some d) ops e = few op_of 64 (elements d) ops (sym e)
+length-ops None ops e = cc
+length-ops (Some d) ops e = few op_of 64 (elements d) ops (sym e)
 
 -- valid dependencies of an entry
 pub record AreValidDeps (self : Id) (deps : List Id) : Type 0 where

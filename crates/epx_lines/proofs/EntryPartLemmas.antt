@@ -10,7 +10,7 @@ use Rattle.serde_json.specs.Find.{get, get_member}
 use Rattle.serde_json.proofs.Views.{get_member-put, get_member-put_other}
 use Rattle.epx_lines.specs.declared.Line.TheVariants.{Entry}
 use Rattle.epx_lines.specs.declared.from_tokens.Parts.{Parts}
-use Rattle.epx_lines.specs.Tokens.{IsMember, HoldsParts}
+use Rattle.epx_lines.specs.between.Tokens.{IsMember, HoldsParts}
 use Rattle.epx_lines.specs.Elements.{whole, each_of_at_most}
 use Rattle.epx_lines.specs.DependencyList.{id_of, rising_others, deps_of}
 use Rattle.epx_lines.specs.OperationList.{ops_of}

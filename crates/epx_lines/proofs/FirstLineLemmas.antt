@@ -50,30 +50,31 @@ all_but_first [] = refl
 all_but_first (b ∷ bs) = grind (arith, common_steps)
 
 -- the rest begins after the line feed
-pub line_before : (bs line more : List ℕ) (k : ℕ)
+pub lines_of-before : (bs line more : List ℕ) (k : ℕ)
     → lines_of bs ≡ take k bs ∷ lines_of (drop 1 (drop k bs)) → line ≡ take k bs → more ≡ drop k bs
     → lines_of bs ≡ line ∷ lines_of (take (length more - 1) (drop 1 more))
-line_before bs line more k first is_line is_more = rw (all_but_first more, is_more, is_line) first
+lines_of-before bs line more k first is_line is_more =
+    rw (all_but_first more, is_more, is_line) first
 
 -- nothing is left after the last line
-pub line_at_end : (bs line more : List ℕ) → lines_of bs ≡ bs ∷ [] → line ≡ take (length bs) bs
+pub lines_of-at_end : (bs line more : List ℕ) → lines_of bs ≡ bs ∷ [] → line ≡ take (length bs) bs
     → more ≡ drop (length bs) bs → lines_of bs ≡ line ∷ lines_of more
-line_at_end bs line more last is_line is_more =
+lines_of-at_end bs line more last is_line is_more =
     rw (is_line, is_more, take-length bs, drop-length bs) last
 
 -- ---- the loop of `cut_lines`
 
 -- one more line is pushed
-pub line_more : (lines after : List (Bor (List ℕ))) (line : Bor (List ℕ)) (rest more : List ℕ)
+pub lines_of-push : (lines after : List (Bor (List ℕ))) (line : Bor (List ℕ)) (rest more : List ℕ)
     (all : List (List ℕ)) → lines_of rest ≡ line.now ∷ lines_of more
     → map (λ x. x.now) lines ++ lines_of rest ≡ all → after ≡ lines ++ line ∷ []
     → map (λ x. x.now) after ++ lines_of more ≡ all
-line_more lines after line rest more all first so_far pushed =
+lines_of-push lines after line rest more all first so_far pushed =
     rw (pushed, map-append, append_assoc, ← first) so_far
 
 -- no bytes are left
-pub line_none : (lines : List (Bor (List ℕ))) (rest : List ℕ) (all : List (List ℕ))
+pub lines_of-none_left : (lines : List (Bor (List ℕ))) (rest : List ℕ) (all : List (List ℕ))
     → length rest ≡ 0 → map (λ x. x.now) lines ++ lines_of rest ≡ all
     → map (λ x. x.now) lines ≡ all
-line_none lines [] all e so_far = sym (append-nil _) ∙ so_far
-line_none lines (b ∷ rest) all e so_far = absurd (omega arith)
+lines_of-none_left lines [] all e so_far = sym (append-nil _) ∙ so_far
+lines_of-none_left lines (b ∷ rest) all e so_far = absurd (omega arith)

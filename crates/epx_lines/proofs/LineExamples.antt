@@ -17,20 +17,20 @@ first_entry = record {
   ops = Put (codes "a") (pos 5) ∷ Get (codes "a") ∷ [];
 }
 
-pub put_and_get : meaning_of
+pub meaning_of-put_and_get : meaning_of
     (codes "{\"r\":0,\"i\":0,\"seq\":1,\"deps\":[],\"ops\":[[\"put\",\"a\",5],[\"get\",\"a\"]]}")
     ≡ Ok (Entry first_entry)
 unfolding lines_on_literals first_entry
-put_and_get = refl
+meaning_of-put_and_get = refl
 
 -- the line that is written for it
-pub put_and_get_written : line_text first_entry
+pub line_text-put_and_get : line_text first_entry
     ≡ codes "{\"deps\":[],\"i\":0,\"ops\":[[\"put\",\"a\",5],[\"get\",\"a\"]],\"r\":0,\"seq\":1}"
 unfolding lines_on_literals first_entry
-put_and_get_written = refl
+line_text-put_and_get = refl
 
 -- a no-op with dependencies out of order, a repeat, and the instance itself among them
-pub unsorted_dependencies : meaning_of
+pub meaning_of-unsorted_deps : meaning_of
     (codes "{\"r\":2,\"i\":0,\"seq\":2,\"deps\":[[1,0],[0,7],[2,0],[1,0]],\"ops\":[]}")
     ≡ Ok (Entry (record {
       id = record { replica = 2; number = 0 };
@@ -39,26 +39,27 @@ pub unsorted_dependencies : meaning_of
       ops = [];
     }))
 unfolding lines_on_literals
-unsorted_dependencies = refl
+meaning_of-unsorted_deps = refl
 
 -- a sequence number with a fraction, before a bad list of operations
-pub sequence_with_fraction : meaning_of
+pub meaning_of-seq_with_fraction : meaning_of
     (codes "{\"r\":0,\"i\":0,\"seq\":1.0,\"deps\":[],\"ops\":7}") ≡ Err Seq
 unfolding lines_on_literals
-sequence_with_fraction = refl
+meaning_of-seq_with_fraction = refl
 
 -- a tab and a carriage return
-pub blank_line : meaning_of (9 ∷ 13 ∷ []) ≡ Ok Blank
-blank_line = refl
+pub meaning_of-blank_line : meaning_of (9 ∷ 13 ∷ []) ≡ Ok Blank
+meaning_of-blank_line = refl
 
 -- an instance that was executed
-pub executed_line : meaning_of
-    (codes "{\"r\":0,\"i\":0,\"seq\":1,\"status\":\"executed\",\"deps\":[],\"ops\":[[\"put\",\"a\",5],[\"get\",\"a\"]]}") ≡ Ok (Entry first_entry)
+pub meaning_of-executed : meaning_of
+    (codes
+    "{\"r\":0,\"i\":0,\"seq\":1,\"status\":\"executed\",\"deps\":[],\"ops\":[[\"put\",\"a\",5],[\"get\",\"a\"]]}") ≡ Ok (Entry first_entry)
 unfolding lines_on_literals first_entry
-executed_line = refl
+meaning_of-executed = refl
 
 -- an instance that is only accepted, with invalid dependencies
-pub accepted_line : meaning_of
+pub meaning_of-accepted : meaning_of
     (codes "{\"r\":0,\"i\":0,\"seq\":1,\"status\":\"accepted\",\"deps\":7,\"ops\":[]}") ≡ Ok Blank
 unfolding lines_on_literals
-accepted_line = refl
+meaning_of-accepted = refl

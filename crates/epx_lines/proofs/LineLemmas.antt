@@ -103,8 +103,8 @@ closed_lines (b ∷ []) = closed_one (eqb b 10) b refl
 closed_lines (b ∷ c ∷ bs) = closed_step (eqb b 10) b (lines_of (c ∷ bs)) refl
     (some_step (eqb c 10) c (lines_of bs)) ∙ ap (λ l. b ∷ l) (closed_lines (c ∷ bs))
 
-pub lines_are : (bs : List ℕ) → AreLinesOf bs (lines_of bs)
-lines_are bs = record {
+pub AreLinesOf-lines_of : (bs : List ℕ) → AreLinesOf bs (lines_of bs)
+AreLinesOf-lines_of bs = record {
   unbroken = unbroken_lines bs;
   whole = closed_lines bs ∙ with_feed-value bs;
 }
@@ -144,8 +144,8 @@ closed_is_unique (l ∷ ls) (m ∷ ms) p q e =
     (λ k d within. q (suc k) d (omega arith)) both.1 in
     ap₂ (λ x xs. x ∷ xs) both.0 more
 
-pub lines_are_one : (bs : List ℕ) (lines : List (List ℕ)) → AreLinesOf bs lines
+pub AreLinesOf-is_unique : (bs : List ℕ) (lines : List (List ℕ)) → AreLinesOf bs lines
     → lines ≡ lines_of bs
-lines_are_one bs lines h =
-    let these = lines_are bs in
+AreLinesOf-is_unique bs lines h =
+    let these = AreLinesOf-lines_of bs in
     closed_is_unique lines (lines_of bs) h.unbroken these.unbroken (h.whole ∙ sym these.whole)

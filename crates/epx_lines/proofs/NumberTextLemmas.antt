@@ -13,7 +13,7 @@ use Rattle.std.specs.Str.Parse.{AllDigits, digits_value}
 use Rattle.serde_json.specs.Data.{unsigned}
 use Rattle.serde_json.specs.Find.{of_integer}
 use Rattle.serde_json.specs.Read.{number_of, number_from}
-use Rattle.epx_lines.specs.Tokens.{AreDigitsOf}
+use Rattle.epx_lines.specs.between.Tokens.{AreDigitsOf}
 
 -- a text of only digits
 abbrev digits_alone : List ℕ → Parts
@@ -78,10 +78,10 @@ number_of-minus text (suc n) minus h some l =
 digit_of : (c : ℕ) → IsInRange 48 57 c → (digit_value c < 10) × (digit_value c ≡ c - 48)
 digit_of c h = (grind (arith, nat_tests), grind (arith, nat_tests))
 
-pub one_digit_more : (text : List ℕ) (i n : ℕ) → AllDigits 10 (take i text)
+pub AllDigits-more : (text : List ℕ) (i n : ℕ) → AllDigits 10 (take i text)
     → digits_value 10 (take i text) ≡ n → i < length text → IsInRange 48 57 (get_or text i 0)
     → AllDigits 10 (take (i + 1) text)
     × (digits_value 10 (take (i + 1) text) ≡ n * 10 + (get_or text i 0 - 48))
-one_digit_more text i n all value l range =
+AllDigits-more text i n all value l range =
     let digit = digit_of (get_or text i 0) range in
     (digits_more 10 text i l all digit.0, rw (digits_value_more 10 text i l, value, digit.1))

@@ -3,25 +3,25 @@ use Rattle.std.proofs.Common.{◌≡◌, true, not, Ordering, Less, Equal, Great
 use Rattle.std.proofs.Common.{filter, fold, Contains, refl, sym, ap, ◌∙◌, subst, append-nil}
 use Rattle.epx_types.proofs.Common.{append_assoc, insert_key, is_eq, ordering_reverse, id_cmp}
 use Rattle.epx_types.proofs.Common.{Below, BelowAll, IsRising, Contains-head, Contains-cons}
-use Rattle.epx_types.proofs.Common.{id_cmp_total, id_cmp-IsAntisymmetric, Less-is_lt}
+use Rattle.epx_types.proofs.Common.{id_cmp-IsTotalOrder, id_cmp-IsAntisymmetric, Less-is_lt}
 use Rattle.epx_types.specs.declared.id.Id.{Id}
 use Rattle.epx_lines.specs.DependencyList.{is_other, rising_others}
 
 -- ---- each Id goes last
 
 above : (x y : Id) → Below y x → id_cmp x y ≡ Greater
-above x y h = id_cmp_total.antisymm x y ∙ ap ordering_reverse (Less-is_lt _ h)
+above x y h = id_cmp-IsTotalOrder.antisymm x y ∙ ap ordering_reverse (Less-is_lt _ h)
 
 first_below : (found : List Id) (y x : Id) (xs : List Id) → BelowAll y (found ++ x ∷ xs)
     → Below y x
 first_below [] y x xs h = h.0
 first_below (z ∷ found) y x xs h = first_below found y x xs h.1
 
-pub insert_last : (found : List Id) (x : Id) (xs : List Id) → IsRising (found ++ x ∷ xs)
+pub insert_key-last : (found : List Id) (x : Id) (xs : List Id) → IsRising (found ++ x ∷ xs)
     → insert_key id_cmp found x ≡ found ++ x ∷ []
-insert_last [] x xs h = refl
-insert_last (y ∷ found) x xs h =
-    rw (above x y (first_below found y x xs h.0)) (ap (λ l. y ∷ l) (insert_last found x xs h.1))
+insert_key-last [] x xs h = refl
+insert_key-last (y ∷ found) x xs h =
+    rw (above x y (first_below found y x xs h.0)) (ap (λ l. y ∷ l) (insert_key-last found x xs h.1))
 
 fold_rising : (found xs : List Id) → IsRising (found ++ xs)
     → fold (insert_key id_cmp) found xs ≡ found ++ xs
@@ -29,7 +29,7 @@ fold_rising found [] h = sym (append-nil found)
 fold_rising found (x ∷ xs) h =
     let next = append_assoc found (x ∷ []) xs in
     let rising : IsRising ((found ++ x ∷ []) ++ xs) = subst IsRising (sym next) h in
-    ap (λ l. fold (insert_key id_cmp) l xs) (insert_last found x xs h)
+    ap (λ l. fold (insert_key id_cmp) l xs) (insert_key-last found x xs h)
     ∙ fold_rising (found ++ x ∷ []) xs rising ∙ next
 
 -- ---- no Id is the instance itself

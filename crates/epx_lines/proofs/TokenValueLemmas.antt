@@ -19,7 +19,7 @@ use Rattle.serde_json.specs.Find.{as_number, as_u64, of_integer}
 use Rattle.serde_json.specs.Read.{number_of, of_json, of_items, of_members, converted, max_depth}
 use Rattle.serde_json.specs.Read.{read}
 use Rattle.serde_json.specs.View.{items_of}
-use Rattle.epx_lines.specs.Tokens.{ReadsValue, ParsesTo, ReadsValues, ParsesAllTo}
+use Rattle.epx_lines.specs.between.Tokens.{ReadsValue, ParsesTo, ReadsValues, ParsesAllTo}
 use Rattle.epx_lines.specs.DependencyList.{id_of_pair}
 use Rattle.epx_lines.specs.OperationList.{key_of, op_with_key, op_with_value, op_of_list}
 use Rattle.epx_lines.specs.Elements.{below, whole, signed, list_of, elements, at_most, every}

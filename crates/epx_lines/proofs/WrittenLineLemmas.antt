@@ -50,9 +50,9 @@ depth-object_of e =
     )
 
 -- the written object reads as that object
-pub reads_back : (e : Instance) (text : List ℕ) (d : Data) → d ≡ object_of e
+pub read-object : (e : Instance) (text : List ℕ) (d : Data) → d ≡ object_of e
     → (depth d ≤ max_depth → read text ≡ Some d) → read text ≡ Some (object_of e)
-reads_back e text d is reads =
+read-object e text d is reads =
     let P : Data → Type 0 = λ d. depth d ≤ max_depth → read text ≡ Some d in
     subst P is reads (depth-object_of e)
 

@@ -58,10 +58,10 @@ length-quoted k h = omega (arith, length-append (escape k) (34 ∷ []), length-e
 
 -- ---- dependencies
 
-pub FitsId_here : (r i : ℕ) → r < 256 → i < 2 ^ 64
+pub IsWritableId-within : (r i : ℕ) → r < 256 → i < 2 ^ 64
     → IsWritableId (record { replica = r; number = i })
 unfolding id_of
-FitsId_here r i p q = record {
+IsWritableId-within r i p q = record {
   reads = rw (whole-fits 256 r p, whole-fits (2 ^ 64) i q);
   short = omega (
     arith,

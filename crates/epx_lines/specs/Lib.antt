@@ -3,7 +3,6 @@ pub mod Elements
 pub mod DependencyList
 pub mod OperationList
 pub mod Meaning
-pub mod Faults
-pub mod Tokens
 pub mod Text
+pub mod between
 pub mod inner

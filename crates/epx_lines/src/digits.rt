@@ -4,7 +4,7 @@ ghost use Rattle.std.specs.Prelude.{◌≡◌, ◌^◌, ◌<◌, ◌≤◌, pos,
 ghost use Rattle.serde_json.specs.Data.{unsigned};
 ghost use Rattle.serde_json.specs.Find.{of_integer};
 ghost use Rattle.serde_json.specs.Read.{number_of};
-ghost use Rattle.epx_lines.specs.Tokens.{AreDigitsOf};
+ghost use Rattle.epx_lines.specs.between.Tokens.{AreDigitsOf};
 
 /// A number below this can take one more digit without overflow.
 const DIGIT_LIMIT: u64 = 1 << 60;

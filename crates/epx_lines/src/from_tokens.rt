@@ -1,7 +1,7 @@
 //! Reads an instance from the tokens of its line, without a JSON value of the whole line. Each
 //! function takes the part that it is named after from the front of the tokens. None is not a
 //! fault: the caller then reads the line as a JSON value.
-ghost use Rattle.std.specs.Prelude.{◌≡◌, ◌↔◌, ◌^◌, true, Ok, Some, IfSome, IsTrue};
+ghost use Rattle.std.specs.Prelude.{◌≡◌, ◌↔◌, true, Ok, Some, IfSome, IsTrue};
 ghost use Rattle.serde_json.specs.Data.{Members, object};
 ghost use Rattle.epx_types.specs.SmallLists.{items_of};
 ghost use Rattle.epx_types.specs.declared.fault.Why.TheVariants.{NotJson};
@@ -11,7 +11,7 @@ ghost use Rattle.epx_lines.specs.Elements.{whole, each_of_at_most};
 ghost use Rattle.epx_lines.specs.Meaning.{json_of, need, is_committed, meaning_of_value};
 ghost use Rattle.epx_lines.specs.Meaning.{meaning_of_object};
 ghost use Rattle.epx_lines.specs.OperationList.{op_with_value, op_of, ops_of};
-ghost use Rattle.epx_lines.specs.Tokens.{ReadsValue, ParsesTo, HoldsParts, AddsMember};
+ghost use Rattle.epx_lines.specs.between.Tokens.{ReadsValue, ParsesTo, HoldsParts, AddsMember};
 
 use crate::deps::sort_other_ids;
 use crate::digits::read_signed;

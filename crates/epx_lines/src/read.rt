@@ -8,7 +8,7 @@ ghost use Rattle.epx_lines.specs.Meaning.{is_blank, json_of, need, at_member, is
 ghost use Rattle.epx_lines.specs.Meaning.{meaning_of_object, meaning_of_value, meaning_of};
 ghost use Rattle.epx_lines.specs.DependencyList.{deps_of};
 ghost use Rattle.epx_lines.specs.OperationList.{ops_of};
-ghost use Rattle.epx_lines.specs.Faults.{IsFaultOf};
+ghost use Rattle.epx_lines.specs.between.Faults.{IsFaultOf};
 
 use crate::deps::{read_deps, read_number, read_replica};
 use crate::from_tokens::{ListBuffers, entry_from_tokens};

@@ -1,11 +1,11 @@
 //! Takes parts of a line from the front of its tokens, without a JSON value. None is not a fault:
 //! the caller then reads the line as a JSON value.
-ghost use Rattle.std.specs.Prelude.{◌≡◌, ◌^◌, IfSome};
+ghost use Rattle.std.specs.Prelude.{◌^◌, IfSome};
 ghost use Rattle.serde_json.specs.Data.{string};
 ghost use Rattle.epx_lines.specs.DependencyList.{id_of_pair};
 ghost use Rattle.epx_lines.specs.Elements.{whole, signed};
 ghost use Rattle.epx_lines.specs.OperationList.{key_of, value_or_null};
-ghost use Rattle.epx_lines.specs.Tokens.{ReadsValue, ParsesTo, ParsesAllTo};
+ghost use Rattle.epx_lines.specs.between.Tokens.{ReadsValue, ParsesTo, ParsesAllTo};
 
 use crate::digits::{read_signed, read_unsigned};
 use epx_types::{Id, Key};

@@ -8,35 +8,35 @@ use Rattle.epx_merge.specs.Refusals.{NoneTooLong}
 use Rattle.epx_devices.specs.Deliveries.{DeliversAll, IsLogStop}
 use Rattle.epx_devices.specs.Models.{SourceModel}
 use Rattle.epx_merge.specs.DeliveredLogs.{FirstDeliver, StopsReading}
-use Rattle.epx_merge.specs.SourceReadings.{AreDeliveredUpTo}
+use Rattle.epx_merge.specs.between.SourceReadings.{AreDeliveredUpTo}
 
 module _ {S : Type 0} (D : SourceModel S) where
   -- one more source is read
-  pub delivered_step : (first now : List S) (read : List (List ℕ)) (n : ℕ) (d later : S)
+  pub FirstDeliver-step : (first now : List S) (read : List (List ℕ)) (n : ℕ) (d later : S)
       (log : List ℕ) → length read ≡ n → n < length first → length now ≡ length first
       → FirstDeliver D first now read → DeliversAll D (get_or first n d) later log
       → FirstDeliver D first (set now n later) (read ++ log ∷ [])
-  delivered_step [] now read n d later log count l many h all = absurd (omega arith)
-  delivered_step (s ∷ first) [] read n d later log count l many h all = absurd (omega arith)
-  delivered_step (s ∷ first) (t ∷ now) [] zero d later log count l many h all = (all, tt)
-  delivered_step (s ∷ first) (t ∷ now) [] (suc n) d later log count l many h all =
+  FirstDeliver-step [] now read n d later log count l many h all = absurd (omega arith)
+  FirstDeliver-step (s ∷ first) [] read n d later log count l many h all = absurd (omega arith)
+  FirstDeliver-step (s ∷ first) (t ∷ now) [] zero d later log count l many h all = (all, tt)
+  FirstDeliver-step (s ∷ first) (t ∷ now) [] (suc n) d later log count l many h all =
       absurd (omega arith)
-  delivered_step (s ∷ first) (t ∷ now) (r ∷ read) zero d later log count l many h all =
+  FirstDeliver-step (s ∷ first) (t ∷ now) (r ∷ read) zero d later log count l many h all =
       absurd (omega arith)
-  delivered_step (s ∷ first) (t ∷ now) (r ∷ read) (suc n) d later log count l many h all =
-      let rest = delivered_step first now read n d later log in
+  FirstDeliver-step (s ∷ first) (t ∷ now) (r ∷ read) (suc n) d later log count l many h all =
+      let rest = FirstDeliver-step first now read n d later log in
       (h.0, rest (omega arith) (omega arith) (omega arith) h.1 all)
 
   -- reading one more source does not change those read already
-  pub delivered_unchanged : (first now : List S) (read : List (List ℕ)) (n : ℕ) (later : S)
+  pub FirstDeliver-unchanged : (first now : List S) (read : List (List ℕ)) (n : ℕ) (later : S)
       → length read ≤ n → FirstDeliver D first now read
       → FirstDeliver D first (set now n later) read
-  delivered_unchanged first now [] n later few h = tt
-  delivered_unchanged [] now (log ∷ read) n later few h = absurd h
-  delivered_unchanged (s ∷ first) [] (log ∷ read) n later few h = absurd h
-  delivered_unchanged (s ∷ first) (t ∷ now) (log ∷ read) zero later few h = absurd (omega arith)
-  delivered_unchanged (s ∷ first) (t ∷ now) (log ∷ read) (suc n) later few h =
-      (h.0, delivered_unchanged first now read n later (omega arith) h.1)
+  FirstDeliver-unchanged first now [] n later few h = tt
+  FirstDeliver-unchanged [] now (log ∷ read) n later few h = absurd h
+  FirstDeliver-unchanged (s ∷ first) [] (log ∷ read) n later few h = absurd h
+  FirstDeliver-unchanged (s ∷ first) (t ∷ now) (log ∷ read) zero later few h = absurd (omega arith)
+  FirstDeliver-unchanged (s ∷ first) (t ∷ now) (log ∷ read) (suc n) later few h =
+      (h.0, FirstDeliver-unchanged first now read n later (omega arith) h.1)
 
 none_too_long : (read : List (List ℕ)) → All (λ bytes. length bytes ≤ max_log_bytes) read
     → NoneTooLong read
@@ -46,10 +46,10 @@ none_too_long read h k bytes there =
 
 -- reading source number n stopped with this fault
 module _ {S : Type 0} (D : SourceModel S) (first now : List S) (n : ℕ) (logs : List (List ℕ)) where
-  pub stops_reading : AreDeliveredUpTo D first now n logs → n < length first
+  pub StopsReading-log_stop : AreDeliveredUpTo D first now n logs → n < length first
       → (d later : S) (fault : Fault) → get_or now n d ≡ get_or first n d
       → IsLogStop D n (get_or now n d) later fault → StopsReading D first (set now n later) fault
-  stops_reading h l d later fault same stopped =
+  StopsReading-log_stop h l d later fault same stopped =
       let within : n < length (set now n later) =
       omega (arith, l, h.read.as_many, length-set now n later) in
       let is = slice_get-get_or (set now n later) n later within in
@@ -61,7 +61,7 @@ module _ {S : Type 0} (D : SourceModel S) (first now : List S) (n : ℕ) (logs :
           logs = logs;
           as_many = h.read.count;
           whole =
-              delivered_unchanged D first now logs n later (omega (arith, h.read.count))
+              FirstDeliver-unchanged D first now logs n later (omega (arith, h.read.count))
               h.delivered;
           short = none_too_long logs h.read.short;
         };

@@ -6,8 +6,10 @@ use Rattle.epx_types.proofs.Common.{Contains-head, Contains-cons_cases}
 use Rattle.epx_types.specs.declared.fault.Why.{Why}
 use Rattle.epx_lines.specs.declared.Line.{Line}
 use Rattle.epx_merge.specs.LogLines.{MeaningAt}
-use Rattle.epx_merge.specs.RedundantLines.{IsRedundant, DropsRedundant, IsRedundantIn, IsCacheOf}
-use Rattle.epx_merge.specs.RedundantLines.{CachesAfter, CachesSomeOf, DropsCached, IsNextBatch}
+use Rattle.epx_merge.specs.between.RedundantLines.{IsRedundant, DropsRedundant, IsRedundantIn}
+use Rattle.epx_merge.specs.between.RedundantLines.{IsCacheOf}
+use Rattle.epx_merge.specs.between.RedundantLines.{CachesAfter, CachesSomeOf, DropsCached}
+use Rattle.epx_merge.specs.between.RedundantLines.{IsNextBatch}
 
 -- what is redundant after some lines is redundant after more
 pub IsRedundant-append : (kept more : List MeaningAt) (m : Result Line Why) → IsRedundant kept m
@@ -72,11 +74,11 @@ module _ (cache : List (Result Line Why)) where
       )
 
   -- each of the lines is redundant after the kept ones
-  pub redundant_of_line : (lines kept before : List MeaningAt) (line : MeaningAt)
+  pub IsRedundant-after_kept : (lines kept before : List MeaningAt) (line : MeaningAt)
       → IsCacheOf before cache → DropsCached cache lines kept → Contains lines line
       → IsRedundant (before ++ kept) line.meaning
-  redundant_of_line [] kept before line good h has = absurd (Contains-nil line has)
-  redundant_of_line (l ∷ lines) kept before line good (inl h) has =
+  IsRedundant-after_kept [] kept before line good h has = absurd (Contains-nil line has)
+  IsRedundant-after_kept (l ∷ lines) kept before line good (inl h) has =
       let same : (before ++ l ∷ []) ++ h.0 ≡ before ++ kept =
       append_assoc before (l ∷ []) h.0 ∙ ap (λ k. before ++ k) (sym h.1) in
       subst (λ k. IsRedundant k line.meaning) same (
@@ -87,16 +89,16 @@ module _ (cache : List (Result Line Why)) where
               (Contains-append_right before (l ∷ []) l (Contains-head l [])),
           ap (λ (k : MeaningAt). k.meaning) here,
         )
-        | inr later ↦ redundant_of_line lines h.0 (before ++ l ∷ []) line
+        | inr later ↦ IsRedundant-after_kept lines h.0 (before ++ l ∷ []) line
             (IsCacheOf-append cache before (l ∷ []) good) h.2 later
       ]
       )
-  redundant_of_line (l ∷ lines) kept before line good (inr h) has =
+  IsRedundant-after_kept (l ∷ lines) kept before line good (inr h) has =
       elim (Contains-cons_cases l lines line has) [
         | inl here ↦ subst (λ (k : MeaningAt). IsRedundant (before ++ kept) k.meaning) here
             (IsRedundant-append before kept l.meaning
             (redundant_in_cache cache before l.meaning good h.0))
-        | inr later ↦ redundant_of_line lines kept before line good h.1 later
+        | inr later ↦ IsRedundant-after_kept lines kept before line good h.1 later
       ]
 
 -- ---- lines that go into a cache
@@ -126,9 +128,9 @@ module _ (old walk walk' lines : List MeaningAt) (line : MeaningAt) (next : walk
   gone_more = h.whole ∙ ap (λ l. h.gone ++ l) next ∙ sym (append_assoc h.gone (line ∷ []) walk')
 
   -- a batch with one more line
-  pub batch_more : (lines' : List MeaningAt) → lines' ≡ lines ++ line ∷ []
+  pub IsNextBatch-push : (lines' : List MeaningAt) → lines' ≡ lines ++ line ∷ []
       → IsNextBatch old walk' lines'
-  batch_more lines' pushed = record {
+  IsNextBatch-push lines' pushed = record {
     gone = h.gone ++ line ∷ [];
     whole = gone_more;
     drops = subst (DropsCached [] (h.gone ++ line ∷ [])) (sym pushed)
@@ -137,8 +139,8 @@ module _ (old walk walk' lines : List MeaningAt) (line : MeaningAt) (next : walk
   }
 
   -- a blank line is skipped
-  pub batch_blank : IsRedundantIn [] line.meaning → IsNextBatch old walk' lines
-  batch_blank blank = record {
+  pub IsNextBatch-blank : IsRedundantIn [] line.meaning → IsNextBatch old walk' lines
+  IsNextBatch-blank blank = record {
     gone = h.gone ++ line ∷ [];
     whole = gone_more;
     drops = subst (DropsCached [] (h.gone ++ line ∷ [])) (append-nil lines)
@@ -153,5 +155,5 @@ IsCacheOf-more cache before lines kept good h cache' more m has =
     elim (more m has) [
       | inl older ↦ IsRedundant-append before kept m (good m older)
       | inr some ↦ subst (IsRedundant (before ++ kept)) some.2
-          (redundant_of_line cache lines kept before some.0 good h some.1)
+          (IsRedundant-after_kept cache lines kept before some.0 good h some.1)
     ]

@@ -5,12 +5,12 @@ use Rattle.epx_types.proofs.Common.{cases_lt, Instance, max_logs, max_log_bytes}
 use Rattle.epx_types.specs.declared.fault.Fault.{Fault}
 use Rattle.epx_types.specs.declared.fault.Fault.TheVariants.{TooManyLogs, LogTooLong, BadLine}
 use Rattle.epx_types.specs.declared.fault.Fault.TheVariants.{Memory}
-use Rattle.epx_committed.proofs.MergedLinesLemmas.{merged_or_fault}
+use Rattle.epx_committed.proofs.MergedLinesLemmas.{IsMerged-or_fault}
 use Rattle.epx_merge.specs.LogLines.{placed_of, BadLineAt, bad_lines_of}
 use Rattle.epx_merge.specs.Refusals.{IsFirstTooLong, NoneTooLong, AreWellFormed, IsRefusal}
 use Rattle.epx_merge.specs.Acceptance.{IsAccepted}
-use Rattle.epx_merge.proofs.AnswerLemmas.{fault_refuses, merged_accepts}
-use Rattle.epx_merge.proofs.PlaceOrderLemmas.{placed_in_order}
+use Rattle.epx_merge.proofs.AnswerLemmas.{IsRefusal-from_merge_fault, IsAccepted-from_merged}
+use Rattle.epx_merge.proofs.PlaceOrderLemmas.{IsSortedByPlace-placed_of}
 
 -- ---- the least log that is too long
 
@@ -30,13 +30,14 @@ first_later : (l : List ℕ) (logs : List (List ℕ)) (n : ℕ) → length l ≤
 first_later l logs n fits first zero bytes lower e = within_limit l bytes fits e
 first_later l logs n fits first (suc k) bytes lower e = first.first k bytes (omega arith) e
 
-pub long_cases : (logs : List (List ℕ)) → NoneTooLong logs ⊎ ((log : ℕ) × IsFirstTooLong logs log)
-long_cases [] = inl (λ k bytes e. absurd (cc e))
-long_cases (l ∷ logs) =
+pub NoneTooLong-cases : (logs : List (List ℕ)) → NoneTooLong logs
+    ⊎ ((log : ℕ) × IsFirstTooLong logs log)
+NoneTooLong-cases [] = inl (λ k bytes e. absurd (cc e))
+NoneTooLong-cases (l ∷ logs) =
     elim (cases_lt max_log_bytes (length l)) [
       | inl long ↦ inr
           (0, record { long = (l, refl, long); first = λ k bytes lower e. absurd (omega arith) })
-      | inr fits ↦ elim (long_cases logs) [
+      | inr fits ↦ elim (NoneTooLong-cases logs) [
         | inl none ↦ inl (none_too_long l logs fits none)
         | inr later ↦ inr (
           suc later.0,
@@ -53,9 +54,9 @@ Answered logs = ((m : List Instance) × IsAccepted logs m)
 
 answer_of_whole : (logs : List (List ℕ)) → AreWellFormed logs → Answered logs
 answer_of_whole logs whole =
-    elim (merged_or_fault (placed_of logs) (placed_in_order logs)) [
-      | inl m ↦ inl (m.0, merged_accepts logs whole m.0 m.1)
-      | inr f ↦ inr (f.0, f.1, fault_refuses logs whole f.0 f.2)
+    elim (IsMerged-or_fault (placed_of logs) (IsSortedByPlace-placed_of logs)) [
+      | inl m ↦ inl (m.0, IsAccepted-from_merged logs whole m.0 m.1)
+      | inr f ↦ inr (f.0, f.1, IsRefusal-from_merge_fault logs whole f.0 f.2)
     ]
 
 answer_of_fitting : (logs : List (List ℕ)) → length logs ≤ max_logs → NoneTooLong logs
@@ -66,12 +67,12 @@ answer_of_fitting logs few none = by (bad_lines_of logs) refl where
   by (s ∷ rest) bad = inr (BadLine s.place s.why, (λ same. cc same), ((few, none), (rest, bad)))
 
 -- every list of logs is accepted or refused
-pub answered_always : (logs : List (List ℕ))
+pub IsAccepted-or_refused : (logs : List (List ℕ))
     → ((m : List Instance) × IsAccepted logs m) ⊎ ((f : Fault) × (f ≢ Memory) × IsRefusal logs f)
-answered_always logs =
+IsAccepted-or_refused logs =
     elim (cases_lt max_logs (length logs)) [
       | inl many ↦ inr (TooManyLogs, (λ same. cc same), many)
-      | inr few ↦ elim (long_cases logs) [
+      | inr few ↦ elim (NoneTooLong-cases logs) [
         | inl none ↦ answer_of_fitting logs few none
         | inr long ↦ inr (LogTooLong long.0, (λ same. cc same), (few, long.1))
       ]

@@ -11,17 +11,18 @@ use Rattle.std.proofs.Math.Seq.{drop-length}
 use Rattle.epx_types.specs.declared.fault.Fault.TheVariants.{Memory}
 use Rattle.epx_lines.specs.Lines.{lines_of}
 use Rattle.epx_devices.specs.Models.{SourceModel}
-use Rattle.epx_devices.specs.LogParts.{EndsLog, EndsPart, IsFrontOfLog, IsReadUpTo}
+use Rattle.epx_devices.specs.between.LogParts.{EndsLog, EndsPart, IsFrontOfLog, IsReadUpTo}
 use Rattle.epx_devices.specs.declared.transfer.LogPart.{LogPart}
-use Rattle.epx_devices.proofs.TransferLemmas.{IsReadUpTo-none, out_of_memory}
+use Rattle.epx_devices.proofs.TransferLemmas.{IsReadUpTo-none, EndsLog-out_of_memory}
 use Rattle.epx_merge.specs.LogLines.{MeaningAt, meanings_in, meanings_of}
-use Rattle.epx_merge.specs.RedundantLines.{DropsCached}
+use Rattle.epx_merge.specs.between.RedundantLines.{DropsCached}
 use Rattle.epx_merge.specs.LogParts.{EndsLine, lines_so_far}
-use Rattle.epx_merge.proofs.LogPartLemmas.{few_lines, lines_after_log, lines_after_part}
-use Rattle.epx_merge.proofs.LogPartLemmas.{lines_counted, lines_of_part}
+use Rattle.epx_merge.proofs.LogPartLemmas.{length-lines_of_bound, lines_so_far-next_log}
+use Rattle.epx_merge.proofs.LogPartLemmas.{lines_so_far-part}
+use Rattle.epx_merge.proofs.LogPartLemmas.{length-lines_of_append, lines_of_part}
 use Rattle.epx_merge.specs.declared.gathered_lines.ReadPosition.{ReadPosition}
 use Rattle.epx_merge.specs.inner.Gathered.{AreGathered, AreReadOnward, IsNextBegun, most_unread}
-use Rattle.epx_merge.specs.SourceReadings.{AreDeliveredUpTo, EndsReading}
+use Rattle.epx_merge.specs.between.SourceReadings.{AreDeliveredUpTo, EndsReading}
 use Rattle.epx_merge.proofs.SourceReadingLemmas as reading
 
 -- what is put in a place a second time stays there
@@ -42,15 +43,15 @@ module _ {S : Type 0} (D : SourceModel S) (first now : List S)
     (few : length now ≤ max_logs) (ended : List (List ℕ)) (bytes : List ℕ)
     (h : AreReadOnward D first now ended bytes) where
   -- the number of sources stays
-  pub as_many : length now ≡ length first
-  as_many = by h.begun where
+  pub length-gathered : length now ≡ length first
+  length-gathered = by h.begun where
     by : IsNextBegun D h.before now (length ended) bytes → length now ≡ length first
     by (inl (same, none)) = ap length same ∙ h.read.read.as_many
     by (inr (source, within, same, read, short)) = ap length same
         ∙ length-set h.before (length ended) source ∙ h.read.read.as_many
 
   few_first : length first ≤ max_logs
-  few_first = omega (arith, as_many, few)
+  few_first = omega (arith, length-gathered, few)
 
   module _ (within : length ended < length now) (d : S) where
     -- the source as it was before its first byte was read
@@ -58,11 +59,11 @@ module _ {S : Type 0} (D : SourceModel S) (first now : List S)
     origin = get_or h.before (length ended) d
 
     within_before : length ended < length h.before
-    within_before = omega (arith, as_many, h.read.read.as_many, within)
+    within_before = omega (arith, length-gathered, h.read.read.as_many, within)
 
-    pub read_so_far : IsReadUpTo D origin (get_or now (length ended) d)
+    pub IsReadUpTo-onward : IsReadUpTo D origin (get_or now (length ended) d)
         bytes × (length bytes ≤ max_log_bytes)
-    read_so_far = by h.begun where
+    IsReadUpTo-onward = by h.begun where
       n : ℕ
       n = length ended
 
@@ -102,14 +103,14 @@ module _ {S : Type 0} (D : SourceModel S) (first now : List S)
         subst (λ sources. MatchResult result
         (λ log. AreDeliveredUpTo D first sources (length ended + 1) (ended ++ log ∷ []))
         (λ f. EndsReading D first sources (Err f))) (set_here later)
-        (reading.next_log D first h.before (length ended) ended
-        h.read few_first (omega (arith, as_many, within)) d later result ends)
+        (reading.AreDeliveredUpTo-next_log D first h.before (length ended) ended
+        h.read few_first (omega (arith, length-gathered, within)) d later result ends)
 
     -- the next log begins once this one is read
-    pub next_begins : (later : S) (log : List ℕ)
+    pub AreReadOnward-next_log : (later : S) (log : List ℕ)
         → EndsLog D (length ended) origin later (Ok log)
         → AreReadOnward D first (set now (length ended) later) (ended ++ log ∷ []) []
-    next_begins later log ends =
+    AreReadOnward-next_log later log ends =
         let read = log_ended later (Ok log) ends in
         record {
           before = set now (length ended) later;
@@ -120,18 +121,18 @@ module _ {S : Type 0} (D : SourceModel S) (first now : List S)
         }
 
     -- the log is read, and then memory is out
-    pub no_room_after : (later : S) (log : List ℕ)
+    pub EndsReading-memory_after_log : (later : S) (log : List ℕ)
         → EndsLog D (length ended) origin later (Ok log)
         → EndsReading D first (set now (length ended) later) (Err Memory)
-    no_room_after later log ends = reading.out_of_memory D first
+    EndsReading-memory_after_log later log ends = reading.EndsReading-memory D first
         (set now (length ended) later) (length ended + 1) (ended ++ log ∷ [])
         (log_ended later (Ok log) ends) few_first
 
     -- more of the log is read
-    pub reads_on : (later : S) (more : List ℕ)
+    pub AreReadOnward-more : (later : S) (more : List ℕ)
         → IsReadUpTo D origin later more → length more ≤ max_log_bytes
         → AreReadOnward D first (set now (length ended) later) ended more
-    reads_on later more read short = record {
+    AreReadOnward-more later more read short = record {
       before = h.before;
       read = h.read;
       begun = inr (
@@ -145,48 +146,48 @@ module _ {S : Type 0} (D : SourceModel S) (first now : List S)
     }
 
     -- reading on failed
-    pub reading_fails : (later : S) (fault : Fault)
+    pub EndsReading-log_fails : (later : S) (fault : Fault)
         → EndsLog D (length ended) origin later (Err fault)
         → EndsReading D first (set now (length ended) later) (Err fault)
-    reading_fails later fault ends = log_ended later (Err fault) ends
+    EndsReading-log_fails later fault ends = log_ended later (Err fault) ends
 
     -- more of the log is read, and then memory is out
-    pub no_room : (later : S) (more : List ℕ)
+    pub EndsReading-memory_in_log : (later : S) (more : List ℕ)
         → IsReadUpTo D origin later more → EndsReading D first (set now (length ended) later)
         (Err Memory)
-    no_room later more read = reading_fails later Memory
-        (out_of_memory D (length ended) origin later later more read)
+    EndsReading-memory_in_log later more read = EndsReading-log_fails later Memory
+        (EndsLog-out_of_memory D (length ended) origin later later more read)
 
 -- ---- by the position
 module _ {S : Type 0} (D : SourceModel S) (first now : List S)
     (few : length now ≤ max_logs) (at : ReadPosition) (lines : List MeaningAt)
     (h : AreGathered D first now at lines) (within : at.log < length now) (d : S) where
-  pub inside : length h.ended < length now
-  inside = omega (arith, h.log, within)
+  pub ended-within : length h.ended < length now
+  ended-within = omega (arith, h.log, within)
 
   -- the source as it was before its first byte was read
   abbrev pub start : S
-  start = origin D first now few h.ended (h.begun ++ at.rest.items) h.read inside d
+  start = origin D first now few h.ended (h.begun ++ at.rest.items) h.read ended-within d
 
-  pub read_up_to : IsReadUpTo D start (get_or now at.log d) (h.begun ++ at.rest.items)
-  read_up_to = subst (λ n. IsReadUpTo D start (get_or now n d)
+  pub IsReadUpTo-at_position : IsReadUpTo D start (get_or now at.log d) (h.begun ++ at.rest.items)
+  IsReadUpTo-at_position = subst (λ n. IsReadUpTo D start (get_or now n d)
       (h.begun ++ at.rest.items)) (sym h.log)
-      (read_so_far D first now few h.ended (h.begun ++ at.rest.items) h.read inside d).0
+      (IsReadUpTo-onward D first now few h.ended (h.begun ++ at.rest.items) h.read ended-within d).0
 
-  pub few_read : at.done + length at.rest.items ≤ max_log_bytes
-  few_read =
-      let short = (read_so_far D first now few h.ended
-      (h.begun ++ at.rest.items) h.read inside d).1 in
+  pub done-rest_fits : at.done + length at.rest.items ≤ max_log_bytes
+  done-rest_fits =
+      let short = (IsReadUpTo-onward D first now few h.ended
+      (h.begun ++ at.rest.items) h.read ended-within d).1 in
       omega (arith, h.done, length-append h.begun at.rest.items, short)
 
-  pub part_fails : (later : S) (most : ℕ) (fault : Fault)
+  pub EndsReading-part_fails : (later : S) (most : ℕ) (fault : Fault)
       → EndsPart D at.log start later h.begun most (Err fault)
       → EndsReading D first (set now at.log later) (Err fault)
-  part_fails later most fault ends =
+  EndsReading-part_fails later most fault ends =
       subst (λ n. EndsLog D n start later (Err fault)
       → EndsReading D first (set now n later) (Err fault)) (sym h.log)
-      (reading_fails D first now few h.ended
-      (h.begun ++ at.rest.items) h.read inside d later fault) ends
+      (EndsReading-log_fails D first now few h.ended
+      (h.begun ++ at.rest.items) h.read ended-within d later fault) ends
 
   module _ (later : S) (most : ℕ) (part : LogPart)
       (ends : EndsPart D at.log start later h.begun most (Ok part)) where
@@ -194,22 +195,22 @@ module _ {S : Type 0} (D : SourceModel S) (first now : List S)
     bytes = part.bytes.items
 
     -- memory is out once the part is read
-    pub no_room_left : EndsReading D first (set now at.log later) (Err Memory)
-    no_room_left = by part.is_last ends where
+    pub EndsReading-memory_after_part : EndsReading D first (set now at.log later) (Err Memory)
+    EndsReading-memory_after_part = by part.is_last ends where
       by : (is_last : Bool) → IsFrontOfLog D at.log start later
           (length h.begun + most) (h.begun ++ bytes) is_last
           → EndsReading D first (set now at.log later) (Err Memory)
       by true is = subst (λ n. EndsReading D first (set now n later) (Err Memory)) (sym h.log)
-          (no_room_after D first now few h.ended
-          (h.begun ++ at.rest.items) h.read inside d later (h.begun ++ bytes)
+          (EndsReading-memory_after_log D first now few h.ended
+          (h.begun ++ at.rest.items) h.read ended-within d later (h.begun ++ bytes)
           (subst (λ n. EndsLog D n start later (Ok (h.begun ++ bytes))) h.log is))
       by false is = subst (λ n. EndsReading D first (set now n later) (Err Memory)) (sym h.log)
-          (no_room D first now few h.ended
-          (h.begun ++ at.rest.items) h.read inside d later (h.begun ++ bytes) is.0)
+          (EndsReading-memory_in_log D first now few h.ended
+          (h.begun ++ at.rest.items) h.read ended-within d later (h.begun ++ bytes) is.0)
 
     -- the log with this part is no longer than a log may be
-    pub part_fits : at.done + length bytes ≤ max_log_bytes
-    part_fits = by part.is_last ends where
+    pub done-part_fits : at.done + length bytes ≤ max_log_bytes
+    done-part_fits = by part.is_last ends where
       sizes : length (h.begun ++ bytes) ≡ at.done + length bytes
       sizes = omega (arith, h.done, length-append h.begun bytes)
 
@@ -220,11 +221,11 @@ module _ {S : Type 0} (D : SourceModel S) (first now : List S)
       by false is = omega (arith, sizes, is.2)
 
     -- the lines of the whole part follow, and the next log begins
-    pub last_part : part.is_last ≡ true → (rest : Vec ℕ Global) → rest.items ≡ []
+    pub AreGathered-last_part : part.is_last ≡ true → (rest : Vec ℕ Global) → rest.items ≡ []
         → AreGathered D first (set now at.log later)
         (record { log = at.log + 1; line = 0; done = 0; rest = rest })
         (lines ++ lines_of_part h.ended h.begun bytes)
-    last_part last rest none =
+    AreGathered-last_part last rest none =
         let log = h.begun ++ bytes in
         let ended = h.ended ++ log ∷ [] in
         let is = subst (IsFrontOfLog D at.log start later (length h.begun + most) log) last ends in
@@ -236,21 +237,21 @@ module _ {S : Type 0} (D : SourceModel S) (first now : List S)
           done = refl;
           whole = inl refl;
           gathered = ap (λ l. l ++ lines_of_part h.ended h.begun bytes) h.gathered
-              ∙ lines_after_part h.ended h.begun bytes h.whole ∙ lines_after_log h.ended log;
+              ∙ lines_so_far-part h.ended h.begun bytes h.whole ∙ lines_so_far-next_log h.ended log;
           read = rw none (subst (λ n. AreReadOnward D first (set now n later) ended []) (sym h.log)
-              (next_begins D first now few h.ended
-              (h.begun ++ at.rest.items) h.read inside d later log
+              (AreReadOnward-next_log D first now few h.ended
+              (h.begun ++ at.rest.items) h.read ended-within d later log
               (subst (λ n. EndsLog D n start later (Ok log)) h.log is)));
         }
 
     -- the whole lines of the part follow
-    pub more_part : part.is_last ≡ false → (end line : ℕ) → end ≤ length bytes
+    pub AreGathered-more_part : part.is_last ≡ false → (end line : ℕ) → end ≤ length bytes
         → EndsLine (take end bytes) → (rest : Vec ℕ Global) → rest.items ≡ drop end bytes
         → line ≡ at.line + length (lines_of (take end bytes))
         → AreGathered D first (set now at.log later)
         (record { log = at.log; line = line; done = at.done + end; rest = rest })
         (lines ++ lines_of_part h.ended h.begun (take end bytes))
-    more_part more end line upto feeds rest left counted =
+    AreGathered-more_part more end line upto feeds rest left counted =
         let here = take end bytes in
         let begun = h.begun ++ here in
         let is = subst (IsFrontOfLog D at.log start later
@@ -263,24 +264,24 @@ module _ {S : Type 0} (D : SourceModel S) (first now : List S)
           begun = begun;
           log = h.log;
           line = counted ∙ ap (λ n. n + length (lines_of here)) h.line
-              ∙ sym (lines_counted h.begun here h.whole);
+              ∙ sym (length-lines_of_append h.begun here h.whole);
           done = omega (arith, h.done, length-append h.begun here, length-take-le end bytes upto);
           whole = EndsLine-append h.begun here h.whole feeds;
           gathered = ap (λ l. l ++ lines_of_part h.ended h.begun here) h.gathered
-              ∙ lines_after_part h.ended h.begun here h.whole;
+              ∙ lines_so_far-part h.ended h.begun here h.whole;
           read = subst (AreReadOnward D first (set now at.log later) h.ended) same
               (subst (λ n. AreReadOnward D first (set now n later)
               h.ended (h.begun ++ bytes)) (sym h.log)
-              (reads_on D first now few h.ended
-              (h.begun ++ at.rest.items) h.read inside d later (h.begun ++ bytes) is.0 is.2));
+              (AreReadOnward-more D first now few h.ended
+              (h.begun ++ at.rest.items) h.read ended-within d later (h.begun ++ bytes) is.0 is.2));
         }
 
     -- fewer bytes are left then
-    pub fewer_left : part.is_last ≡ false → (end : ℕ) → end ≤ length bytes
+    pub most_unread-more_part : part.is_last ≡ false → (end : ℕ) → end ≤ length bytes
         → length at.rest.items < most
         → (length now - at.log) * 67108866 - (at.done + end + length (drop end bytes))
         < (length now - at.log) * 67108866 - (at.done + length at.rest.items)
-    fewer_left more end upto room =
+    most_unread-more_part more end upto room =
         let is = subst (IsFrontOfLog D at.log start later
         (length h.begun + most) (h.begun ++ bytes)) more ends in
         let all = take-append-drop end bytes in
@@ -289,7 +290,7 @@ module _ {S : Type 0} (D : SourceModel S) (first now : List S)
           within,
           h.done,
           room,
-          part_fits,
+          done-part_fits,
           is.1,
           length-append h.begun bytes,
           ap length all,
@@ -298,14 +299,15 @@ module _ {S : Type 0} (D : SourceModel S) (first now : List S)
         )
 
     -- the lines of the part follow those of the log
-    pub lines_fit : (here : List ℕ) → length here ≤ length bytes
+    pub line-part_fits : (here : List ℕ) → length here ≤ length bytes
         → at.line + length here ≤ max_log_bytes
-    lines_fit here upto = omega (arith, h.line, few_lines h.begun, h.done, upto, part_fits)
+    line-part_fits here upto =
+        omega (arith, h.line, length-lines_of_bound h.begun, h.done, upto, done-part_fits)
 
-    pub part_lines : (cut new : List MeaningAt) (here : List ℕ)
+    pub DropsCached-part : (cut new : List MeaningAt) (here : List ℕ)
         → DropsCached [] (cut ++ meanings_in at.log (suc at.line) (lines_of here)) new
         → DropsCached [] (cut ++ lines_of_part h.ended h.begun here) new
-    part_lines cut new here drops =
+    DropsCached-part cut new here drops =
         subst (λ n. DropsCached [] (cut ++ meanings_in n (suc (length (lines_of h.begun)))
         (lines_of here)) new) h.log
         (subst (λ n. DropsCached [] (cut ++ meanings_in at.log (suc n) (lines_of here)) new) h.line
@@ -322,37 +324,38 @@ module _ {S : Type 0} (D : SourceModel S) (first now : List S)
           ⊎ ((part.is_last ≡ false)
           × (p ≡ record { log = at.log; line = line; done = at.done + end; rest = rest }))
 
-      pub part_gathered : line ≡ at.line + length (lines_of (take end bytes)) → (p : ReadPosition)
+      pub AreGathered-next : line ≡ at.line + length (lines_of (take end bytes))
+          → (p : ReadPosition)
           → IsNext p
           → AreGathered D first (set now at.log later) p
           (lines ++ lines_of_part h.ended h.begun (take end bytes))
-      part_gathered counted p (inl (last, is)) =
+      AreGathered-next counted p (inl (last, is)) =
           let whole : take end bytes ≡ bytes =
           ap (λ n. take n bytes) (all last) ∙ take-length bytes in
           let none : rest.items ≡ [] =
           left ∙ ap (λ n. drop n bytes) (all last) ∙ drop-length bytes in
-          rw (is, whole) (last_part last rest none)
-      part_gathered counted p (inr (more, is)) =
-          rw is (more_part more end line upto (feeds more) rest left counted)
+          rw (is, whole) (AreGathered-last_part last rest none)
+      AreGathered-next counted p (inr (more, is)) =
+          rw is (AreGathered-more_part more end line upto (feeds more) rest left counted)
 
-      pub part_leaves_fewer : length at.rest.items < most → (p : ReadPosition) → IsNext p
+      pub most_unread-falls : length at.rest.items < most → (p : ReadPosition) → IsNext p
           → most_unread (length (set now at.log later)) p < most_unread (length now) at
-      part_leaves_fewer room p (inl (last, is)) =
+      most_unread-falls room p (inl (last, is)) =
           let none : rest.items ≡ [] =
           left ∙ ap (λ n. drop n bytes) (all last) ∙ drop-length bytes in
-          rw is (omega (arith, within, few_read, ap length none, length-set now at.log later))
-      part_leaves_fewer room p (inr (more, is)) =
-          let fewer = fewer_left more end upto room in
+          rw is (omega (arith, within, done-rest_fits, ap length none, length-set now at.log later))
+      most_unread-falls room p (inr (more, is)) =
+          let fewer = most_unread-more_part more end upto room in
           rw is (omega (arith, fewer, ap length left, length-set now at.log later))
 
 -- ---- before the first part, and after the last
 
 module _ {S : Type 0} (D : SourceModel S) (first : List S) where
   -- nothing is read yet
-  pub none_gathered : All (λ s. D.has_failed s ≡ false) first → (at : ReadPosition) → at.log ≡ 0
+  pub AreGathered-none : All (λ s. D.has_failed s ≡ false) first → (at : ReadPosition) → at.log ≡ 0
       → at.line ≡ 0 → at.done ≡ 0 → at.rest.items ≡ []
       → AreGathered D first first at []
-  none_gathered well at log line done none = record {
+  AreGathered-none well at log line done none = record {
     ended = [];
     begun = [];
     log = log;
@@ -362,19 +365,19 @@ module _ {S : Type 0} (D : SourceModel S) (first : List S) where
     gathered = refl;
     read = record {
       before = first;
-      read = reading.none_delivered D first well;
+      read = reading.AreDeliveredUpTo-none D first well;
       begun = inl (refl, none);
     };
   }
 
   -- no source is left
-  pub all_gathered : (now : List S) → length now ≤ max_logs → (at : ReadPosition)
+  pub EndsReading-all_gathered : (now : List S) → length now ≤ max_logs → (at : ReadPosition)
       → (lines : List MeaningAt) → AreGathered D first now at lines
       → length now ≤ at.log → (logs : List (List ℕ))
       × EndsReading D first now (Ok logs) × (lines ≡ meanings_of logs)
-  all_gathered now few at lines h over =
+  EndsReading-all_gathered now few at lines h over =
       let bytes = h.begun ++ at.rest.items in
-      let many = as_many D first now few h.ended bytes h.read in
+      let many = length-gathered D first now few h.ended bytes h.read in
       by many h.read.begun where
         by : length now ≡ length first
             → IsNextBegun D h.read.before now (length h.ended)
@@ -384,7 +387,7 @@ module _ {S : Type 0} (D : SourceModel S) (first : List S) where
             let begun : h.begun ≡ [] = nil_from_length h.begun
             (omega (arith, ap length none, length-append h.begun at.rest.items)) in (
               h.ended,
-              rw same (reading.all_delivered D first h.read.before
+              rw same (reading.EndsReading-delivered D first h.read.before
                   (length h.ended) h.ended h.read.read (omega (arith, many, few))
                   (omega (arith, many, h.log, over))),
               h.gathered ∙ ap (lines_so_far h.ended) begun ∙ append-nil (meanings_of h.ended),

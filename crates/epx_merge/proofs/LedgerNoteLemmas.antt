@@ -3,19 +3,20 @@ use Rattle.std.proofs.Common.{◌≡◌, ◌++◌, List, [], Result, refl, sym, 
 use Rattle.epx_types.specs.declared.fault.Fault.{Fault}
 use Rattle.epx_types.specs.declared.fault.Why.{Why}
 use Rattle.epx_lines.specs.declared.Line.{Line}
-use Rattle.epx_committed.specs.Ledgers.{LedgerView, IsLedgerOf, NotesLines}
+use Rattle.epx_committed.specs.between.Ledgers.{LedgerView, IsLedgerOf, NotesLines}
 use Rattle.epx_merge.specs.declared.pieces.BadLine.{BadLine}
 use Rattle.epx_merge.specs.declared.pieces.ReadPiece.{ReadPiece}
-use Rattle.epx_merge.specs.LedgerNotes.{AreReadUpTo}
+use Rattle.epx_merge.specs.between.LedgerNotes.{AreReadUpTo}
 use Rattle.epx_merge.specs.LogLines.{MeaningAt, placed_among, bad_lines_among}
-use Rattle.epx_merge.specs.ReadFaults.{IsReadFault}
-use Rattle.epx_merge.specs.ReadPieces.{AreReadBeside, HasEntries}
-use Rattle.epx_merge.specs.RedundantLines.{DropsCached, DropsRedundant, IsCacheOf, CachesSomeOf}
+use Rattle.epx_merge.specs.between.ReadFaults.{IsReadFault}
+use Rattle.epx_merge.specs.between.ReadPieces.{AreReadBeside, HasEntries}
+use Rattle.epx_merge.specs.between.RedundantLines.{DropsCached, DropsRedundant, IsCacheOf}
+use Rattle.epx_merge.specs.between.RedundantLines.{CachesSomeOf}
 use Rattle.epx_merge.proofs.DropsCachedLemmas.{DropsCached-trans, DropsRedundant-cached}
 use Rattle.epx_merge.proofs.DropsCachedLemmas.{IsCacheOf-more}
 use Rattle.epx_merge.proofs.ReadFaultLemmas.{placed_among-append, bad_lines_among-append}
-use Rattle.epx_merge.proofs.ReadFaultLemmas.{fault_after}
-use Rattle.epx_merge.proofs.ReadPieceLemmas.{read_together}
+use Rattle.epx_merge.proofs.ReadFaultLemmas.{IsReadFault-after_clean}
+use Rattle.epx_merge.proofs.ReadPieceLemmas.{AreRead-from_beside}
 use Rattle.epx_merge.proofs.RedundantLineLemmas.{DropsRedundant-append, SameOutcome-kept}
 
 -- ---- the pending pieces are noted
@@ -26,17 +27,17 @@ module _ (lines : List MeaningAt) (ledger : LedgerView) (cache : List (Result Li
   kept = h.read ++ h.pending
 
   -- the first bad line of the pending lines is the first of all
-  pub bad_pending : (f : Fault) → IsReadFault (bad_lines_among h.pending) f
+  pub IsReadFault-pending : (f : Fault) → IsReadFault (bad_lines_among h.pending) f
       → IsReadFault (bad_lines_among lines) f
-  bad_pending f bad =
+  IsReadFault-pending f bad =
       let same : h.read ++ (h.pending ++ []) ≡ kept = ap (λ l. h.read ++ l) (append-nil h.pending)
       in
       (SameOutcome-kept lines [] kept h.drops).fault f
-      (fault_after h.read h.pending [] kept f h.clean bad same)
+      (IsReadFault-after_clean h.read h.pending [] kept f h.clean bad same)
 
-  pub pending_noted : (ledger' : LedgerView) → bad_lines_among h.pending ≡ []
+  pub AreReadUpTo-noted : (ledger' : LedgerView) → bad_lines_among h.pending ≡ []
       → NotesLines (placed_among h.pending) ledger ledger' → AreReadUpTo lines ledger' cache []
-  pending_noted ledger' clean noted =
+  AreReadUpTo-noted ledger' clean noted =
       let all = sym (append-nil kept) in
       record {
         read = kept;
@@ -59,19 +60,19 @@ module _ (lines : List MeaningAt) (ledger : LedgerView) (cache : List (Result Li
       ∙ append-nil h.read
 
   -- none of the lines is bad, and the ledger is that of all of them
-  pub all_noted : (bad_lines_among lines ≡ []) × IsLedgerOf (placed_among lines) ledger
-  all_noted =
+  pub IsLedgerOf-at_end : (bad_lines_among lines ≡ []) × IsLedgerOf (placed_among lines) ledger
+  IsLedgerOf-at_end =
       let same = SameOutcome-kept lines [] h.read
       (subst (DropsRedundant lines []) all_read h.drops) in
       (same.clean h.clean, same.ledger ledger h.noted)
 
   -- the batch is read
-  pub batch_is_read : (cut batch : List MeaningAt) (cache' : List (Result Line Why))
+  pub AreReadUpTo-batch : (cut batch : List MeaningAt) (cache' : List (Result Line Why))
       (pieces : List (Result ReadPiece BadLine)) → DropsCached [] cut batch
       → AreReadBeside HasEntries cache batch pieces → CachesSomeOf batch cache cache'
       → AreReadUpTo (lines ++ cut) ledger cache' pieces
-  batch_is_read cut batch cache' pieces drops beside more =
-      let given = read_together HasEntries cache batch pieces beside in
+  AreReadUpTo-batch cut batch cache' pieces drops beside more =
+      let given = AreRead-from_beside HasEntries cache batch pieces beside in
       let cached = subst (λ l. IsCacheOf l cache) all_read h.cached in
       let uncached = DropsCached-trans cache cut batch given.0 drops given.1 in
       record {

@@ -8,7 +8,7 @@ use Rattle.epx_types.specs.declared.fault.Why.{Why}
 use Rattle.epx_types.proofs.lists.ListPositionLemmas.{slice_get-map}
 use Rattle.epx_lines.specs.Meaning.{meaning_of}
 use Rattle.epx_lines.specs.declared.Line.{Line}
-use Rattle.epx_merge.specs.RedundantLines.{CachesAfter}
+use Rattle.epx_merge.specs.between.RedundantLines.{CachesAfter}
 
 abbrev Lines : Type 0
 Lines = List (Bor (List ℕ))
@@ -17,10 +17,11 @@ abbrev meaning_in : Bor (List ℕ) → Result Line Why
 meaning_in line = meaning_of line.now
 
 -- a line with these bytes is at this index
-pub found_at : (lines : Lines) (i : ℕ) (line : Bor (List ℕ)) (bytes : List ℕ) → i < length lines
+pub slice_get-meaning_in : (lines : Lines) (i : ℕ) (line : Bor (List ℕ)) (bytes : List ℕ)
+    → i < length lines
     → line ≡ get_or lines i line → line.now ≡ bytes
     → slice_get (map meaning_in lines) i ≡ Some (meaning_of bytes)
-found_at lines i line bytes within is same =
+slice_get-meaning_in lines i line bytes within is same =
     slice_get-map meaning_in lines i line (slice_get-get_or lines i line within
     ∙ ap (λ (l : Bor (List ℕ)). Some l) (sym is)) ∙ ap (λ b. Some (meaning_of b)) same
 

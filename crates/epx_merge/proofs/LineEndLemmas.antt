@@ -15,12 +15,12 @@ from_index-is bytes start =
     take_all (length bytes - start) (drop start bytes) (omega (arith, length-drop start bytes))
 
 -- the line ends at the first line feed
-pub line_to_feed : (bytes : List ℕ) (start len : ℕ) → len < length (from_index bytes start)
+pub lines_of-to_feed : (bytes : List ℕ) (start len : ℕ) → len < length (from_index bytes start)
     → Nowhere (Passes (is_byte 10) (from_index bytes start)) 0 len
     → Passes (is_byte 10) (from_index bytes start) len
     → lines_of (drop start bytes)
     ≡ take (start + len - start) (drop start bytes) ∷ lines_of (drop (start + len + 1) bytes)
-line_to_feed bytes start len within before here =
+lines_of-to_feed bytes start len within before here =
     let same : len ≡ start + len - start = omega arith in
     let after : drop 1 (drop len (drop start bytes)) ≡ drop (start + len + 1) bytes =
     ap (drop 1) (drop-drop len start bytes) ∙ drop-drop 1 (start + len) bytes in
@@ -29,11 +29,11 @@ line_to_feed bytes start len within before here =
     ∙ ap₂ (λ n more. take n (drop start bytes) ∷ lines_of more) same after
 
 -- with no line feed, the line ends with the bytes
-pub line_to_end : (bytes : List ℕ) (start : ℕ) → start < length bytes
+pub lines_of-to_end : (bytes : List ℕ) (start : ℕ) → start < length bytes
     → Nowhere (Passes (is_byte 10) (from_index bytes start)) 0 (length (from_index bytes start))
     → lines_of (drop start bytes)
     ≡ take (length bytes - start) (drop start bytes) ∷ lines_of (drop (length bytes + 1) bytes)
-line_to_end bytes start within none =
+lines_of-to_end bytes start within none =
     let rest = from_index bytes start in
     let is = from_index-is bytes start in
     let some : 0 < length rest =

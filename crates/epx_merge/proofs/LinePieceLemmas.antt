@@ -4,8 +4,8 @@ use Rattle.std.proofs.Common.{drop, slice_get, Some, sym, ap, subst, ◌∙◌, 
 use Rattle.std.proofs.Math.ListN.{drop_of_length-le}
 use Rattle.epx_types.proofs.Common.{cases_lt, take-append-drop, drop-drop, piece_count}
 use Rattle.epx_types.proofs.Common.{piece_count-above}
-use Rattle.epx_claims.specs.Answered.{AreOrderedAnswers}
-use Rattle.epx_merge.specs.LinePieces.{ArePiecesOf, lines_of_piece}
+use Rattle.epx_claims.specs.between.Answered.{AreOrderedAnswers}
+use Rattle.epx_merge.specs.between.LinePieces.{ArePiecesOf, lines_of_piece}
 use Rattle.epx_merge.specs.LogLines.{MeaningAt}
 
 module _ {P : Type 0} (is : List MeaningAt → P → Type 0) (cut : ℕ) (some : 1 ≤ cut)
@@ -45,10 +45,10 @@ module _ {P : Type 0} (is : List MeaningAt → P → Type 0) (cut : ℕ) (some :
       (take cut left, after, whole, here, rest)
 
   -- the pieces, in order
-  pub pieces_in_order : (pieces : List P)
+  pub ArePiecesOf-in_order : (pieces : List P)
       → AreOrderedAnswers (λ i x. is (lines_of_piece cut i lines) x)
       (piece_count cut (length lines)) pieces → ArePiecesOf is lines pieces
-  pieces_in_order pieces h =
+  ArePiecesOf-in_order pieces h =
       let none : 0 * cut ≡ 0 = omega arith in
       let count : 0 + length pieces ≡ piece_count cut (length lines) =
       (let l = h.len in omega arith) in

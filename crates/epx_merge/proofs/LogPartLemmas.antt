@@ -14,10 +14,10 @@ abbrev pub lines_of_part : List (List ℕ) → List ℕ → List ℕ → List Me
 lines_of_part ended begun bytes =
     meanings_in (length ended) (suc (length (lines_of begun))) (lines_of bytes)
 
-pub lines_after_part : (ended : List (List ℕ)) (begun bytes : List ℕ) → EndsLine begun
+pub lines_so_far-part : (ended : List (List ℕ)) (begun bytes : List ℕ) → EndsLine begun
     → lines_so_far ended begun ++ lines_of_part ended begun bytes
     ≡ lines_so_far ended (begun ++ bytes)
-lines_after_part ended begun bytes ends =
+lines_so_far-part ended begun bytes ends =
     let log = length ended in
     let here = meanings_in log 1 (lines_of begun) in
     let next = lines_of_part ended begun bytes in
@@ -43,34 +43,34 @@ meanings_from-last n (l ∷ logs) log =
     ∙ ap (λ k. (here ++ meanings_from (suc n) logs) ++ meanings_in k 1 (lines_of log)) same
 
 -- the log ends, and of the next one nothing is read
-pub lines_after_log : (ended : List (List ℕ)) (log : List ℕ)
+pub lines_so_far-next_log : (ended : List (List ℕ)) (log : List ℕ)
     → lines_so_far ended log ≡ lines_so_far (ended ++ log ∷ []) []
-lines_after_log ended log =
+lines_so_far-next_log ended log =
     let same : 0 + length ended ≡ length ended = omega arith in
     ap (λ k. meanings_of ended ++ meanings_in k 1 (lines_of log)) (sym same)
     ∙ sym (meanings_from-last 0 ended log)
     ∙ sym (append-nil (meanings_of (ended ++ log ∷ [])))
 
 -- a number that does not wrap
-pub one_more : (line : ℕ) → line + 1 < 2 ^ 64 → (line + 1) % (2 ^ 64) ≡ suc line
-one_more line few = mod-eq_of_lt few ∙ omega arith
+pub suc-no_wrap : (line : ℕ) → line + 1 < 2 ^ 64 → (line + 1) % (2 ^ 64) ≡ suc line
+suc-no_wrap line few = mod-eq_of_lt few ∙ omega arith
 
 -- the next line of a log, and those after it
-pub line_and_rest : (log line next : ℕ) (bytes here more : List ℕ)
+pub meanings_in-cons : (log line next : ℕ) (bytes here more : List ℕ)
     → lines_of bytes ≡ here ∷ lines_of more → next ≡ suc line
     → meanings_in log (suc line) (lines_of bytes)
     ≡ meaning_at (record { log = log; line = next }) here
     ∷ meanings_in log (suc next) (lines_of more)
-line_and_rest log line next bytes here more cut is =
+meanings_in-cons log line next bytes here more cut is =
     ap (meanings_in log (suc line)) cut
     ∙ ap (λ k. meaning_at (record { log = log; line = k }) here
     ∷ meanings_in log (suc k) (lines_of more)) (sym is)
 
 -- bytes have no more lines than they are
-pub few_lines : (bytes : List ℕ) → length (lines_of bytes) ≤ length bytes
-few_lines [] = omega arith
-few_lines (b ∷ bs) =
-    let rest = few_lines bs in
+pub length-lines_of_bound : (bytes : List ℕ) → length (lines_of bytes) ≤ length bytes
+length-lines_of_bound [] = omega arith
+length-lines_of_bound (b ∷ bs) =
+    let rest = length-lines_of_bound bs in
     elim (cases_Bool (eqb b 10)) [
       | inl feed ↦ rw feed (omega arith)
       | inr other ↦ rw other (lengthened b (lines_of bs) (length bs) rest)
@@ -82,7 +82,7 @@ few_lines (b ∷ bs) =
     lengthened c (l ∷ ls) n few = omega arith
 
 -- the number of lines, once those of a part follow whole lines
-pub lines_counted : (begun bytes : List ℕ) → EndsLine begun
+pub length-lines_of_append : (begun bytes : List ℕ) → EndsLine begun
     → length (lines_of (begun ++ bytes)) ≡ length (lines_of begun) + length (lines_of bytes)
-lines_counted begun bytes ends = ap length (lines_of-append begun bytes ends)
+length-lines_of_append begun bytes ends = ap length (lines_of-append begun bytes ends)
     ∙ length-append (lines_of begun) (lines_of bytes)

@@ -10,7 +10,7 @@ use Rattle.epx_types.specs.declared.fault.Fault.TheVariants.{BadBase, Memory, Wr
 use Rattle.epx_devices.specs.MemoryDevices.{memory_source}
 use Rattle.epx_merge.specs.ReadingRefusals.{IsReadingRefusal}
 use Rattle.epx_merge.specs.Refusals.{IsFirstTooLong, IsRefusal}
-use Rattle.epx_merge.specs.SourceReadings.{EndsReading, EndsMaking}
+use Rattle.epx_merge.specs.between.SourceReadings.{EndsReading, EndsMaking}
 
 -- out of memory, too many logs, or the first log that is too long
 abbrev pub IsLimitRefusal : List (List ℕ) → Fault → Type 0
@@ -19,17 +19,17 @@ IsLimitRefusal logs TooManyLogs = max_logs < length logs
 IsLimitRefusal logs (LogTooLong log) = (length logs ≤ max_logs) × IsFirstTooLong logs log
 IsLimitRefusal logs _ = ⊥
 
-pub refused_for_limits : (logs : List (List ℕ)) (fault : Fault) → IsLimitRefusal logs fault
+pub IsRefusal-from_limits : (logs : List (List ℕ)) (fault : Fault) → IsLimitRefusal logs fault
     → IsRefusal logs fault
-refused_for_limits logs Memory h = h
-refused_for_limits logs TooManyLogs h = h
-refused_for_limits logs (LogTooLong log) h = h
-refused_for_limits logs (BadLine place why) h = absurd h
-refused_for_limits logs TooManyInstances h = absurd h
-refused_for_limits logs (Disagree id first second) h = absurd h
-refused_for_limits logs (Read log) h = absurd h
-refused_for_limits logs Write h = absurd h
-refused_for_limits logs (BadBase line) h = absurd h
+IsRefusal-from_limits logs Memory h = h
+IsRefusal-from_limits logs TooManyLogs h = h
+IsRefusal-from_limits logs (LogTooLong log) h = h
+IsRefusal-from_limits logs (BadLine place why) h = absurd h
+IsRefusal-from_limits logs TooManyInstances h = absurd h
+IsRefusal-from_limits logs (Disagree id first second) h = absurd h
+IsRefusal-from_limits logs (Read log) h = absurd h
+IsRefusal-from_limits logs Write h = absurd h
+IsRefusal-from_limits logs (BadBase line) h = absurd h
 
 module _ (logs new : List (List ℕ)) where
   -- reading them is refused for the limits alone
@@ -49,14 +49,14 @@ module _ (logs new : List (List ℕ)) where
   limit_refusal (BadBase line) read h = absurd h
 
 -- what is made of logs in memory, where their refusals for the limits are among those of the whole
-pub made_in_memory : {T : Type 0} (Made : List (List ℕ) → Result T Fault → Type 0)
+pub Made-in_memory : {T : Type 0} (Made : List (List ℕ) → Result T Fault → Type 0)
     (logs new : List (List ℕ))
     → ((fault : Fault) → IsLimitRefusal logs fault → Made logs (Err fault))
     → (result : Result T Fault) → EndsMaking memory_source Made logs new result
     → Made logs result
-made_in_memory Made logs new refuses (Ok made) (given, read, is) =
+Made-in_memory Made logs new refuses (Ok made) (given, read, is) =
     subst (λ l. Made l (Ok made)) (read.bytes logs refl) is
-made_in_memory Made logs new refuses (Err fault) (inl read) =
+Made-in_memory Made logs new refuses (Err fault) (inl read) =
     refuses fault (limit_refusal logs new fault read (read.refusal logs refl))
-made_in_memory Made logs new refuses (Err fault) (inr (given, read, is)) =
+Made-in_memory Made logs new refuses (Err fault) (inr (given, read, is)) =
     subst (λ l. Made l (Err fault)) (read.bytes logs refl) is

@@ -11,8 +11,9 @@ use Rattle.epx_lines.specs.declared.Line.{Line}
 use Rattle.epx_lines.specs.declared.Line.TheVariants.{Blank, Entry}
 use Rattle.epx_merge.specs.LogLines.{MeaningAt, meaning_at, meanings_in, meanings_from, meanings_of}
 use Rattle.epx_merge.specs.LogLines.{placed_at, placed_of, BadLineAt, bad_lines_at, bad_lines_of}
-use Rattle.epx_committed.specs.LineOrder.{AreSortedBy, IsSortedByPlace}
-use Rattle.epx_committed.proofs.LineOrderLemmas.{earlier_line, AreSortedBy-append, distinct_places}
+use Rattle.epx_committed.specs.between.LineOrder.{AreSortedBy, IsSortedByPlace}
+use Rattle.epx_committed.proofs.LineOrderLemmas.{Earlier-same_log, AreSortedBy-append}
+use Rattle.epx_committed.proofs.LineOrderLemmas.{HaveDistinctPlaces-sorted}
 use Rattle.epx_merge.specs.Refusals.{IsFirstBadLine}
 
 earlier_log : (p q : Place) → p.log < q.log → Earlier p q
@@ -43,36 +44,38 @@ module _ {Y : Type 0} (place : Y → Place) (given : MeaningAt → List Y)
 
 -- ---- all lines
 
-pub in_log : (log n : ℕ) (ls : List (List ℕ)) (x : MeaningAt) → Contains (meanings_in log n ls) x
+pub meanings_in-place : (log n : ℕ) (ls : List (List ℕ)) (x : MeaningAt)
+    → Contains (meanings_in log n ls) x
     → (x.place.log ≡ log) × (n ≤ x.place.line)
-in_log log n [] x h = absurd (Contains-nil x h)
-in_log log n (l ∷ ls) x h =
+meanings_in-place log n [] x h = absurd (Contains-nil x h)
+meanings_in-place log n (l ∷ ls) x h =
     elim (Contains-cons_cases (meaning_at (record { log = log; line = n }) l)
     (meanings_in log (suc n) ls) x h) [
       | inl e ↦ (
         ap (λ (m : MeaningAt). m.place.log) (sym e),
         omega (arith, ap (λ (m : MeaningAt). m.place.line) e),
       )
-      | inr rest ↦ let r = in_log log (suc n) ls x rest in (r.0, omega (arith, r.1))
+      | inr rest ↦ let r = meanings_in-place log (suc n) ls x rest in (r.0, omega (arith, r.1))
     ]
 
 lines_in_order : (log n : ℕ) (ls : List (List ℕ))
     → AreSortedBy (λ l. l.place) (meanings_in log n ls)
 lines_in_order log n [] = tt
 lines_in_order log n (l ∷ ls) = (
-  (λ y h. let later = in_log log (suc n) ls y h in
-      earlier_line (record { log = log; line = n }) y.place (sym later.0)
+  (λ y h. let later = meanings_in-place log (suc n) ls y h in
+      Earlier-same_log (record { log = log; line = n }) y.place (sym later.0)
       (omega (arith, later.1))),
   lines_in_order log (suc n) ls,
 )
 
-pub from_log : (n : ℕ) (logs : List (List ℕ)) (x : MeaningAt) → Contains (meanings_from n logs) x
+pub meanings_from-place : (n : ℕ) (logs : List (List ℕ)) (x : MeaningAt)
+    → Contains (meanings_from n logs) x
     → n ≤ x.place.log
-from_log n [] x h = absurd (Contains-nil x h)
-from_log n (log ∷ logs) x h =
+meanings_from-place n [] x h = absurd (Contains-nil x h)
+meanings_from-place n (log ∷ logs) x h =
     elim (Contains-append_cases (meanings_in n 1 (lines_of log)) (meanings_from (suc n) logs) x h) [
-      | inl a ↦ omega (arith, (in_log n 1 (lines_of log) x a).0)
-      | inr b ↦ omega (arith, from_log (suc n) logs x b)
+      | inl a ↦ omega (arith, (meanings_in-place n 1 (lines_of log) x a).0)
+      | inr b ↦ omega (arith, meanings_from-place (suc n) logs x b)
     ]
 
 logs_in_order : (n : ℕ) (logs : List (List ℕ)) → AreSortedBy (λ l. l.place) (meanings_from n logs)
@@ -82,7 +85,12 @@ logs_in_order n (log ∷ logs) =
     (meanings_from (suc n) logs) (lines_in_order n 1 (lines_of log))
     (logs_in_order (suc n) logs)
     (λ x y hx hy. earlier_log x.place y.place
-    (omega (arith, (in_log n 1 (lines_of log) x hx).0, from_log (suc n) logs y hy)))
+    (omega (
+      arith,
+      (meanings_in-place n 1 (lines_of log) x hx).0,
+      meanings_from-place (suc n) logs y
+          hy,
+    )))
 
 -- ---- the lines that have an instance
 
@@ -102,15 +110,16 @@ placed_one place (Ok Blank) = tt
 placed_one place (Ok (Entry e)) = ((λ y h. absurd (Contains-nil y h)), tt)
 placed_one place (Err why) = tt
 
-pub placed_in_order : (logs : List (List ℕ)) → IsSortedByPlace (placed_of logs)
-placed_in_order logs =
+pub IsSortedByPlace-placed_of : (logs : List (List ℕ)) → IsSortedByPlace (placed_of logs)
+IsSortedByPlace-placed_of logs =
     AreSortedBy-flat_map (λ (p : Placed). p.place) (λ l. placed_at l.place l.meaning)
     (λ l. placed_there l.place l.meaning) (λ l. placed_one l.place l.meaning)
     (meanings_of logs) (logs_in_order 0 logs)
 
 -- no two of them have the same place
-pub placed_apart : (logs : List (List ℕ)) → HaveDistinctPlaces (placed_of logs)
-placed_apart logs = distinct_places (placed_of logs) (placed_in_order logs)
+pub HaveDistinctPlaces-placed_of : (logs : List (List ℕ)) → HaveDistinctPlaces (placed_of logs)
+HaveDistinctPlaces-placed_of logs =
+    HaveDistinctPlaces-sorted (placed_of logs) (IsSortedByPlace-placed_of logs)
 
 -- ---- the lines that have a fault
 
@@ -129,10 +138,10 @@ one_bad_line place (Ok l) = tt
 one_bad_line place (Err why) = ((λ y h. absurd (Contains-nil y h)), tt)
 
 -- the first of them is before all others
-pub first_bad_line_least : (logs : List (List ℕ)) (place : Place) (why : Why)
+pub IsFirstBadLine-least : (logs : List (List ℕ)) (place : Place) (why : Why)
     → IsFirstBadLine (bad_lines_of logs) place why → (x : BadLineAt)
     → Contains (bad_lines_of logs) x → (place ≡ x.place) ⊎ Earlier place x.place
-first_bad_line_least logs place why f x h =
+IsFirstBadLine-least logs place why f x h =
     let first : BadLineAt = record { place = place; why = why } in
     let all = AreSortedBy-flat_map (λ (s : BadLineAt). s.place)
     (λ l. bad_lines_at l.place l.meaning) (λ l. bad_line_there l.place l.meaning)

@@ -7,7 +7,7 @@ use Rattle.epx_types.specs.declared.fault.Fault.TheVariants.{TooManyInstances, D
 use Rattle.epx_types.specs.declared.fault.Fault.TheVariants.{BadBase, Memory, Write}
 use Rattle.epx_merge.specs.LogLines.{MeaningAt, placed_at}
 use Rattle.epx_merge.specs.LogLines.{placed_among, BadLineAt, bad_lines_at, bad_lines_among}
-use Rattle.epx_merge.specs.ReadFaults.{IsReadFault, refused_among}
+use Rattle.epx_merge.specs.between.ReadFaults.{IsReadFault, refused_among}
 
 pub placed_among-append : (xs ys : List MeaningAt)
     → placed_among (xs ++ ys) ≡ placed_among xs ++ placed_among ys
@@ -31,10 +31,10 @@ fault_before xs ys Write h = h
 fault_before xs ys (BadBase line) h = h
 
 -- a fault after clean lines, whatever lines follow
-pub fault_after : (xs ys zs all : List MeaningAt) (f : Fault) → bad_lines_among xs ≡ []
+pub IsReadFault-after_clean : (xs ys zs all : List MeaningAt) (f : Fault) → bad_lines_among xs ≡ []
     → IsReadFault (bad_lines_among ys) f → xs ++ (ys ++ zs) ≡ all
     → IsReadFault (bad_lines_among all) f
-fault_after xs ys zs all f clean h is =
+IsReadFault-after_clean xs ys zs all f clean h is =
     let whole = bad_lines_among-append xs (ys ++ zs)
     ∙ ap (λ l. l ++ bad_lines_among (ys ++ zs)) clean ∙ bad_lines_among-append ys zs in
     let P : List BadLineAt → Type 0 = λ l. IsReadFault l f in
@@ -42,8 +42,9 @@ fault_after xs ys zs all f clean h is =
     (subst P (sym whole) (fault_before (bad_lines_among ys) (bad_lines_among zs) f h))
 
 -- the first refused one of some lines is that of more lines
-pub refused_stays : (refuses : Bool) (lines cut : List MeaningAt) (f : Fault)
+pub IsReadFault-append : (refuses : Bool) (lines cut : List MeaningAt) (f : Fault)
     → IsReadFault (refused_among refuses lines) f
     → IsReadFault (refused_among refuses (lines ++ cut)) f
-refused_stays true lines cut f bad = fault_after [] lines cut (lines ++ cut) f refl bad refl
-refused_stays false lines cut f bad = bad
+IsReadFault-append true lines cut f bad =
+    IsReadFault-after_clean [] lines cut (lines ++ cut) f refl bad refl
+IsReadFault-append false lines cut f bad = bad

@@ -8,9 +8,9 @@ use Rattle.epx_lines.specs.declared.Line.{Line}
 use Rattle.epx_merge.specs.declared.pieces.BadLine.{BadLine}
 use Rattle.epx_merge.specs.LogLines.{MeaningAt, placed_at, placed_among, bad_lines_at}
 use Rattle.epx_merge.specs.LogLines.{bad_lines_among}
-use Rattle.epx_merge.specs.ReadPieces.{IsFirstBad, AreRead, SkipsOrReads, IsReadBeside}
-use Rattle.epx_merge.specs.ReadPieces.{AreReadBeside}
-use Rattle.epx_merge.specs.RedundantLines.{DropsCached}
+use Rattle.epx_merge.specs.between.ReadPieces.{IsFirstBad, AreRead, SkipsOrReads, IsReadBeside}
+use Rattle.epx_merge.specs.between.ReadPieces.{AreReadBeside}
+use Rattle.epx_merge.specs.between.RedundantLines.{DropsCached}
 use Rattle.epx_merge.proofs.ReadFaultLemmas.{placed_among-append, bad_lines_among-append}
 use Rattle.epx_merge.proofs.DropsCachedLemmas.{DropsCached-none, DropsCached-append}
 
@@ -39,9 +39,9 @@ module _ (cache : List (Result Line Why)) (lines : List MeaningAt) where
         ∙ sym (append_assoc h.done (line ∷ []) (drop (i + 1) lines))
 
     -- one more line
-    pub reading_more : (entries' : List Placed) → SkipsOrReads cache line entries entries'
+    pub IsReading-step : (entries' : List Placed) → SkipsOrReads cache line entries entries'
         → IsReading cache lines (drop (i + 1) lines) entries'
-    reading_more entries' (inl skipped) = record {
+    IsReading-step entries' (inl skipped) = record {
       done = h.done ++ line ∷ [];
       kept = h.kept;
       whole = whole_more;
@@ -50,7 +50,7 @@ module _ (cache : List (Result Line Why)) (lines : List MeaningAt) where
       clean = h.clean;
       placed = h.placed ∙ sym skipped.1;
     }
-    reading_more entries' (inr added) = record {
+    IsReading-step entries' (inr added) = record {
       done = h.done ++ line ∷ [];
       kept = h.kept ++ line ∷ [];
       whole = whole_more;
@@ -65,10 +65,10 @@ module _ (cache : List (Result Line Why)) (lines : List MeaningAt) where
     }
 
     -- the next line is bad
-    pub reading_bad : {E : Type 0} (holds : List Placed → E → Type 0) (bad : BadLine)
+    pub IsReadBeside-bad : {E : Type 0} (holds : List Placed → E → Type 0) (bad : BadLine)
         → bad_lines_at line.place line.meaning ≡ record { place = bad.place; why = bad.why } ∷ []
         → IsReadBeside holds cache lines (Err bad)
-    reading_bad holds bad is_bad =
+    IsReadBeside-bad holds bad is_bad =
         let next = rest_from lines i line within is in
         let left = drop i lines in
         let rest = bad_lines_among (drop (i + 1) lines) in (
@@ -87,14 +87,14 @@ module _ (cache : List (Result Line Why)) (lines : List MeaningAt) where
 
 module _ {E : Type 0} (holds : List Placed → E → Type 0) (cache : List (Result Line Why)) where
   -- together they are read, except for some lines that are redundant in the cache
-  pub read_together : (lines : List MeaningAt) (pieces : List (Result E BadLine))
+  pub AreRead-from_beside : (lines : List MeaningAt) (pieces : List (Result E BadLine))
       → AreReadBeside holds cache lines pieces
       → (kept : List MeaningAt) × DropsCached cache lines kept × AreRead holds kept pieces
-  read_together lines [] none =
+  AreRead-from_beside lines [] none =
       ([], subst (λ l. DropsCached cache l []) (sym none) refl, refl)
-  read_together lines (piece ∷ pieces) all =
+  AreRead-from_beside lines (piece ∷ pieces) all =
       let here = all.3 in
-      let rest = read_together all.1 pieces all.4 in (
+      let rest = AreRead-from_beside all.1 pieces all.4 in (
         here.0 ++ rest.0,
         subst (λ l. DropsCached cache l (here.0 ++ rest.0)) (sym all.2)
             (DropsCached-append cache all.0 all.1 here.0 rest.0 here.1 rest.1),
@@ -115,17 +115,18 @@ module _ {E : Type 0} (holds : List Placed → E → Type 0) (lines : List Meani
     pub given : gathered (placed_among read)
     pub others : AreRead holds rest left
 
-  pub gathering_none : (gathered : List Placed → Type 0) (left : List (Result E BadLine))
+  pub IsGathering-none : (gathered : List Placed → Type 0) (left : List (Result E BadLine))
       → gathered [] → AreRead holds lines left → IsGathering gathered left
-  gathering_none gathered left good all =
+  IsGathering-none gathered left good all =
       record { read = []; rest = lines; whole = refl; clean = refl; given = good; others = all }
 
   -- one more piece
-  pub gathering_more : (before after : List Placed → Type 0) (left left' : List (Result E BadLine))
+  pub IsGathering-more : (before after : List Placed → Type 0)
+      (left left' : List (Result E BadLine))
       (held : E) → left ≡ Ok held ∷ left'
       → ((xs ys : List Placed) → before xs → holds ys held → after (xs ++ ys))
       → IsGathering before left → IsGathering after left'
-  gathering_more before after left left' held is add g =
+  IsGathering-more before after left left' held is add g =
       let next = subst (AreRead holds g.rest) is g.others in
       record {
         read = g.read ++ next.0;
@@ -139,9 +140,10 @@ module _ {E : Type 0} (holds : List Placed → E → Type 0) (lines : List Meani
       }
 
   -- the next piece has the first bad line
-  pub gathering_bad : (gathered : List Placed → Type 0) (left left' : List (Result E BadLine))
+  pub IsFirstBad-next_piece : (gathered : List Placed → Type 0)
+      (left left' : List (Result E BadLine))
       (bad : BadLine) → left ≡ Err bad ∷ left' → IsGathering gathered left → IsFirstBad lines bad
-  gathering_bad gathered left left' bad is g =
+  IsFirstBad-next_piece gathered left left' bad is g =
       let next = subst (AreRead holds g.rest) is g.others in
       let here = next.3 in (
         here.0 ++ bad_lines_among next.1,
@@ -152,10 +154,10 @@ module _ {E : Type 0} (holds : List Placed → E → Type 0) (lines : List Meani
       )
 
   -- no piece is left
-  pub gathering_all : (gathered : List Placed → Type 0) (left : List (Result E BadLine))
+  pub bad_lines_among-gathered : (gathered : List Placed → Type 0) (left : List (Result E BadLine))
       → left ≡ [] → IsGathering gathered left → (bad_lines_among lines ≡ [])
       × gathered (placed_among lines)
-  gathering_all gathered left none g =
+  bad_lines_among-gathered gathered left none g =
       let over : g.rest ≡ [] = subst (AreRead holds g.rest) none g.others in
       let all : lines ≡ g.read = g.whole ∙ ap (λ l. g.read ++ l) over ∙ append-nil g.read in
       (ap bad_lines_among all ∙ g.clean, subst (λ l. gathered (placed_among l)) (sym all) g.given)

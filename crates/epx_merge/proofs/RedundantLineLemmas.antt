@@ -14,9 +14,9 @@ use Rattle.epx_lines.specs.declared.Line.{Line}
 use Rattle.epx_lines.specs.declared.Line.TheVariants.{Blank, Entry}
 use Rattle.epx_merge.specs.LogLines.{MeaningAt, placed_at, placed_among, BadLineAt, bad_lines_at}
 use Rattle.epx_merge.specs.LogLines.{bad_lines_among}
-use Rattle.epx_committed.specs.Ledgers.{LedgerView, IsFirstWhere, IsLedgerOf}
-use Rattle.epx_merge.specs.ReadFaults.{IsReadFault}
-use Rattle.epx_merge.specs.RedundantLines.{IsRedundant, DropsRedundant}
+use Rattle.epx_committed.specs.between.Ledgers.{LedgerView, IsFirstWhere, IsLedgerOf}
+use Rattle.epx_merge.specs.between.ReadFaults.{IsReadFault}
+use Rattle.epx_merge.specs.between.RedundantLines.{IsRedundant, DropsRedundant}
 use Rattle.epx_merge.proofs.ReadFaultLemmas.{placed_among-append, bad_lines_among-append}
 use Rattle.epx_committed.proofs.LedgerLemmas.{keys}
 

@@ -2,15 +2,9 @@ pub mod LogLines
 pub mod Refusals
 pub mod Acceptance
 pub mod LogLaws
-pub mod ReadFaults
-pub mod RedundantLines
-pub mod ReadPieces
 pub mod LogParts
-pub mod LinePieces
-pub mod LogReaders
-pub mod LedgerNotes
 pub mod ReadingRefusals
 pub mod SourceEndings
 pub mod DeliveredLogs
-pub mod SourceReadings
+pub mod between
 pub mod inner

@@ -1,5 +1,5 @@
 //! The fresh lines of a batch, which go into the cache once the batch is read.
-ghost use Rattle.epx_merge.specs.RedundantLines.{CachesSomeOf};
+ghost use Rattle.epx_merge.specs.between.RedundantLines.{CachesSomeOf};
 
 use crate::line_batch::LineBatch;
 use crate::line_cache::LineCache;

@@ -5,9 +5,9 @@ ghost use Rattle.std.specs.Prelude.{OnOk, Err, MatchResult};
 ghost use Rattle.epx_types.specs.Limits.{max_logs};
 ghost use Rattle.epx_merge.specs.LogLines.{MeaningAt};
 ghost use Rattle.epx_merge.specs.LogParts.{EndsLine};
-ghost use Rattle.epx_merge.specs.RedundantLines.{DropsCached};
+ghost use Rattle.epx_merge.specs.between.RedundantLines.{DropsCached};
 ghost use Rattle.epx_merge.specs.inner.Gathered.{AreGathered, most_unread};
-ghost use Rattle.epx_merge.specs.SourceReadings.{EndsReading};
+ghost use Rattle.epx_merge.specs.between.SourceReadings.{EndsReading};
 
 use crate::line_batch::LineBatch;
 use crate::split_lines::lines_end;

@@ -1,12 +1,12 @@
 //! The ledger of the committed map notes the lines of logs.
-ghost use Rattle.std.specs.Prelude.{◌≡◌, ◌++◌, true, List, [], Result, MatchResult};
+ghost use Rattle.std.specs.Prelude.{◌++◌, true, List, [], Result, MatchResult};
 ghost use Rattle.epx_types.specs.declared.fault.Why.{Why};
 ghost use Rattle.epx_lines.specs.declared.Line.{Line};
-ghost use Rattle.epx_merge.specs.LedgerNotes.{AreReadUpTo};
+ghost use Rattle.epx_merge.specs.between.LedgerNotes.{AreReadUpTo};
 ghost use Rattle.epx_merge.specs.LogLines.{MeaningAt, bad_lines_among};
-ghost use Rattle.epx_merge.specs.ReadFaults.{IsReadFault};
-ghost use Rattle.epx_merge.specs.ReadPieces.{AreReadBeside, IsReadBeside, HasEntries};
-ghost use Rattle.epx_merge.specs.RedundantLines.{DropsCached};
+ghost use Rattle.epx_merge.specs.between.ReadFaults.{IsReadFault};
+ghost use Rattle.epx_merge.specs.between.ReadPieces.{AreReadBeside, IsReadBeside, HasEntries};
+ghost use Rattle.epx_merge.specs.between.RedundantLines.{DropsCached};
 
 use crate::fresh_line::cache_batch_copy;
 use crate::line::PlacedLine;

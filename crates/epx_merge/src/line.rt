@@ -1,7 +1,7 @@
 //! A line of a log, before it is parsed.
 ghost use Rattle.std.specs.Prelude.{◌≡◌, Ok, IfOk, IfErr, IsTrue};
 ghost use Rattle.epx_lines.specs.Meaning.{meaning_of};
-ghost use Rattle.epx_lines.specs.Faults.{IsFaultOf};
+ghost use Rattle.epx_lines.specs.between.Faults.{IsFaultOf};
 ghost use Rattle.epx_lines.specs.declared.Line.TheVariants as line;
 ghost use Rattle.epx_merge.specs.LogLines.{meaning_at};
 

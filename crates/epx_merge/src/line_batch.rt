@@ -4,7 +4,7 @@ ghost use Rattle.std.specs.Prelude.{IfOk, OnOk, slice_get, take, drop};
 ghost use Rattle.epx_lines.specs.Lines.{lines_of};
 ghost use Rattle.epx_types.specs.Limits.{max_log_bytes};
 ghost use Rattle.epx_merge.specs.LogLines.{MeaningAt, meanings_in};
-ghost use Rattle.epx_merge.specs.RedundantLines.{DropsCached};
+ghost use Rattle.epx_merge.specs.between.RedundantLines.{DropsCached};
 
 use crate::line::PlacedLine;
 use epx_lines::is_blank_line;

@@ -4,11 +4,11 @@ ghost use Rattle.std.specs.Prelude.{MatchResult};
 ghost use Rattle.epx_types.specs.Pieces.{piece_count};
 ghost use Rattle.epx_types.specs.declared.fault.Why.{Why};
 ghost use Rattle.epx_lines.specs.declared.Line.{Line};
-ghost use Rattle.epx_merge.specs.LinePieces.{ArePiecesOf, lines_of_piece};
+ghost use Rattle.epx_merge.specs.between.LinePieces.{ArePiecesOf, lines_of_piece};
 ghost use Rattle.epx_merge.specs.LogLines.{MeaningAt};
-ghost use Rattle.epx_merge.specs.LogReaders.{HasRead, IsNoting, IsReading};
-ghost use Rattle.epx_merge.specs.ReadFaults.{IsReadFault, refused_among};
-ghost use Rattle.epx_merge.specs.RedundantLines.{DropsCached};
+ghost use Rattle.epx_merge.specs.between.LogReaders.{HasRead, IsNoting, IsReading};
+ghost use Rattle.epx_merge.specs.between.ReadFaults.{IsReadFault, refused_among};
+ghost use Rattle.epx_merge.specs.between.RedundantLines.{DropsCached};
 
 use crate::line_batch::LineBatch;
 use crate::line_cache::LineCache;

@@ -1,11 +1,11 @@
 //! Reads logs, and returns their committed map or the first refusal.
 ghost use Rattle.std.specs.Prelude.{◌≡◌, ℕ, true, false, All, List, MatchResult};
 ghost use Rattle.epx_merge.specs.Acceptance.{IsAccepted};
-ghost use Rattle.epx_merge.specs.LedgerNotes.{AreReadUpTo};
+ghost use Rattle.epx_merge.specs.between.LedgerNotes.{AreReadUpTo};
 ghost use Rattle.epx_merge.specs.LogLines.{meanings_of, bytes_of};
-ghost use Rattle.epx_merge.specs.LogReaders.{IsNoting};
+ghost use Rattle.epx_merge.specs.between.LogReaders.{IsNoting};
 ghost use Rattle.epx_merge.specs.Refusals.{FitLimits, IsRefusal};
-ghost use Rattle.epx_merge.specs.SourceReadings.{EndsMerging};
+ghost use Rattle.epx_merge.specs.between.SourceReadings.{EndsMerging};
 
 use crate::ledger_notes::empty_ledger;
 use crate::logs_in_memory::memory_sources;

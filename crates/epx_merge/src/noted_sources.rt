@@ -4,10 +4,10 @@ ghost use Rattle.std.specs.Prelude.{◌≡◌, ◌≤◌, ◌<◌, ◌++◌, ◌
 ghost use Rattle.std.specs.Prelude.{OnOk, Err, IfOk, MatchResult};
 ghost use Rattle.epx_types.specs.Limits.{max_logs};
 ghost use Rattle.epx_merge.specs.LogLines.{MeaningAt};
-ghost use Rattle.epx_merge.specs.LogReaders.{HasRead};
-ghost use Rattle.epx_merge.specs.RedundantLines.{DropsCached};
+ghost use Rattle.epx_merge.specs.between.LogReaders.{HasRead};
+ghost use Rattle.epx_merge.specs.between.RedundantLines.{DropsCached};
 ghost use Rattle.epx_merge.specs.inner.Gathered.{AreGathered, most_unread};
-ghost use Rattle.epx_merge.specs.SourceReadings.{EndsNoting, EndsReading};
+ghost use Rattle.epx_merge.specs.between.SourceReadings.{EndsNoting, EndsReading};
 
 use crate::batch_lens::batch_len;
 use crate::gathered_lines::{ReadPosition, gather};

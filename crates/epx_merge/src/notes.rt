@@ -2,10 +2,10 @@
 ghost use Rattle.std.specs.Prelude.{◌≡◌, ◌++◌, Bool, List, [], Result, IfOk, MatchResult};
 ghost use Rattle.epx_types.specs.declared.fault.Why.{Why};
 ghost use Rattle.epx_lines.specs.declared.Line.{Line};
-ghost use Rattle.epx_merge.specs.LinePieces.{ArePiecesOf};
+ghost use Rattle.epx_merge.specs.between.LinePieces.{ArePiecesOf};
 ghost use Rattle.epx_merge.specs.LogLines.{MeaningAt};
-ghost use Rattle.epx_merge.specs.ReadFaults.{IsReadFault, refused_among};
-ghost use Rattle.epx_merge.specs.RedundantLines.{DropsCached};
+ghost use Rattle.epx_merge.specs.between.ReadFaults.{IsReadFault, refused_among};
+ghost use Rattle.epx_merge.specs.between.RedundantLines.{DropsCached};
 
 use crate::line::PlacedLine;
 use crate::line_batch::LineBatch;

@@ -3,9 +3,10 @@ ghost use Rattle.std.specs.Prelude.{◌≡◌, ◌++◌, ◌∷◌, List, [], If
 ghost use Rattle.std.specs.Prelude.{MatchResult};
 ghost use Rattle.epx_merge.specs.LogLines.{MeaningAt, placed_at, placed_among, bad_lines_at};
 ghost use Rattle.epx_merge.specs.LogLines.{bad_lines_among};
-ghost use Rattle.epx_merge.specs.ReadPieces.{AreRead, HasEntries, IsReadBeside, SkipsOrReads};
-ghost use Rattle.epx_committed.specs.Ledgers.{NotesLines};
-ghost use Rattle.epx_merge.specs.ReadFaults.{IsReadFault};
+ghost use Rattle.epx_merge.specs.between.ReadPieces.{AreRead, HasEntries, IsReadBeside};
+ghost use Rattle.epx_merge.specs.between.ReadPieces.{SkipsOrReads};
+ghost use Rattle.epx_committed.specs.between.Ledgers.{NotesLines};
+ghost use Rattle.epx_merge.specs.between.ReadFaults.{IsReadFault};
 
 use crate::fresh_line::FreshLine;
 use crate::line::PlacedLine;
@@ -33,7 +34,7 @@ pub struct ReadPiece {
 pub(crate) type Pieces = Vec<Result<ReadPiece, BadLine>>;
 
 /// Reads one line, and appends its entry if it has one. Returns the line if it is bad.
-fn read_next(
+fn read_line_into(
     alloc: Global,
     reader: &mut LineReader,
     line: &PlacedLine<'_>,
@@ -57,7 +58,7 @@ fn read_next(
     }
 }
 
-/// Reads one line as `read_next` does, but skips it if the cache has it. Otherwise notes it as
+/// Reads one line as `read_line_into` does, but skips it if the cache has it. Otherwise notes it as
 /// fresh, so that the cache has it for later batches. The numbers are its index and its hash.
 fn read_if_fresh(
     alloc: Global,
@@ -78,7 +79,7 @@ fn read_if_fresh(
     if cache.has_slots() {
         piece.fresh.push(fresh)?;
     }
-    read_next(alloc, reader, line, &mut piece.entries)
+    read_line_into(alloc, reader, line, &mut piece.entries)
 }
 
 /// The hashes of lines.

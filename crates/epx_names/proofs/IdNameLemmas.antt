@@ -16,30 +16,33 @@ use Rattle.epx_names.specs.IdNames.{FitsIdTypes}
 
 -- ---- the first byte of a number
 
-pub no_plus : (n : ℕ) → n < 2 ^ 64 → get_or (decimal n) 0 0 ≢ 43
-no_plus n h = let number = decimal_is_IsNumeral n h in
+pub decimal-no_plus : (n : ℕ) → n < 2 ^ 64 → get_or (decimal n) 0 0 ≢ 43
+decimal-no_plus n h = let number = decimal_is_IsNumeral n h in
     not_in_digits (numerals_by_value _ tells_digits) (decimal n) 43 number.0.1
     (λ r. absurd (omega (arith, r))) 0 number.0.0
 
-pub no_zero_in_front : (n : ℕ) → n < 2 ^ 64 → get_or (decimal n) 0 0 ≡ 48 → length (decimal n) ≡ 1
-no_zero_in_front zero h e = ap length (decimal_digit 0 (omega arith))
-no_zero_in_front (suc n) h e = absurd (omega (arith, first_decimal (suc n) (omega arith) h))
+pub decimal-leading_zero : (n : ℕ) → n < 2 ^ 64 → get_or (decimal n) 0 0 ≡ 48
+    → length (decimal n) ≡ 1
+decimal-leading_zero zero h e = ap length (decimal_digit 0 (omega arith))
+decimal-leading_zero (suc n) h e = absurd (omega (arith, first_decimal (suc n) (omega arith) h))
 
 -- ---- what `parse` reads
 
-pub parse_some : {E : Type 0} (text : List ℕ) (r : Result ℕ E) → ParsesUnsigned 64 10 text r
+pub IfSome-parsed_decimal : {E : Type 0} (text : List ℕ) (r : Result ℕ E)
+    → ParsesUnsigned 64 10 text r
     → get_or text 0 0 ≢ 43 → (get_or text 0 0 ≡ 48 → length text ≡ 1)
     → IfSome (result_ok r) (λ n. text ≡ decimal n)
-parse_some {E} text (Err e) h plus lead = tt
-parse_some {E} text (Ok n) h plus lead =
+IfSome-parsed_decimal {E} text (Err e) h plus lead = tt
+IfSome-parsed_decimal {E} text (Ok n) h plus lead =
     let own = numerals_by_value _ tells_digits in
     let read = parse_plain own {E = E} 64 text (Ok n) h plus in
     sym (decimal-digits_value own text read.0.0 read.0.1 lead read.0.2) ∙ ap decimal (sym read.1)
 
-pub parse_none : {E : Type 0} (text : List ℕ) (r : Result ℕ E) → ParsesUnsigned 64 10 text r
+pub IfNone-parsed_decimal : {E : Type 0} (text : List ℕ) (r : Result ℕ E)
+    → ParsesUnsigned 64 10 text r
     → IfNone (result_ok r) ((n : ℕ) → n < 2 ^ 64 → text ≢ decimal n)
-parse_none text (Ok n) h = tt
-parse_none text (Err e) h = λ n small is.
+IfNone-parsed_decimal text (Ok n) h = tt
+IfNone-parsed_decimal text (Err e) h = λ n small is.
     let e = parse-decimal 64 n text (Err e) small small is h in cc
 
 -- ---- the parts before and after the dot
@@ -68,24 +71,24 @@ dot_of : (text : List ℕ) (x : Id) → FitsIdTypes x → text ≡ id_text x
 dot_of text x fits is = ap (position_or_len is_dot) (is ∙ parts_text x)
     ∙ dot_place x.replica (decimal x.number) (omega arith)
 
-pub has_dot : (text : List ℕ) (x : Id) → FitsIdTypes x → text ≡ id_text x
+pub position_or_len-dot : (text : List ℕ) (x : Id) → FitsIdTypes x → text ≡ id_text x
     → position_or_len is_dot text < length text
-has_dot text x fits is =
+position_or_len-dot text x fits is =
     let dot = dot_of text x fits is in
     let long = ap length (is ∙ parts_text x) in
     omega (arith, dot, simp length-append at long)
 
-pub before_dot : (text : List ℕ) (x : Id) → FitsIdTypes x → text ≡ id_text x
+pub before_first-dot : (text : List ℕ) (x : Id) → FitsIdTypes x → text ≡ id_text x
     → before_first is_dot text ≡ decimal x.replica
-before_dot text x fits is =
+before_first-dot text x fits is =
     let dot = dot_of text x fits is in
     let parts = is ∙ parts_text x in
     let seam = take-append_seam (decimal x.replica) (46 ∷ decimal x.number) in
     cc
 
-pub after_dot : (text : List ℕ) (x : Id) → FitsIdTypes x → text ≡ id_text x
+pub after_first-dot : (text : List ℕ) (x : Id) → FitsIdTypes x → text ≡ id_text x
     → after_first is_dot text ≡ decimal x.number
-after_dot text x fits is =
+after_first-dot text x fits is =
     let dot = dot_of text x fits is in
     let parts = is ∙ parts_text x in
     let seam = drop-append-add (decimal x.replica) (46 ∷ decimal x.number) 1 in
@@ -93,7 +96,7 @@ after_dot text x fits is =
 
 -- ---- the replica
 
-pub not_8_bits : {E : Type 0} (n : ℕ) (r : Result ℕ E) → OkIff r (n < 256) n → None ≡ result_ok r
+pub OkIff-none : {E : Type 0} (n : ℕ) (r : Result ℕ E) → OkIff r (n < 256) n → None ≡ result_ok r
     → ¬ (n < 256)
-not_8_bits n (Ok m) h e = cc
-not_8_bits n (Err e) h _ = h
+OkIff-none n (Ok m) h e = cc
+OkIff-none n (Err e) h _ = h

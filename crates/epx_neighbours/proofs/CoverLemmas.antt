@@ -10,32 +10,33 @@ use Rattle.epx_types.proofs.Common.{Conflict, IsReady, Reaches, Reaches-cases, R
 use Rattle.epx_types.proofs.Common.{IsExecutionOrder-once, AllPairs-slice_get, cases_lt}
 use Rattle.epx_types.proofs.Common.{Contains-slice_get, slice_get-from_Contains, slice_get_within}
 use Rattle.epx_types.proofs.Common.{slice_get-from_map, Contains-from_map, get_or_from_slice_get}
-use Rattle.epx_types.proofs.Common.{slice_get-get_or, instance_of_iff, written_keys-touched}
-use Rattle.epx_types.proofs.Common.{key_cases, written_keys, touched_keys}
+use Rattle.epx_types.proofs.Common.{slice_get-get_or, instance_of-iff_contains}
+use Rattle.epx_types.proofs.Common.{written_keys-touched}
+use Rattle.epx_types.proofs.Common.{key_cmp-cases, written_keys, touched_keys}
 use Rattle.epx_types.proofs.lists.ListPositionLemmas.{slice_get-map}
 use Rattle.epx_types.proofs.lists.SearchLemmas.{Contains-cases}
 use Rattle.epx_neighbours.specs.Neighbours.{AreNeighbours, TouchesAt, WritesAt}
 use Rattle.epx_neighbours.specs.UncoveredNeighbours.{NeighbourPair, IsUncoveredPair}
-use Rattle.epx_neighbours.proofs.UncoveredPairLemmas.{reached_back}
+use Rattle.epx_neighbours.proofs.UncoveredPairLemmas.{Reaches-back}
 
 -- one of the two commands writes the key, and the other touches it
 abbrev pub ConflictOn : List (List Op) → ℕ → ℕ → List ℕ → Type 0
 ConflictOn commands p q k = (WritesAt commands p k × TouchesAt commands q k)
     ⊎ (TouchesAt commands p k × WritesAt commands q k)
 
-pub same_keys : (k j : List ℕ) → (k ≡ j) ⊎ (¬ (k ≡ j))
-same_keys k j = elim (key_cases k j) [ inl same ↦ inl same.1 | inr other ↦ inr other.1 ]
+pub key_cmp-decides : (k j : List ℕ) → (k ≡ j) ⊎ (¬ (k ≡ j))
+key_cmp-decides k j = elim (key_cmp-cases k j) [ inl same ↦ inl same.1 | inr other ↦ inr other.1 ]
 
 pub WritesAt-cases : (commands : List (List Op)) (p : ℕ) (k : List ℕ)
     → WritesAt commands p k ⊎ (¬ WritesAt commands p k)
-WritesAt-cases commands p k = Contains-cases same_keys (written_keys (get_or commands p [])) k
+WritesAt-cases commands p k = Contains-cases key_cmp-decides (written_keys (get_or commands p [])) k
 
 -- a number between two others has the property, or none has it
-pub between_or_none : (P : ℕ → Type 0) → ((r : ℕ) → P r ⊎ (¬ P r)) → (p n : ℕ)
+pub between-cases : (P : ℕ → Type 0) → ((r : ℕ) → P r ⊎ (¬ P r)) → (p n : ℕ)
     → ((r : ℕ) × (p < r) × (r < n) × P r) ⊎ ((r : ℕ) → p < r → r < n → ¬ P r)
-between_or_none P decide p zero = inr (λ r after before h. omega arith)
-between_or_none P decide p (suc n) =
-    elim (between_or_none P decide p n) [
+between-cases P decide p zero = inr (λ r after before h. omega arith)
+between-cases P decide p (suc n) =
+    elim (between-cases P decide p n) [
       | inl found ↦ inl (found.0, found.1, omega (arith, found.2), found.3)
       | inr none ↦ elim (cases_lt p n) [
         | inl less ↦ elim (decide n) [
@@ -60,10 +61,10 @@ module _ (m : List Instance) (order : List Ranked) (orders : IsExecutionOrder m 
   touches p k = written_keys-touched (get_or commands p []) k
 
   -- two neighbours are uncovered, or the later one reaches the earlier one
-  pub uncovered_or_reached : (p q : ℕ) (x y : Id) (k : List ℕ) → slice_get ids p ≡ Some x
+  pub IsUncoveredPair-or_reaches : (p q : ℕ) (x y : Id) (k : List ℕ) → slice_get ids p ≡ Some x
       → slice_get ids q ≡ Some y → AreNeighbours commands p q k
       → IsUncoveredPair m order (record { before = x; after = y; key = k }) ⊎ Reaches m y x
-  uncovered_or_reached p q x y k at_p at_q are = elim (Reaches-cases m y x) [
+  IsUncoveredPair-or_reaches p q x y k at_p at_q are = elim (Reaches-cases m y x) [
     | inl back ↦ inr back
     | inr no_back ↦ inl (record {
       first = p;
@@ -72,7 +73,7 @@ module _ (m : List Instance) (order : List Ranked) (orders : IsExecutionOrder m 
       after = at_q;
       neighbours = are;
       apart = (
-        λ there. no_back (reached_back m order orders p q x y are.rises at_p at_q there),
+        λ there. no_back (Reaches-back m order orders p q x y are.rises at_p at_q there),
         no_back,
       );
     })
@@ -82,7 +83,7 @@ module _ (m : List Instance) (order : List Ranked) (orders : IsExecutionOrder m 
   step : ((n : NeighbourPair) → ¬ IsUncoveredPair m order n) → (p q : ℕ) (x y : Id) (k : List ℕ)
       → slice_get ids p ≡ Some x → slice_get ids q ≡ Some y → AreNeighbours commands p q k
       → Reaches m y x
-  step none p q x y k at_p at_q are = elim (uncovered_or_reached p q x y k at_p at_q are) [
+  step none p q x y k at_p at_q are = elim (IsUncoveredPair-or_reaches p q x y k at_p at_q are) [
     | inl uncovered ↦ absurd (none (record { before = x; after = y; key = k }) uncovered)
     | inr back ↦ back
   ]
@@ -96,7 +97,7 @@ module _ (m : List Instance) (order : List Ranked) (orders : IsExecutionOrder m 
         → R y x
     chain zero p q x y k l near at_p at_q one = absurd (omega arith)
     chain (suc gap) p q x y k l near at_p at_q one =
-        elim (between_or_none (λ r. WritesAt commands r k) (λ r. WritesAt-cases commands r k)
+        elim (between-cases (λ r. WritesAt commands r k) (λ r. WritesAt-cases commands r k)
         p q) [
           | inr clear ↦ follows p q x y k at_p at_q
               (record { rises = l; conflict = one; next = clear })
@@ -123,7 +124,7 @@ module _ (m : List Instance) (order : List Ranked) (orders : IsExecutionOrder m 
     command_at p d in_m at =
         get_or_from_slice_get commands p (ops_or_empty (instance_of m d.id)) []
         (slice_get-map (λ x. ops_or_empty (instance_of m x)) ids p d.id at)
-        ∙ ap ops_or_empty ((instance_of_iff m rising d.id d).1 (in_m, refl))
+        ∙ ap ops_or_empty ((instance_of-iff_contains m rising d.id d).1 (in_m, refl))
 
     at_ready : (d : Instance) → IsReady m d.id → (p : ℕ) × (slice_get ids p ≡ Some d.id)
     at_ready d ready = slice_get-from_Contains ids d.id (orders.whole d.id ready)
@@ -141,12 +142,12 @@ module _ (m : List Instance) (order : List Ranked) (orders : IsExecutionOrder m 
     )
 
     -- of two ready instances that conflict, one leads to the other
-    pub chained : (R : Id → Id → Type 0) → ((x y z : Id) → R x y → R y z → R x z)
+    pub AreNeighbours-chain : (R : Id → Id → Type 0) → ((x y z : Id) → R x y → R y z → R x z)
         → ((p q : ℕ) (x y : Id) (k : List ℕ) → slice_get ids p ≡ Some x
         → slice_get ids q ≡ Some y → AreNeighbours commands p q k → R y x) → (d e : Instance)
         → Contains m d → Contains m e → d.id ≢ e.id → IsReady m d.id → IsReady m e.id
         → Conflict d.ops e.ops → R d.id e.id ⊎ R e.id d.id
-    chained R chains follows d e in_d in_e differ d_ready e_ready conflict =
+    AreNeighbours-chain R chains follows d e in_d in_e differ d_ready e_ready conflict =
         let p = at_ready d d_ready in
         let q = at_ready e e_ready in
         let one = conflict_on d e p.0 q.0 in_d in_e p.1 q.1 conflict in
@@ -164,8 +165,8 @@ module _ (m : List Instance) (order : List Ranked) (orders : IsExecutionOrder m 
           ]
         ]
 
-    pub covered_without_pairs : ((n : NeighbourPair) → ¬ IsUncoveredPair m order n) → IsCovered m
-    covered_without_pairs none = chained (Reaches m) (Reaches-trans m) (step none)
+    pub IsCovered-without_pairs : ((n : NeighbourPair) → ¬ IsUncoveredPair m order n) → IsCovered m
+    IsCovered-without_pairs none = AreNeighbours-chain (Reaches m) (Reaches-trans m) (step none)
 
     -- an instance of the order
     instance_at : (p : ℕ) (x : Id) → slice_get ids p ≡ Some x
@@ -177,8 +178,8 @@ module _ (m : List Instance) (order : List Ranked) (orders : IsExecutionOrder m 
         let d = Contains-from_map (λ (e : Instance). e.id) m x ready.committed in
         (d.0, d.1, d.2, ready)
 
-    pub pairs_show_not_covered : (n : NeighbourPair) → IsUncoveredPair m order n → ¬ IsCovered m
-    pairs_show_not_covered n u covered =
+    pub IsCovered-not_if_pair : (n : NeighbourPair) → IsUncoveredPair m order n → ¬ IsCovered m
+    IsCovered-not_if_pair n u covered =
         let d = instance_at u.first n.before u.before in
         let e = instance_at u.second n.after u.after in
         let at_p : slice_get ids u.first ≡ Some d.0.id = u.before ∙ ap Some (sym d.2) in

@@ -5,12 +5,12 @@ use Rattle.std.proofs.Common.{slice_get, refl, subst₂, arith}
 use Rattle.epx_types.specs.declared.id.Id.{Id}
 use Rattle.epx_types.specs.declared.op.Op.{Op}
 use Rattle.epx_types.proofs.Common.{Instance, Ranked, IsExecutionOrder, ranked_ids}
-use Rattle.epx_types.proofs.Common.{commands_in, touched_keys, Reaches-cases, both_cases}
-use Rattle.epx_types.proofs.Common.{not_cases}
+use Rattle.epx_types.proofs.Common.{commands_in, touched_keys, Reaches-cases, both-cases}
+use Rattle.epx_types.proofs.Common.{negation-cases}
 use Rattle.epx_types.proofs.Common.{Contains-Id_cases, slice_get-from_Contains, Contains-slice_get}
 use Rattle.epx_types.proofs.Common.{IsExecutionOrder-once, AllPairs-slice_get, cases_lt}
-use Rattle.epx_types.proofs.Common.{Contains-flat_map, Contains-map, rising_list}
-use Rattle.epx_types.proofs.Common.{execution_order_exists}
+use Rattle.epx_types.proofs.Common.{Contains-flat_map, Contains-map, AreThose-exists}
+use Rattle.epx_types.proofs.Common.{IsExecutionOrder-exists}
 use Rattle.epx_types.proofs.lists.SearchLemmas.{Contains-cases}
 use Rattle.epx_neighbours.specs.Neighbours.{AreNeighbours, TouchesAt, WritesAt}
 use Rattle.epx_neighbours.specs.UncoveredLines.{pairs_text}
@@ -18,22 +18,23 @@ use Rattle.epx_neighbours.specs.UncoveredNeighbours.{NeighbourPair, IsUncoveredP
 use Rattle.epx_neighbours.specs.UncoveredNeighbours.{AreUncoveredPairs}
 use Rattle.epx_neighbours.specs.UncoveredTextLaws.{UncoveredTextExists}
 use Rattle.epx_neighbours.specs.inner.KeyNumbers.{keys_in}
-use Rattle.epx_neighbours.proofs.CoverLemmas.{ConflictOn, same_keys, WritesAt-cases}
-use Rattle.epx_neighbours.proofs.CoverLemmas.{between_or_none}
-use Rattle.epx_neighbours.proofs.RowOrderLemmas.{pair_cmp_total, pair_cmp-IsAntisymmetric}
-use Rattle.epx_neighbours.proofs.TouchLemmas.{touched_there}
+use Rattle.epx_neighbours.proofs.CoverLemmas.{ConflictOn, key_cmp-decides, WritesAt-cases}
+use Rattle.epx_neighbours.proofs.CoverLemmas.{between-cases}
+use Rattle.epx_neighbours.proofs.RowOrderLemmas.{pair_cmp-IsTotalOrder, pair_cmp-IsAntisymmetric}
+use Rattle.epx_neighbours.proofs.TouchLemmas.{keys_in-touched}
 
 TouchesAt-cases : (commands : List (List Op)) (p : ℕ) (k : List ℕ)
     → TouchesAt commands p k ⊎ (¬ TouchesAt commands p k)
-TouchesAt-cases commands p k = Contains-cases same_keys (touched_keys (get_or commands p [])) k
+TouchesAt-cases commands p k =
+    Contains-cases key_cmp-decides (touched_keys (get_or commands p [])) k
 
 ConflictOn-cases : (commands : List (List Op)) (p q : ℕ) (k : List ℕ)
     → ConflictOn commands p q k ⊎ (¬ ConflictOn commands p q k)
 ConflictOn-cases commands p q k =
-    elim (both_cases (WritesAt-cases commands p k) (TouchesAt-cases commands q k)) [
+    elim (both-cases (WritesAt-cases commands p k) (TouchesAt-cases commands q k)) [
       | inl first ↦ inl (inl first)
       | inr not_first ↦
-          elim (both_cases (TouchesAt-cases commands p k) (WritesAt-cases commands q k)) [
+          elim (both-cases (TouchesAt-cases commands p k) (WritesAt-cases commands q k)) [
             | inl second ↦ inl (inr second)
             | inr not_second ↦ inr (λ one. elim one [
               | inl c ↦ not_first c
@@ -49,7 +50,7 @@ AreNeighbours-cases commands p q k = elim (cases_lt p q) [
   | inr upto ↦ inr (λ are. omega (arith, upto, are.rises))
   | inl less ↦ elim (ConflictOn-cases commands p q k) [
     | inr apart ↦ inr (λ are. apart are.conflict)
-    | inl one ↦ elim (between_or_none (λ r. WritesAt commands r k)
+    | inl one ↦ elim (between-cases (λ r. WritesAt commands r k)
         (λ r. WritesAt-cases commands r k) p q) [
           | inl (r, after, before, wrote) ↦ inr (λ are. are.next r after before wrote)
           | inr clear ↦ inl (record { rises = less; conflict = one; next = clear })
@@ -82,8 +83,8 @@ module _ (m : List Instance) (order : List Ranked) (orders : IsExecutionOrder m 
     | inr none ↦ inr (λ u. none (subst₂ (λ v w. AreNeighbours commands v w n.key)
         (one_position u.first p n.before u.before at_p)
         (one_position u.second q n.after u.after at_q) u.neighbours))
-    | inl are ↦ elim (both_cases (not_cases (Reaches-cases m n.before n.after))
-        (not_cases (Reaches-cases m n.after n.before))) [
+    | inl are ↦ elim (both-cases (negation-cases (Reaches-cases m n.before n.after))
+        (negation-cases (Reaches-cases m n.after n.before))) [
           | inl apart ↦ inl (record {
             first = p;
             second = q;
@@ -122,8 +123,8 @@ module _ (m : List Instance) (order : List Ranked) (orders : IsExecutionOrder m 
   unfolding pairs_with pairs_from
   in_pairs n u =
       let key : Contains (keys_in commands) n.key = elim u.neighbours.conflict [
-        | inl c ↦ touched_there commands u.second n.key c.1
-        | inr c ↦ touched_there commands u.first n.key c.0
+        | inl c ↦ keys_in-touched commands u.second n.key c.1
+        | inr c ↦ keys_in-touched commands u.first n.key c.0
       ] in
       Contains-flat_map pairs_from ids n.before n
       (Contains-slice_get ids u.first n.before u.before)
@@ -132,9 +133,10 @@ module _ (m : List Instance) (order : List Ranked) (orders : IsExecutionOrder m 
       (Contains-map (λ k. record { before = n.before; after = n.after; key = k })
       (keys_in commands) n.key key))
 
-  pub pairs_exist : (pairs : List NeighbourPair) × AreUncoveredPairs m order pairs
-  pairs_exist =
-      let those = rising_list pair_cmp_total pair_cmp-IsAntisymmetric (IsUncoveredPair m order)
+  pub AreUncoveredPairs-exists : (pairs : List NeighbourPair) × AreUncoveredPairs m order pairs
+  AreUncoveredPairs-exists =
+      let those =
+      AreThose-exists pair_cmp-IsTotalOrder pair_cmp-IsAntisymmetric (IsUncoveredPair m order)
       IsUncoveredPair-cases (flat_map pairs_from ids) in (
         those.0,
         record {
@@ -146,10 +148,10 @@ module _ (m : List Instance) (order : List Ranked) (orders : IsExecutionOrder m 
         },
       )
 
-pub uncovered_text_exists : UncoveredTextExists
-uncovered_text_exists m rising =
-    let order = execution_order_exists m rising in
-    let pairs = pairs_exist m order.0 order.1 in (
+pub UncoveredTextExists-holds : UncoveredTextExists
+UncoveredTextExists-holds m rising =
+    let order = IsExecutionOrder-exists m rising in
+    let pairs = AreUncoveredPairs-exists m order.0 order.1 in (
       pairs_text pairs.0,
       record {
         order = order.0;

@@ -16,9 +16,9 @@ module _ (touches : List KeyTouch) (last_writer i : ℕ) (initial : List Neighbo
       ↔ (Contains initial x ⊎ ((j : ℕ) × (j < e) × IsMadeBy touches last_writer i x j))
 
   -- none is made before the last writer
-  pub made_none : (x : Neighbours) → Contains initial x
+  pub AreMadeUpTo-none : (x : Neighbours) → Contains initial x
       ↔ (Contains initial x ⊎ ((j : ℕ) × (j < last_writer) × IsMadeBy touches last_writer i x j))
-  made_none x = (
+  AreMadeUpTo-none x = (
     λ h. inl h,
     λ h. elim h [
       | inl was ↦ was
@@ -33,12 +33,12 @@ module _ (touches : List KeyTouch) (last_writer i : ℕ) (initial : List Neighbo
     key = (key_touch_at touches i).key;
   }
 
-  pub made_push : (e : ℕ) (found : List Neighbours) → last_writer ≤ e → e < i
+  pub AreMadeUpTo-push : (e : ℕ) (found : List Neighbours) → last_writer ≤ e → e < i
       → IsTrue (key_touch_at touches i).writes
       ⊎ ((e ≡ last_writer) × IsTrue (key_touch_at touches e).writes)
       → (key_touch_at touches e).position < (key_touch_at touches i).position
       → AreMadeUpTo e found → AreMadeUpTo (e + 1) (found ++ made_of e ∷ [])
-  made_push e found from below one rises up x = (
+  AreMadeUpTo-push e found from below one rises up x = (
     λ h. elim (Contains-push_cases found (made_of e) x h) [
       | inl was ↦ elim ((up x).0 was) [
         | inl old ↦ inl old
@@ -70,10 +70,10 @@ module _ (touches : List KeyTouch) (last_writer i : ℕ) (initial : List Neighbo
     ],
   )
 
-  pub made_skip : (e : ℕ) (found : List Neighbours)
+  pub AreMadeUpTo-skip : (e : ℕ) (found : List Neighbours)
       → ((x : Neighbours) → ¬ IsMadeBy touches last_writer i x e) → AreMadeUpTo e found
       → AreMadeUpTo (e + 1) found
-  made_skip e found none up x = (
+  AreMadeUpTo-skip e found none up x = (
     λ h. elim ((up x).0 h) [
       | inl old ↦ inl old
       | inr (j, less, made) ↦ inr (j, omega (arith, less), made)
@@ -90,11 +90,11 @@ module _ (touches : List KeyTouch) (last_writer i : ℕ) (initial : List Neighbo
   )
 
   -- no touch from e on makes neighbours
-  pub made_all : (e : ℕ) (found : List Neighbours)
+  pub AreMadeUpTo-at_end : (e : ℕ) (found : List Neighbours)
       → ((j : ℕ) (x : Neighbours) → e ≤ j → ¬ IsMadeBy touches last_writer i x j)
       → AreMadeUpTo e found → (x : Neighbours) → Contains found x
       ↔ (Contains initial x ⊎ ((j : ℕ) × IsMadeBy touches last_writer i x j))
-  made_all e found none up x = (
+  AreMadeUpTo-at_end e found none up x = (
     λ h. elim ((up x).0 h) [ inl old ↦ inl old | inr (j, less, made) ↦ inr (j, made) ],
     λ h. (up x).1 (elim h [
       | inl old ↦ inl old

@@ -8,7 +8,7 @@ use Rattle.epx_types.proofs.Common.{ranked_ids, commands_in}
 use Rattle.epx_neighbours.specs.Mending.{HasMoreDependencies}
 use Rattle.epx_neighbours.specs.Neighbours.{AreNeighbours}
 use Rattle.epx_neighbours.specs.UncoveredTextLaws.{MendedMapIsCovered}
-use Rattle.epx_neighbours.proofs.CoverLemmas.{chained, uncovered_or_reached}
+use Rattle.epx_neighbours.proofs.CoverLemmas.{AreNeighbours-chain, IsUncoveredPair-or_reaches}
 
 module _ (m n : List Instance) (more : HasMoreDependencies m n) where
   path_kept : (x : Id) (via : List Id) (y : Id) → IsPath m x via y → IsPath n x via y
@@ -31,13 +31,15 @@ module _ (m n : List Instance) (more : HasMoreDependencies m n) where
     complete = λ y reach. committed_before y (ready.complete y (reach_kept x y reach));
   }
 
-pub mended_map_is_covered : MendedMapIsCovered
-mended_map_is_covered m n order pairs rising orders listed more mended a b in_a in_b differ a_ready
+pub MendedMapIsCovered-holds : MendedMapIsCovered
+MendedMapIsCovered-holds m n order pairs rising orders listed more mended a b in_a in_b differ
+    a_ready
     b_ready conflict =
     let d = more.same a in_a in
     let e = more.same b in_b in
     let apart : d.0.id ≢ e.0.id = λ same. differ (sym d.2 ∙ same ∙ e.2) in
-    let one = chained m order orders rising (Reaches n) (Reaches-trans n) follow d.0 e.0 d.1 e.1
+    let one = AreNeighbours-chain m order orders rising (Reaches n) (Reaches-trans n) follow d.0 e.0
+    d.1 e.1
     apart (ready_before m n more d.0.id (subst (IsReady n) (sym d.2) a_ready))
     (ready_before m n more e.0.id (subst (IsReady n) (sym e.2) b_ready))
     (subst₂ Conflict (sym d.3) (sym e.3) conflict) in
@@ -50,7 +52,7 @@ mended_map_is_covered m n order pairs rising orders listed more mended a b in_a 
         → slice_get (ranked_ids order) q ≡ Some y
         → AreNeighbours (commands_in m (ranked_ids order)) p q k → Reaches n y x
     follow p q x y k at_p at_q are =
-        elim (uncovered_or_reached m order orders p q x y k at_p at_q are) [
+        elim (IsUncoveredPair-or_reaches m order orders p q x y k at_p at_q are) [
           | inl uncovered ↦ inr ([], mended _ ((listed.exact _).1 uncovered))
           | inr back ↦ reach_kept m n more y x back
         ]

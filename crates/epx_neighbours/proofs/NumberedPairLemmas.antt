@@ -1,13 +1,13 @@
 -- Touches that the walk joins are those of neighbours.
 use Rattle.std.proofs.Common.{◌≡◌, ◌⊎◌, inl, inr, ℕ, ◌<◌, ◌≤◌, Bool, true, List, length}
 use Rattle.std.proofs.Common.{Contains, AllPairs, IsTrue, refl, sym, ap, subst, ◌∙◌, arith}
-use Rattle.epx_types.proofs.Common.{cases_lt, false≢true, some_or_none, below_cases}
-use Rattle.epx_types.proofs.Common.{below_irrefl, Contains-get_or, get_or_default}
+use Rattle.epx_types.proofs.Common.{cases_lt, false≢true, Contains-some_or_none, is_lt-cases}
+use Rattle.epx_types.proofs.Common.{is_lt-irrefl, Contains-get_or, get_or_default}
 use Rattle.epx_neighbours.specs.declared.key_touch.KeyTouch.{KeyTouch}
 use Rattle.epx_neighbours.specs.declared.neighbours.Neighbours.{Neighbours}
 use Rattle.epx_neighbours.specs.inner.KeyTouches.{key_touch_at, TouchBelow}
 use Rattle.epx_neighbours.specs.inner.NumberedPairs.{HasTouch, HasWrite, AreNumbered}
-use Rattle.epx_neighbours.proofs.TouchOrderLemmas.{lower_touch, touch_cmp_total}
+use Rattle.epx_neighbours.proofs.TouchOrderLemmas.{IsLowerTouch-from_below, touch_cmp-IsTotalOrder}
 use Rattle.epx_neighbours.proofs.TouchOrderLemmas.{touch_cmp-IsAntisymmetric}
 use Rattle.epx_neighbours.proofs.WalkLemmas.{Joins}
 
@@ -32,7 +32,7 @@ module _ (touches : List KeyTouch) (rising : AllPairs TouchBelow touches) where
   first_by_position j i m l same less = elim (cases_lt j i) [
     | inl below ↦ below
     | inr upto ↦ elim (cases_lt i j) [
-      | inl above ↦ absurd (elim (lower_touch (at i) (at j) (rising i j _ above m)) [
+      | inl above ↦ absurd (elim (IsLowerTouch-from_below (at i) (at j) (rising i j _ above m)) [
         | inl k ↦ omega (arith, k, same)
         | inr (e, inl p) ↦ omega (arith, p, less)
         | inr (e, inr p) ↦ omega (arith, p.0, less)
@@ -48,8 +48,8 @@ module _ (touches : List KeyTouch) (rising : AllPairs TouchBelow touches) where
   key_between : (j t i : ℕ) → j < t → t < i → i < length touches → (at j).key ≡ (at i).key
       → (at t).key ≡ (at i).key
   key_between j t i after before l same =
-      elim (lower_touch (at j) (at t) (rising j t _ after (omega arith))) [
-        | inl less ↦ elim (lower_touch (at t) (at i) (rising t i _ before l)) [
+      elim (IsLowerTouch-from_below (at j) (at t) (rising j t _ after (omega arith))) [
+        | inl less ↦ elim (IsLowerTouch-from_below (at t) (at i) (rising t i _ before l)) [
           | inl k ↦ absurd (omega (arith, less, k, same))
           | inr e ↦ e.0
         ]
@@ -59,7 +59,7 @@ module _ (touches : List KeyTouch) (rising : AllPairs TouchBelow touches) where
   position_upto : (t i : ℕ) → t < i → i < length touches → (at t).key ≡ (at i).key
       → (at t).position ≤ (at i).position
   position_upto t i before l same =
-      elim (lower_touch (at t) (at i) (rising t i _ before l)) [
+      elim (IsLowerTouch-from_below (at t) (at i) (rising t i _ before l)) [
         | inl k ↦ absurd (omega (arith, k, same))
         | inr (e, inl p) ↦ omega (arith, p)
         | inr (e, inr p) ↦ omega (arith, p.0)
@@ -69,7 +69,7 @@ module _ (touches : List KeyTouch) (rising : AllPairs TouchBelow touches) where
   reads_before : (t i : ℕ) → t < i → i < length touches → (at t).key ≡ (at i).key
       → (at t).position ≡ (at i).position → ¬ IsTrue (at t).writes
   reads_before t i before l same level wrote =
-      elim (lower_touch (at t) (at i) (rising t i _ before l)) [
+      elim (IsLowerTouch-from_below (at t) (at i) (rising t i _ before l)) [
         | inl k ↦ omega (arith, k, same)
         | inr (e, inl p) ↦ omega (arith, p, level)
         | inr (e, inr p) ↦ false≢true (sym p.1 ∙ wrote)
@@ -97,9 +97,9 @@ module _ (touches : List KeyTouch) (rising : AllPairs TouchBelow touches) where
 
   -- ---- joined touches are of neighbours
 
-  pub numbered_from_joins : (x : Neighbours) (i j : ℕ) → i < length touches → Joins touches i x j
+  pub AreNumbered-from_joins : (x : Neighbours) (i j : ℕ) → i < length touches → Joins touches i x j
       → AreNumbered touches x
-  numbered_from_joins x i j l join =
+  AreNumbered-from_joins x i j l join =
       subst (AreNumbered touches) (sym join.is) (record {
         rises = join.rises;
         conflict = elim join.one [
@@ -129,18 +129,19 @@ module _ (touches : List KeyTouch) (rising : AllPairs TouchBelow touches) where
   -- ---- neighbours have joined touches
 
   HasWrite-cases : (p k : ℕ) → HasWrite touches p k ⊎ (¬ HasWrite touches p k)
-  HasWrite-cases p k = elim (some_or_none (λ t. t ≡ touch k p true) decide touches) [
+  HasWrite-cases p k = elim (Contains-some_or_none (λ t. t ≡ touch k p true) decide touches) [
     | inl found ↦ inl (subst (Contains touches) found.2 found.1)
     | inr none ↦ inr (λ h. none (touch k p true) h refl)
   ] where
     decide : (t : KeyTouch) → (t ≡ touch k p true) ⊎ (¬ (t ≡ touch k p true))
-    decide t = elim (below_cases touch_cmp_total touch_cmp-IsAntisymmetric t (touch k p true)) [
-      | inl lower ↦ inr (λ same. below_irrefl touch_cmp_total (touch k p true)
-          (subst (λ (s : KeyTouch). TouchBelow s (touch k p true)) same lower))
-      | inr (inl same) ↦ inl same
-      | inr (inr higher) ↦ inr (λ same. below_irrefl touch_cmp_total (touch k p true)
-          (subst (λ (s : KeyTouch). TouchBelow (touch k p true) s) same higher))
-    ]
+    decide t =
+        elim (is_lt-cases touch_cmp-IsTotalOrder touch_cmp-IsAntisymmetric t (touch k p true)) [
+          | inl lower ↦ inr (λ same. is_lt-irrefl touch_cmp-IsTotalOrder (touch k p true)
+              (subst (λ (s : KeyTouch). TouchBelow s (touch k p true)) same lower))
+          | inr (inl same) ↦ inl same
+          | inr (inr higher) ↦ inr (λ same. is_lt-irrefl touch_cmp-IsTotalOrder (touch k p true)
+              (subst (λ (s : KeyTouch). TouchBelow (touch k p true) s) same higher))
+        ]
 
   -- no command between writes the key, nor does the first command, if its touch reads
   joined : (x : Neighbours) (w v : Bool)
@@ -219,9 +220,9 @@ module _ (touches : List KeyTouch) (rising : AllPairs TouchBelow touches) where
               reads_before t i.0 before i.1 key_t same wrote
         ]
 
-  pub joins_from_numbered : (x : Neighbours) → AreNumbered touches x
+  pub Joins-from_numbered : (x : Neighbours) → AreNumbered touches x
       → (i j : ℕ) × (i < length touches) × Joins touches i x j
-  joins_from_numbered x n = elim n.conflict [
+  Joins-from_numbered x n = elim n.conflict [
     | inl (first, second) ↦
         joined x true second.0 n.rises n.next (inl refl) first second.1
     | inr (first, second) ↦ elim (HasWrite-cases x.before x.key) [

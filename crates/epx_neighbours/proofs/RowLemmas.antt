@@ -26,10 +26,10 @@ module _ (ids : List Id) (found : List Neighbours) (marks : List Bool) where
       let second : r.after ≡ s.after = cc after in
       λ i. record { before = first i; after = second i; key = key i }
 
-  pub unmarked_push : (n : ℕ) (x : Neighbours) (r : UncoveredRow) (rows : List UncoveredRow)
+  pub AreUnmarkedUpTo-push : (n : ℕ) (x : Neighbours) (r : UncoveredRow) (rows : List UncoveredRow)
       → slice_get found n ≡ Some x → get_or marks n false ≡ false → IsUncoveredRowOf ids x r
       → AreUnmarkedUpTo n rows → AreUnmarkedUpTo (n + 1) (rows ++ r ∷ [])
-  unmarked_push n x r rows at none row up s = (
+  AreUnmarkedUpTo-push n x r rows at none row up s = (
     λ h. elim (Contains-push_cases rows r s h) [
       | inl was ↦ let u = (up s).0 was in (u.0, u.1, omega (arith, u.2), u.3, u.4, u.5)
       | inr same ↦ (n, x, omega arith, at, none, subst (IsUncoveredRowOf ids x) same row)
@@ -45,9 +45,9 @@ module _ (ids : List Id) (found : List Neighbours) (marks : List Bool) where
     ],
   )
 
-  pub unmarked_skip : (n : ℕ) (rows : List UncoveredRow) → get_or marks n false ≡ true
+  pub AreUnmarkedUpTo-skip : (n : ℕ) (rows : List UncoveredRow) → get_or marks n false ≡ true
       → AreUnmarkedUpTo n rows → AreUnmarkedUpTo (n + 1) rows
-  unmarked_skip n rows marked up s = (
+  AreUnmarkedUpTo-skip n rows marked up s = (
     λ h. let u = (up s).0 h in (u.0, u.1, omega (arith, u.2), u.3, u.4, u.5),
     λ (j, y, l, at_j, plain, other). elim (cases_lt j n) [
       | inl past ↦ (up s).1 (j, y, past, at_j, plain, other)

@@ -28,18 +28,19 @@ use Rattle.epx_neighbours.specs.inner.KeyTouches.{AreTouches}
 use Rattle.epx_neighbours.specs.inner.NumberedPairs.{AreNumbered, HasTouch, HasWrite}
 use Rattle.epx_neighbours.specs.inner.UncoveredRows.{RowBelow, AreRows, HavePositionsWithin}
 use Rattle.epx_neighbours.specs.inner.UncoveredRows.{pair_of}
-use Rattle.epx_neighbours.proofs.KeyNumberLemmas.{at_number}
-use Rattle.epx_neighbours.proofs.TouchLemmas.{keys_rise, write_iff, touch_iff}
-use Rattle.epx_neighbours.proofs.TouchLemmas.{touch_within, touched_there}
-use Rattle.epx_audit.specs.RelatedPairs.{AreLaterFirst, AreRelatedMarks}
+use Rattle.epx_neighbours.proofs.KeyNumberLemmas.{slice_get-number_of}
+use Rattle.epx_neighbours.proofs.TouchLemmas.{AllPairs-keys_in, HasWrite-iff_writes_at}
+use Rattle.epx_neighbours.proofs.TouchLemmas.{HasTouch-iff_touches_at}
+use Rattle.epx_neighbours.proofs.TouchLemmas.{HasTouch-within, keys_in-touched}
+use Rattle.epx_audit.specs.between.RelatedPairs.{AreLaterFirst, AreRelatedMarks}
 
 -- ---- in an execution order
 
 module _ (m : List Instance) (order : List Ranked) (orders : IsExecutionOrder m order) where
   -- an instance that reaches a later one is reached by it
-  pub reached_back : (p q : ℕ) (x y : Id) → p < q → slice_get (ranked_ids order) p ≡ Some x
+  pub Reaches-back : (p q : ℕ) (x y : Id) → p < q → slice_get (ranked_ids order) p ≡ Some x
       → slice_get (ranked_ids order) q ≡ Some y → Reaches m x y → Reaches m y x
-  reached_back p q x y earlier at_p at_q there = elim (Reaches-cases m y x) [
+  Reaches-back p q x y earlier at_p at_q there = elim (Reaches-cases m y x) [
     | inl back ↦ back
     | inr none ↦
         let lawful = IsExecutionOrder-IsLawful m order orders in
@@ -57,10 +58,10 @@ module _ (m : List Instance) (order : List Ranked) (orders : IsExecutionOrder m 
 
 module _ (commands : List (List Op)) (touches : List KeyTouch)
     (are : AreTouches (keys_in commands) commands touches) where
-  pub neighbours_iff : (x : Neighbours) (k : List ℕ)
+  pub AreNumbered-iff_neighbours : (x : Neighbours) (k : List ℕ)
       → slice_get (keys_in commands) x.key ≡ Some k
       → AreNumbered touches x ↔ AreNeighbours commands x.before x.after k
-  neighbours_iff x k at = (
+  AreNumbered-iff_neighbours x k at = (
     λ n. record {
       rises = n.rises;
       conflict = elim n.conflict [
@@ -79,24 +80,24 @@ module _ (commands : List (List Op)) (touches : List KeyTouch)
     },
   ) where
     write : (p : ℕ) → HasWrite touches p x.key ↔ WritesAt commands p k
-    write = write_iff commands touches are x.key k at
+    write = HasWrite-iff_writes_at commands touches are x.key k at
 
     touch : (p : ℕ) → HasTouch touches p x.key ↔ TouchesAt commands p k
-    touch = touch_iff commands touches are x.key k at
+    touch = HasTouch-iff_touches_at commands touches are x.key k at
 
-  pub touch_of_first : (x : Neighbours) → AreNumbered touches x → HasTouch touches x.before x.key
-  touch_of_first x n = elim n.conflict [ inl c ↦ (true, c.0) | inr c ↦ c.0 ]
+  pub HasTouch-first : (x : Neighbours) → AreNumbered touches x → HasTouch touches x.before x.key
+  HasTouch-first x n = elim n.conflict [ inl c ↦ (true, c.0) | inr c ↦ c.0 ]
 
-  pub touch_of_second : (x : Neighbours) → AreNumbered touches x → HasTouch touches x.after x.key
-  touch_of_second x n = elim n.conflict [ inl c ↦ c.1 | inr c ↦ (true, c.1) ]
+  pub HasTouch-second : (x : Neighbours) → AreNumbered touches x → HasTouch touches x.after x.key
+  HasTouch-second x n = elim n.conflict [ inl c ↦ c.1 | inr c ↦ (true, c.1) ]
 
   -- the positions of neighbours are in the list, and their key has its number
-  pub numbered_within : (x : Neighbours) → AreNumbered touches x
+  pub AreNumbered-within : (x : Neighbours) → AreNumbered touches x
       → (x.before < length commands) × (x.after < length commands)
       × ((k : List ℕ) × (slice_get (keys_in commands) x.key ≡ Some k))
-  numbered_within x n =
-      let first = touch_within commands touches are x.before x.key (touch_of_first x n) in
-      let second = touch_within commands touches are x.after x.key (touch_of_second x n) in
+  AreNumbered-within x n =
+      let first = HasTouch-within commands touches are x.before x.key (HasTouch-first x n) in
+      let second = HasTouch-within commands touches are x.after x.key (HasTouch-second x n) in
       (first.0, second.0, first.1)
 
 -- ---- the order of rows is that of pairs
@@ -141,10 +142,10 @@ module _ (keys : List (List ℕ)) (rising : AllPairs KeyBelow keys) where
         ]
       ]
 
-  pub pairs_rise : (rows : List UncoveredRow)
+  pub AllPairs-pair_of : (rows : List UncoveredRow)
       → ((r : UncoveredRow) → Contains rows r → r.key < length keys) → AllPairs RowBelow rows
       → AllPairs PairBelow (map (pair_of keys) rows)
-  pairs_rise rows within rise =
+  AllPairs-pair_of rows within rise =
       AllPairs-from_slice_get PairBelow (map (pair_of keys) rows) (λ i j x y l p q.
       let a = slice_get-from_map (pair_of keys) rows i x p in
       let b = slice_get-from_map (pair_of keys) rows j y q in
@@ -175,11 +176,12 @@ module _ (m : List Instance) (order : List Ranked) (orders : IsExecutionOrder m 
   found_in : (x : Neighbours) → Contains found x
       → (x.before < length ids) × (x.after < length ids)
   found_in x h =
-      let n = numbered_within commands touches are x ((exact x).0 h) in
+      let n = AreNumbered-within commands touches are x ((exact x).0 h) in
       (omega (arith, n.0, same_length), omega (arith, n.1, same_length))
 
-  pub found_within : HavePositionsWithin (length ids) found
-  found_within = All-weaker (Contains found) _ found_in found (All-contains_itself found)
+  pub HavePositionsWithin-found : HavePositionsWithin (length ids) found
+  HavePositionsWithin-found =
+      All-weaker (Contains found) _ found_in found (All-contains_itself found)
 
   -- the later position of each two neighbours comes first
   pair_within : (pair : ℕ × ℕ) → Contains (map (λ x. (x.after, x.before)) found) pair
@@ -192,8 +194,8 @@ module _ (m : List Instance) (order : List Ranked) (orders : IsExecutionOrder m 
       subst (λ (pair : ℕ × ℕ). (pair.1 < pair.0) × (pair.0 < length order)) x.2
       (n.rises, omega (arith, second, l))
 
-  pub pairs_within : AreLaterFirst (length order) (map (λ x. (x.after, x.before)) found)
-  pairs_within = All-weaker (Contains (map (λ x. (x.after, x.before)) found)) _ pair_within _
+  pub AreLaterFirst-found : AreLaterFirst (length order) (map (λ x. (x.after, x.before)) found)
+  AreLaterFirst-found = All-weaker (Contains (map (λ x. (x.after, x.before)) found)) _ pair_within _
       (All-contains_itself (map (λ x. (x.after, x.before)) found))
 
   module _ (marks : List Bool)
@@ -214,12 +216,12 @@ module _ (m : List Instance) (order : List Ranked) (orders : IsExecutionOrder m 
       row_within r h =
           let u = (made.exact r).0 h in
           let n = (exact u.1).0 (Contains-slice_get found u.0 u.1 u.3) in
-          let k = (numbered_within commands touches are u.1 n).2 in
+          let k = (AreNumbered-within commands touches are u.1 n).2 in
           let l = slice_get_within keys u.1.key k.0 k.1 in
           omega (arith, l, u.5.key)
 
-      pub rows_within : All (λ r. r.key < length keys) rows
-      rows_within = All-weaker (Contains rows) _ row_within rows (All-contains_itself rows)
+      pub rows-within : All (λ r. r.key < length keys) rows
+      rows-within = All-weaker (Contains rows) _ row_within rows (All-contains_itself rows)
 
       uncovered_from_row : (r : UncoveredRow) → Contains rows r
           → IsUncoveredPair m order (pair_of keys r)
@@ -228,7 +230,7 @@ module _ (m : List Instance) (order : List Ranked) (orders : IsExecutionOrder m 
           let x = u.1 in
           let n = (exact x).0 (Contains-slice_get found u.0 x u.3) in
           let row = u.5 in
-          let k = (numbered_within commands touches are x n).2 in
+          let k = (AreNumbered-within commands touches are x n).2 in
           let key : k.0 ≡ get_or keys r.key [] =
           sym (get_or_from_slice_get keys x.key k.0 [] k.1)
           ∙ ap (λ j. get_or keys j []) row.key in
@@ -241,9 +243,9 @@ module _ (m : List Instance) (order : List Ranked) (orders : IsExecutionOrder m 
             before = row.before;
             after = row.after;
             neighbours = subst (AreNeighbours commands x.before x.after) key
-                ((neighbours_iff commands touches are x k.0 k.1).0 n);
+                ((AreNumbered-iff_neighbours commands touches are x k.0 k.1).0 n);
             apart = (
-              λ reach. back (reached_back m order orders x.before x.after r.before r.after n.rises
+              λ reach. back (Reaches-back m order orders x.before x.after r.before r.after n.rises
                   row.before row.after reach),
               back,
             );
@@ -253,13 +255,14 @@ module _ (m : List Instance) (order : List Ranked) (orders : IsExecutionOrder m 
           → Contains (map (pair_of keys) rows) n
       row_from_uncovered n u =
           let there = key_of_neighbours u.first u.second n.key u.neighbours in
-          let at = at_number keys n.key there in
+          let at = slice_get-number_of keys n.key there in
           let x : Neighbours = record {
             before = u.first;
             after = u.second;
             key = number_of keys n.key;
           } in
-          let numbered = (neighbours_iff commands touches are x n.key at).1 u.neighbours in
+          let numbered =
+          (AreNumbered-iff_neighbours commands touches are x n.key at).1 u.neighbours in
           let i = slice_get-from_Contains found x ((exact x).1 numbered) in
           let mark = mark_of i.0 x n.before n.after i.1 u.before u.after in
           let unmarked : get_or marks i.0 false ≡ false =
@@ -289,19 +292,19 @@ module _ (m : List Instance) (order : List Ranked) (orders : IsExecutionOrder m 
           key_of_neighbours : (p q : ℕ) (k : List ℕ) → AreNeighbours commands p q k
               → Contains keys k
           key_of_neighbours p q k n = elim n.conflict [
-            | inl c ↦ touched_there commands q k c.1
-            | inr c ↦ touched_there commands p k c.0
+            | inl c ↦ keys_in-touched commands q k c.1
+            | inr c ↦ keys_in-touched commands p k c.0
           ]
 
-      pub rows_listed : AreUncoveredPairs m order (map (pair_of keys) rows)
-      rows_listed = record {
+      pub AreUncoveredPairs-rows : AreUncoveredPairs m order (map (pair_of keys) rows)
+      AreUncoveredPairs-rows = record {
         exact = λ n. (
           λ h.
               let r = Contains-from_map (pair_of keys) rows n h in
               subst (IsUncoveredPair m order) r.2 (uncovered_from_row r.0 r.1),
           row_from_uncovered n,
         );
-        rising = pairs_rise keys (keys_rise commands) rows row_within made.rising;
+        rising = AllPairs-pair_of keys (AllPairs-keys_in commands) rows row_within made.rising;
       }
 
 -- ---- the same for keys and commands that are known to be those of the order
@@ -318,21 +321,21 @@ module _ (m : List Instance) (order : List Ranked) (orders : IsExecutionOrder m 
       (commands_in m (ranked_ids order)) touches
   known = subst₂ (λ ks cs. AreTouches ks cs touches) names_are all_is are
 
-  pub all_within : HavePositionsWithin (length (ranked_ids order)) found
-  all_within = found_within m order orders touches known found exact
+  pub HavePositionsWithin-all : HavePositionsWithin (length (ranked_ids order)) found
+  HavePositionsWithin-all = HavePositionsWithin-found m order orders touches known found exact
 
-  pub all_pairs_within : AreLaterFirst (length order) (map (λ x. (x.after, x.before)) found)
-  all_pairs_within = pairs_within m order orders touches known found exact
+  pub AreLaterFirst-all : AreLaterFirst (length order) (map (λ x. (x.after, x.before)) found)
+  AreLaterFirst-all = AreLaterFirst-found m order orders touches known found exact
 
   module _ (marks : List Bool) (rows : List UncoveredRow)
       (related : AreRelatedMarks m order (map (λ x. (x.after, x.before)) found) marks)
       (made : AreRows (ranked_ids order) found marks rows) where
-    pub all_rows_within : All (λ r. r.key < length names) rows
-    all_rows_within = subst (λ (ks : List (List ℕ)). All (λ (r : UncoveredRow). r.key < length ks)
+    pub rows-within_names : All (λ r. r.key < length names) rows
+    rows-within_names = subst (λ (ks : List (List ℕ)). All (λ (r : UncoveredRow). r.key < length ks)
         rows) (sym names_are)
-        (rows_within m order orders touches known found exact marks related rows made)
+        (rows-within m order orders touches known found exact marks related rows made)
 
-    pub all_rows_listed : AreUncoveredPairs m order (map (pair_of names) rows)
-    all_rows_listed = subst (λ (ks : List (List ℕ)). AreUncoveredPairs m order
+    pub AreUncoveredPairs-all_rows : AreUncoveredPairs m order (map (pair_of names) rows)
+    AreUncoveredPairs-all_rows = subst (λ (ks : List (List ℕ)). AreUncoveredPairs m order
         (map (pair_of ks) rows)) (sym names_are)
-        (rows_listed m order orders touches known found exact marks related rows made)
+        (AreUncoveredPairs-rows m order orders touches known found exact marks related rows made)

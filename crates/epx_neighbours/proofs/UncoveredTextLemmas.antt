@@ -2,24 +2,25 @@
 use Rattle.std.proofs.Common.{◌≡◌, ℕ, List, [], ◌∷◌, Contains, get_or, refl, sym, ap, subst}
 use Rattle.std.proofs.Common.{◌∙◌, arith}
 use Rattle.json.specs.Print.{escape_byte}
-use Rattle.epx_types.proofs.Common.{Instance, Ranked, IsExecutionOrder-unique, below_irrefl}
-use Rattle.epx_types.proofs.Common.{below_trans, same_rising, Contains-nil, Contains-head}
+use Rattle.epx_types.proofs.Common.{Instance, Ranked, IsExecutionOrder-unique, is_lt-irrefl}
+use Rattle.epx_types.proofs.Common.{is_lt-trans, AllPairs-is_unique, Contains-nil, Contains-head}
 use Rattle.epx_report.specs.ViewLines.{covered_line}
 use Rattle.epx_neighbours.specs.UncoveredLines.{pairs_text}
 use Rattle.epx_neighbours.specs.UncoveredNeighbours.{NeighbourPair, PairBelow, AreUncoveredPairs}
 use Rattle.epx_neighbours.specs.UncoveredTextLaws.{UncoveredTextIsUnique, CoveredLineMeansCovered}
-use Rattle.epx_neighbours.proofs.CoverLemmas.{covered_without_pairs, pairs_show_not_covered}
-use Rattle.epx_neighbours.proofs.RowOrderLemmas.{pair_cmp_total}
+use Rattle.epx_neighbours.proofs.CoverLemmas.{IsCovered-without_pairs, IsCovered-not_if_pair}
+use Rattle.epx_neighbours.proofs.RowOrderLemmas.{pair_cmp-IsTotalOrder}
 
 same_pairs : (m : List Instance) (order : List Ranked) (pairs others : List NeighbourPair)
     → AreUncoveredPairs m order pairs → AreUncoveredPairs m order others → pairs ≡ others
 same_pairs m order pairs others p q =
-    same_rising PairBelow (below_irrefl pair_cmp_total) (below_trans pair_cmp_total) pairs others
+    AllPairs-is_unique PairBelow (is_lt-irrefl pair_cmp-IsTotalOrder)
+    (is_lt-trans pair_cmp-IsTotalOrder) pairs others
     p.rising q.rising (λ n h. (q.exact n).1 ((p.exact n).0 h))
     (λ n h. (p.exact n).1 ((q.exact n).0 h))
 
-pub uncovered_text_is_unique : UncoveredTextIsUnique
-uncovered_text_is_unique m text other p q =
+pub UncoveredTextIsUnique-holds : UncoveredTextIsUnique
+UncoveredTextIsUnique-holds m text other p q =
     let order = IsExecutionOrder-unique m q.order p.order q.executed p.executed in
     p.printed ∙ ap pairs_text (same_pairs m p.order p.pairs q.pairs p.listed
     (subst (λ o. AreUncoveredPairs m o q.pairs) order q.listed)) ∙ sym q.printed
@@ -41,14 +42,14 @@ none_from_cover : (pairs : List NeighbourPair) → ((n : NeighbourPair) → ¬ C
 none_from_cover [] none = refl
 none_from_cover (n ∷ pairs) none = absurd (none n (Contains-head n pairs))
 
-pub covered_line_means_covered : CoveredLineMeansCovered
-covered_line_means_covered m text rising is = (
+pub CoveredLineMeansCovered-holds : CoveredLineMeansCovered
+CoveredLineMeansCovered-holds m text rising is = (
   λ e.
       let none = none_from_text is.pairs (sym is.printed ∙ e) in
-      covered_without_pairs m is.order is.executed rising (λ n u.
+      IsCovered-without_pairs m is.order is.executed rising (λ n u.
       Contains-nil n (subst (λ ns. Contains ns n) none ((is.listed.exact n).1 u))),
   λ covered.
       let none = none_from_cover is.pairs (λ n h.
-      pairs_show_not_covered m is.order is.executed rising n ((is.listed.exact n).0 h) covered) in
+      IsCovered-not_if_pair m is.order is.executed rising n ((is.listed.exact n).0 h) covered) in
       is.printed ∙ ap pairs_text none,
 )

@@ -35,11 +35,11 @@ module _ {K : Type 0} (R : K → K → Ordering) (total : IsTotalOrder R) (same 
       }
 
   -- the list rises, and has the elements that it was made from
-  pub unique_kept : (gathered sorted kept : List K) → IsPermutation gathered sorted
+  pub AllPairs-kept : (gathered sorted kept : List K) → IsPermutation gathered sorted
       → IsSorted R sorted → IsFiltered (DiffersFromLast E) [] sorted kept
       → AllPairs (λ x y. is_lt (R x y) ≡ true) kept
       × ((x : K) → Contains kept x ↔ Contains gathered x)
-  unique_kept gathered sorted kept moved sorts filtered =
+  AllPairs-kept gathered sorted kept moved sorts filtered =
       let is : kept ≡ dedup E sorted = dedup_is E sorted kept filtered in (
         subst (AllPairs (λ x y. is_lt (R x y) ≡ true)) (sym is)
             (rises_from_strict (dedup E sorted)

@@ -7,7 +7,7 @@ use Rattle.epx_neighbours.specs.declared.key_touch.KeyTouch.{KeyTouch}
 use Rattle.epx_neighbours.specs.declared.neighbours.Neighbours.{Neighbours}
 use Rattle.epx_neighbours.specs.inner.KeyTouches.{key_touch_at, TouchBelow}
 use Rattle.epx_neighbours.specs.inner.NumberedPairs.{IsMadeBy}
-use Rattle.epx_neighbours.proofs.TouchOrderLemmas.{lower_touch}
+use Rattle.epx_neighbours.proofs.TouchOrderLemmas.{IsLowerTouch-from_below}
 
 -- touches j and i are of one key, one of them writes, and no touch between them does
 pub record Joins (touches : List KeyTouch) (i : ℕ) (x : Neighbours) (j : ℕ) : Type 0 where
@@ -57,33 +57,34 @@ module _ (touches : List KeyTouch) where
 
   module _ (rising : AllPairs TouchBelow touches) where
     -- keys do not fall
-    pub keys_rise : (j i : ℕ) → j < i → i < length touches → key j ≤ key i
-    keys_rise j i below l = elim (lower_touch (key_touch_at touches j) (key_touch_at touches i)
+    pub key-rising : (j i : ℕ) → j < i → i < length touches → key j ≤ key i
+    key-rising j i below l =
+        elim (IsLowerTouch-from_below (key_touch_at touches j) (key_touch_at touches i)
         (rising j i _ below l)) [
           | inl less ↦ omega arith
           | inr same ↦ omega (arith, same.0)
         ]
 
     -- the first touch of its key
-    pub start_by_new_key : (last_writer n : ℕ) → n < length touches → key n ≢ key last_writer
+    pub IsStart-new_key : (last_writer n : ℕ) → n < length touches → key n ≢ key last_writer
         → IsLastWriter touches last_writer n → IsStart touches n n
-    start_by_new_key last_writer n l differs old = record {
+    IsStart-new_key last_writer n l differs old = record {
       within = omega arith;
       alike = λ j from upto. let same : j ≡ n = omega arith in ap key same;
       reads = λ j from below. absurd (omega arith);
       before = λ j below same. absurd (elim (cases_lt j last_writer) [
         | inl past ↦
-            let up = keys_rise j last_writer past (omega (arith, l, old.some (omega arith))) in
-            let on = keys_rise last_writer n (old.some (omega arith)) l in
+            let up = key-rising j last_writer past (omega (arith, l, old.some (omega arith))) in
+            let on = key-rising last_writer n (old.some (omega arith)) l in
             differs (omega (arith, up, on, same))
         | inr here ↦ differs (sym same ∙ old.alike j here below)
       ]);
     }
 
   -- a further touch of the key
-  pub start_by_same_key : (last_writer n : ℕ) → key n ≡ key last_writer
+  pub IsStart-same_key : (last_writer n : ℕ) → key n ≡ key last_writer
       → IsLastWriter touches last_writer n → IsStart touches last_writer n
-  start_by_same_key last_writer n same old = record {
+  IsStart-same_key last_writer n same old = record {
     within = old.within;
     alike = λ j from upto. elim (cases_lt j n) [
       | inl past ↦ old.alike j from past ∙ sym same
@@ -95,8 +96,8 @@ module _ (touches : List KeyTouch) where
   }
 
   -- a touch that writes
-  pub last_by_writer : (n : ℕ) → IsTrue (writes n) → IsLastWriter touches n (n + 1)
-  last_by_writer n writing = record {
+  pub IsLastWriter-writer : (n : ℕ) → IsTrue (writes n) → IsLastWriter touches n (n + 1)
+  IsLastWriter-writer n writing = record {
     within = omega arith;
     some = λ l. omega arith;
     alike = λ j from below. let same : j ≡ n = omega arith in ap key same;
@@ -105,9 +106,10 @@ module _ (touches : List KeyTouch) where
   }
 
   -- a touch that reads
-  pub last_by_reader : (last_writer n : ℕ) → ¬ IsTrue (writes n) → IsStart touches last_writer n
+  pub IsLastWriter-reader : (last_writer n : ℕ) → ¬ IsTrue (writes n)
+      → IsStart touches last_writer n
       → IsLastWriter touches last_writer (n + 1)
-  last_by_reader last_writer n reading start = record {
+  IsLastWriter-reader last_writer n reading start = record {
     within = omega (arith, start.within);
     some = λ l. omega (arith, start.within);
     alike = λ j from below.
@@ -122,9 +124,9 @@ module _ (touches : List KeyTouch) where
   }
 
   -- the neighbours that touch n makes
-  pub made_join : (last_writer n : ℕ) → IsStart touches last_writer n → (x : Neighbours)
+  pub IsMadeBy-iff_joins : (last_writer n : ℕ) → IsStart touches last_writer n → (x : Neighbours)
       → ((j : ℕ) × IsMadeBy touches last_writer n x j) ↔ ((j : ℕ) × Joins touches n x j)
-  made_join last_writer n start x = (forth, back) where
+  IsMadeBy-iff_joins last_writer n start x = (forth, back) where
     forth : ((j : ℕ) × IsMadeBy touches last_writer n x j) → (j : ℕ) × Joins touches n x j
     forth (j, made) = (
       j,
@@ -168,35 +170,35 @@ module _ (touches : List KeyTouch) where
     )
 
   -- those of the first n touches and those of touch n
-  pub found_more : (last_writer n : ℕ) (found now : List Neighbours)
+  pub AreFoundUpTo-step : (last_writer n : ℕ) (found now : List Neighbours)
       → IsStart touches last_writer n → AreFoundUpTo touches n found
       → ((x : Neighbours) → Contains now x
       ↔ (Contains found x ⊎ ((j : ℕ) × IsMadeBy touches last_writer n x j)))
       → AreFoundUpTo touches (n + 1) now
-  found_more last_writer n found now start old step x = (
+  AreFoundUpTo-step last_writer n found now start old step x = (
     λ h. elim ((step x).0 h) [
       | inl was ↦ let w = (old x).0 was in (w.0, w.1, omega (arith, w.2), w.3)
-      | inr made ↦ let join = (made_join last_writer n start x).0 made in
+      | inr made ↦ let join = (IsMadeBy-iff_joins last_writer n start x).0 made in
           (n, join.0, omega arith, join.1)
     ],
     λ (i, j, l, join). (step x).1 (elim (cases_lt i n) [
       | inl past ↦ inl ((old x).1 (i, j, past, join))
       | inr here ↦
           let same : i ≡ n = omega arith in
-          inr ((made_join last_writer n start x).1
+          inr ((IsMadeBy-iff_joins last_writer n start x).1
           (j, subst (λ k. Joins touches k x j) same join))
     ]),
   )
 
   -- at the start nothing is found
-  pub none_found : AreFoundUpTo touches 0 []
-  none_found x = (
+  pub AreFoundUpTo-start : AreFoundUpTo touches 0 []
+  AreFoundUpTo-start x = (
     λ h. absurd (Contains-nil x h),
     λ (i, j, l, join). absurd (omega (arith, l)),
   )
 
-  pub last_at_start : IsLastWriter touches 0 0
-  last_at_start = record {
+  pub IsLastWriter-start : IsLastWriter touches 0 0
+  IsLastWriter-start = record {
     within = omega arith;
     some = λ l. l;
     alike = λ j from below. absurd (omega arith);

@@ -1,23 +1,13 @@
 //! Numbers the keys of commands.
 ghost use Rattle.std.specs.Prelude.{◌≡◌, flat_map, map, AllPairs, IfOk, OnOk};
-ghost use Rattle.std.specs.BTreeSet.{insert_key};
 ghost use Rattle.epx_types.specs.CommandKeys.{touched_by};
-ghost use Rattle.epx_types.specs.Keys.{key_cmp, add_keys, KeyBelow};
+ghost use Rattle.epx_types.specs.Keys.{add_keys, KeyBelow};
 ghost use Rattle.epx_neighbours.specs.inner.KeyNumbers.{keys_in, number_of};
 
+use epx_types::key_set::add_key;
 use epx_types::{Command, Key, Memory, Op};
 use std::alloc::Global;
 use std::collections::BTreeSet;
-
-/// Adds a key to the set. One that is there already changes nothing.
-fn add_key<'a>(keys: &mut BTreeSet<&'a Key>, key: &'a Key) -> Result<(), Memory>
-    ensures { OnOk result
-        (map (λ k. k.now) keys.new.keys ≡
-        insert_key key_cmp (map (λ k. k.now) keys.old.keys) key.now) }
-{
-    keys.insert(key)?;
-    Ok(())
-}
 
 /// Adds the keys that an operation touches: one, or two if it copies.
 fn add_operation<'a>(keys: &mut BTreeSet<&'a Key>, op: &'a Op) -> Result<(), Memory>

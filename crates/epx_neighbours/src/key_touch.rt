@@ -1,6 +1,6 @@
 //! Which commands touch which keys.
 ghost use Rattle.std.specs.Prelude.{◌≡◌, ◌++◌, ◌∷◌, [], map, AllPairs, IfOk, OnOk};
-ghost use Rattle.epx_types.specs.Accesses.{access_of};
+ghost use Rattle.epx_types.specs.between.Accesses.{access_of};
 ghost use Rattle.epx_types.specs.Keys.{KeyBelow};
 ghost use Rattle.epx_neighbours.specs.inner.KeyTouches.{key_touch_of, key_touches_by, touches_in};
 ghost use Rattle.epx_neighbours.specs.inner.KeyTouches.{AreTouches};

@@ -1,5 +1,5 @@
 //! Finds the neighbours on each key.
-ghost use Rattle.std.specs.Prelude.{◌≡◌, ◌↔◌, ◌⊎◌, ℕ, ◌<◌, ◌≤◌, length, AllPairs, Contains};
+ghost use Rattle.std.specs.Prelude.{◌↔◌, ◌⊎◌, ℕ, ◌<◌, ◌≤◌, length, AllPairs, Contains};
 ghost use Rattle.std.specs.Prelude.{IfOk, OnOk};
 ghost use Rattle.epx_neighbours.specs.declared.neighbours.Neighbours.{Neighbours};
 ghost use Rattle.epx_neighbours.specs.inner.KeyTouches.{TouchBelow};

@@ -1,7 +1,8 @@
 //! Neighbours that are not related.
 ghost use Rattle.std.specs.Prelude.{◌≡◌, ◌↔◌, length, Contains, IfOk};
 ghost use Rattle.epx_neighbours.specs.declared.uncovered_row.UncoveredRow.{UncoveredRow};
-ghost use Rattle.epx_neighbours.specs.inner.UncoveredRows.{AreRows, HavePositionsWithin, IsUnmarked};
+ghost use Rattle.epx_neighbours.specs.inner.UncoveredRows.{AreRows, HavePositionsWithin};
+ghost use Rattle.epx_neighbours.specs.inner.UncoveredRows.{IsUnmarked};
 
 use crate::neighbours::Neighbours;
 use epx_types::{Id, Memory};

@@ -11,10 +11,10 @@ pub record AreBoxesOf (m : List Instance) (n : ℕ) (node_boxes : List NodeBox) 
   pub named : map (λ d. d.id) node_boxes ≡ take n (ids_of m)
   pub shown : (d : NodeBox) → Contains node_boxes d → IsBoxOf m d
 
-pub boxes_push : (m : List Instance) (n : ℕ) (node_boxes : List NodeBox) (d : NodeBox)
+pub AreBoxesOf-push : (m : List Instance) (n : ℕ) (node_boxes : List NodeBox) (d : NodeBox)
     → AreBoxesOf m n node_boxes → slice_get (ids_of m) n ≡ Some d.id → IsBoxOf m d
     → AreBoxesOf m (n + 1) (node_boxes ++ d ∷ [])
-boxes_push m n node_boxes d old at is = record {
+AreBoxesOf-push m n node_boxes d old at is = record {
   named =
       let ids = ids_of m in
       let next = take_more ids n d.id (slice_get_within ids n d.id at) in

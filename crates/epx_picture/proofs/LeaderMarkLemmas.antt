@@ -14,9 +14,9 @@ no_leader_mark n l = elim (cases_lt l n) [
       (omega (arith, length-replicate n false, past))
 ]
 
-pub leader_marks_none : (node_ranks : List NodeRank) (n : ℕ) → length node_ranks ≡ n
+pub AreLeaderMarks-none : (node_ranks : List NodeRank) (n : ℕ) → length node_ranks ≡ n
     → AreLeaderMarks node_ranks 0 (replicate n false)
-leader_marks_none node_ranks n long = record {
+AreLeaderMarks-none node_ranks n long = record {
   nodes = length-replicate n false ∙ sym long;
   exact = λ l. (
     λ h. absurd (false≢true (sym (no_leader_mark n l) ∙ h)),
@@ -59,8 +59,8 @@ module _ (node_ranks : List NodeRank) (n : ℕ) (marks : List Bool)
   ]
 
   -- the next node is its own leader
-  pub leader_marks_past : s.leader ≡ n → AreLeaderMarks node_ranks (n + 1) marks
-  leader_marks_past own = record {
+  pub AreLeaderMarks-past : s.leader ≡ n → AreLeaderMarks node_ranks (n + 1) marks
+  AreLeaderMarks-past own = record {
     nodes = old.nodes;
     exact = λ l. (
       λ h. more l ((old.exact l).0 h),
@@ -72,9 +72,9 @@ module _ (node_ranks : List NodeRank) (n : ℕ) (marks : List Bool)
   }
 
   -- the next node has another leader
-  pub leader_marks_more : ¬ (s.leader ≡ n) → s.leader < length marks
+  pub AreLeaderMarks-more : ¬ (s.leader ≡ n) → s.leader < length marks
       → AreLeaderMarks node_ranks (n + 1) (set marks s.leader true)
-  leader_marks_more other within = record {
+  AreLeaderMarks-more other within = record {
     nodes = length-set marks s.leader true ∙ old.nodes;
     exact = λ l. (
       λ h. elim (cases_eq l s.leader) [

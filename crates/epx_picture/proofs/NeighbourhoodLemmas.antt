@@ -8,28 +8,29 @@ use Rattle.epx_types.proofs.Common.{get_or_from_slice_get}
 use Rattle.epx_types.proofs.Common.{Contains-slice_get, Instance}
 use Rattle.epx_types.proofs.Common.{DependsOn-committed, All-weaker, All-contains_itself}
 use Rattle.epx_types.specs.declared.id.Id.{Id}
-use Rattle.epx_graph.proofs.Common.{DependencyGraph, IsGraphOf, edge_from_committed, edge_within}
-use Rattle.epx_graph.proofs.Common.{node_id, node_is_unique, node_of_committed}
-use Rattle.epx_graph.proofs.Common.{node_of_dependency}
+use Rattle.epx_graph.proofs.Common.{DependencyGraph, IsGraphOf, edges_of-from_committed}
+use Rattle.epx_graph.proofs.Common.{edges_of-within}
+use Rattle.epx_graph.proofs.Common.{slice_get-id_of_node, ids-is_unique, slice_get-if_committed}
+use Rattle.epx_graph.proofs.Common.{slice_get-dependency}
 use Rattle.epx_picture.specs.Neighbourhoods.{IsStep, IsWithinSteps, IsWithinTest}
 use Rattle.epx_picture.specs.inner.NodeMarks.{IsNodeStep, IsNodeWithin, HasMark, AreMarksWithin}
-use Rattle.epx_picture.proofs.BoolLemmas.{same_marks}
-use Rattle.epx_picture.proofs.NodeMarkLemmas.{none_marked}
+use Rattle.epx_picture.proofs.BoolLemmas.{IsTrue-same}
+use Rattle.epx_picture.proofs.NodeMarkLemmas.{HasMark-none}
 
 module _ (m : List Instance) (g : DependencyGraph) (is : IsGraphOf m g) where
   -- ---- steps
 
   -- both ends of a step have a node
   first_node : (x y : Id) → IsStep m x y → (k : ℕ) × (slice_get g.ids k ≡ Some x)
-  first_node x y (inl d) = let k = node_of_committed m g is x (DependsOn-committed m x y d) in
+  first_node x y (inl d) = let k = slice_get-if_committed m g is x (DependsOn-committed m x y d) in
       (k.0, k.2)
-  first_node x y (inr d) = node_of_dependency m g is y x d
+  first_node x y (inr d) = slice_get-dependency m g is y x d
 
   -- a step begins at a node
   step_start : (k j : ℕ) → IsNodeStep g k j → k < length g.ids
   step_start k j (inl edge) =
-      omega (arith, edge_from_committed g is.graph k j edge, is.graph.committed_nodes)
-  step_start k j (inr edge) = edge_within g is.graph j k edge
+      omega (arith, edges_of-from_committed g is.graph k j edge, is.graph.committed_nodes)
+  step_start k j (inr edge) = edges_of-within g is.graph j k edge
 
   module _ (k j : ℕ) (x y : Id) (at : slice_get g.ids k ≡ Some x) (to : slice_get g.ids j ≡ Some y)
     where
@@ -51,7 +52,7 @@ module _ (m : List Instance) (g : DependencyGraph) (is : IsGraphOf m g) where
       inl (within_from_nodes n k j x y at to near)
   within_from_nodes (suc n) k j x y at to (inr last) =
       let i = last.0 in
-      let z = node_id g is.graph i (step_start i j last.2) in
+      let z = slice_get-id_of_node g is.graph i (step_start i j last.2) in
       inr (
         z.0,
         within_from_nodes n k i x z.0 at z.1 last.1,
@@ -61,7 +62,7 @@ module _ (m : List Instance) (g : DependencyGraph) (is : IsGraphOf m g) where
   nodes_from_within : (n k j : ℕ) (x y : Id) → slice_get g.ids k ≡ Some x
       → slice_get g.ids j ≡ Some y → IsWithinSteps m n x y → IsNodeWithin g n k j
   nodes_from_within zero k j x y at to same =
-      node_is_unique g is.graph k j y (at ∙ ap Some same) to
+      ids-is_unique g is.graph k j y (at ∙ ap Some same) to
   nodes_from_within (suc n) k j x y at to (inl near) =
       inl (nodes_from_within n k j x y at to near)
   nodes_from_within (suc n) k j x y at to (inr last) =
@@ -91,35 +92,35 @@ module _ (m : List Instance) (g : DependencyGraph) (is : IsGraphOf m g) where
         → marks ≡ map near g.ids
     same_test marks nodes there back =
         same_lists marks (map near g.ids) (nodes ∙ sym (length-map g.ids near)) (λ j d l.
-        let y = node_id g is.graph j (omega (arith, nodes, l)) in
+        let y = slice_get-id_of_node g is.graph j (omega (arith, nodes, l)) in
         let mapped : get_or (map near g.ids) j d ≡ near y.0 =
         get_or-map near g.ids j y.0 d (omega (arith, nodes, l))
         ∙ ap near (get_or_from_slice_get g.ids j y.0 y.0 y.1) in
         get_or_default marks j d false l
-        ∙ same_marks (get_or marks j false) (near y.0)
+        ∙ IsTrue-same (get_or marks j false) (near y.0)
         (λ h. (exact y.0).1 (there j y.0 y.1 h)) (λ h. back j y.0 y.1 ((exact y.0).0 h))
         ∙ sym mapped)
 
     -- the marks of the nodes within n steps of the instance's node
-    pub marks_of_node : (k : ℕ) → slice_get g.ids k ≡ Some x → (marks : List Bool)
+    pub AreMarksWithin-of_node : (k : ℕ) → slice_get g.ids k ≡ Some x → (marks : List Bool)
         → AreMarksWithin g n k marks → marks ≡ map near g.ids
-    marks_of_node k at marks are = same_test marks are.nodes
+    AreMarksWithin-of_node k at marks are = same_test marks are.nodes
         (λ j y to h. within_from_nodes n k j x y at to ((are.exact j).0 h))
         (λ j y to h. (are.exact j).1 (nodes_from_within n k j x y at to h))
 
     -- an instance without a node
-    pub marks_of_none : ¬ Contains g.ids x → replicate (length g.ids) false ≡ map near g.ids
-    marks_of_none outside = same_test (replicate (length g.ids) false)
+    pub replicate-no_node : ¬ Contains g.ids x → replicate (length g.ids) false ≡ map near g.ids
+    replicate-no_node outside = same_test (replicate (length g.ids) false)
         (length-replicate (length g.ids) false)
-        (λ j y to h. absurd (none_marked (length g.ids) j h))
+        (λ j y to h. absurd (HasMark-none (length g.ids) j h))
         (λ j y to h. absurd (outside (subst (Contains g.ids)
         (sym (within_itself x outside n y h)) (Contains-slice_get g.ids j y to))))
 
 -- the dependencies of an instance have nodes
-pub deps_have_nodes : (m : List Instance) (g : DependencyGraph) → IsGraphOf m g → (e : Instance)
+pub All-deps_have_nodes : (m : List Instance) (g : DependencyGraph) → IsGraphOf m g → (e : Instance)
     → Contains m e → All (Contains g.ids) e.deps
-deps_have_nodes m g is e there = All-weaker (Contains e.deps) (Contains g.ids)
+All-deps_have_nodes m g is e there = All-weaker (Contains e.deps) (Contains g.ids)
     (λ d h.
-    let j = node_of_dependency m g is e.id d (e, there, refl, h) in
+    let j = slice_get-dependency m g is e.id d (e, there, refl, h) in
     Contains-slice_get g.ids j.0 d j.1)
     e.deps (All-contains_itself e.deps)

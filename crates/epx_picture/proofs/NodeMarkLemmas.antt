@@ -9,43 +9,43 @@ use Rattle.epx_types.proofs.Common.{Contains-cons_cases, Contains-append_left, C
 use Rattle.epx_types.proofs.Common.{Contains-push_cases, take_more, All-weaker}
 use Rattle.epx_types.proofs.Common.{All-contains_itself, append-nil, length-drop, nil_from_length}
 use Rattle.epx_types.proofs.Common.{take_all}
-use Rattle.epx_rows.specs.Rows.{row_of, AreTransposed}
-use Rattle.epx_graph.proofs.Common.{DependencyGraph, IsGraph, edges_of, edge_from_committed}
+use Rattle.epx_rows.specs.between.Rows.{row_of, AreTransposed}
+use Rattle.epx_graph.proofs.Common.{DependencyGraph, IsGraph, edges_of, edges_of-from_committed}
 use Rattle.epx_picture.specs.inner.NodeMarks.{IsNodeStep, IsNodeWithin, HasMark, AreMarksWithin}
 use Rattle.epx_picture.specs.inner.NodeMarks.{MarkedLevel, MarksMore, IsNextTo, IsSearched}
 
 -- ---- marks
 
 -- a marked node is one of the nodes
-pub marked_within : (marks : List Bool) (k : ℕ) → HasMark marks k → k < length marks
-marked_within marks k has = elim (cases_lt k (length marks)) [
+pub HasMark-within : (marks : List Bool) (k : ℕ) → HasMark marks k → k < length marks
+HasMark-within marks k has = elim (cases_lt k (length marks)) [
   | inl within ↦ within
   | inr past ↦ absurd (false≢true (sym (get_or_past marks k false past) ∙ has))
 ]
 
 -- in a list of no marks none is marked
-pub none_marked : (n k : ℕ) → ¬ HasMark (replicate n false) k
-none_marked n k has =
+pub HasMark-none : (n k : ℕ) → ¬ HasMark (replicate n false) k
+HasMark-none n k has =
     let within : k < n = omega (
       arith,
-      marked_within (replicate n false) k has,
+      HasMark-within (replicate n false) k has,
       length-replicate n false,
     ) in
     false≢true (sym (get_or-replicate n k false false within) ∙ has)
 
 -- with one more mark
 module _ (marks : List Bool) (x : ℕ) (within : x < length marks) where
-  pub mark_set : HasMark (set marks x true) x
-  mark_set = get_or-set_same marks x true false within
+  pub HasMark-set : HasMark (set marks x true) x
+  HasMark-set = get_or-set_same marks x true false within
 
-  pub mark_kept : (k : ℕ) → HasMark marks k → HasMark (set marks x true) k
-  mark_kept k was = elim (cases_eq k x) [
-    | inl same ↦ subst (HasMark (set marks x true)) (sym same) mark_set
+  pub HasMark-kept : (k : ℕ) → HasMark marks k → HasMark (set marks x true) k
+  HasMark-kept k was = elim (cases_eq k x) [
+    | inl same ↦ subst (HasMark (set marks x true)) (sym same) HasMark-set
     | inr other ↦ get_or-set_other marks x k true false other ∙ was
   ]
 
-  pub mark_cases : (k : ℕ) → HasMark (set marks x true) k → HasMark marks k ⊎ (x ≡ k)
-  mark_cases k has = elim (cases_eq k x) [
+  pub HasMark-cases : (k : ℕ) → HasMark (set marks x true) k → HasMark marks k ⊎ (x ≡ k)
+  HasMark-cases k has = elim (cases_eq k x) [
     | inl same ↦ inr (sym same)
     | inr other ↦ inl (sym (get_or-set_other marks x k true false other) ∙ has)
   ]
@@ -53,9 +53,9 @@ module _ (marks : List Bool) (x : ℕ) (within : x < length marks) where
 -- ---- one marking after another
 
 -- what marks more nodes by one property does so by any property that holds of the same nodes
-pub marking_same : (P Q : ℕ → Type 0) (old new : MarkedLevel) → ((k : ℕ) → P k → Q k)
+pub MarksMore-same : (P Q : ℕ → Type 0) (old new : MarkedLevel) → ((k : ℕ) → P k → Q k)
     → ((k : ℕ) → Q k → P k) → MarksMore P old new → MarksMore Q old new
-marking_same P Q old new there back is = record {
+MarksMore-same P Q old new there back is = record {
   nodes = is.nodes;
   marked = λ k. (
     λ h. elim ((is.marked k).0 h) [ inl was ↦ inl was | inr p ↦ inr (there k p) ],
@@ -70,9 +70,9 @@ marking_same P Q old new there back is = record {
 }
 
 -- two markings in turn mark the nodes that have one of the two properties
-pub marking_append : (P Q : ℕ → Type 0) (a b c : MarkedLevel) → MarksMore P a b → MarksMore Q b c
+pub MarksMore-append : (P Q : ℕ → Type 0) (a b c : MarkedLevel) → MarksMore P a b → MarksMore Q b c
     → MarksMore (λ k. P k ⊎ Q k) a c
-marking_append P Q a b c p q = record {
+MarksMore-append P Q a b c p q = record {
   nodes = q.nodes ∙ p.nodes;
   marked = λ k. (
     λ h. elim ((q.marked k).0 h) [
@@ -123,13 +123,13 @@ module _ (s : MarkedLevel) (x : ℕ) where
   marking_one within = record {
     nodes = length-set s.marks x true;
     marked = λ k. (
-      mark_cases s.marks x within k,
+      HasMark-cases s.marks x within k,
       λ h. elim h [
-        | inl was ↦ mark_kept s.marks x within k was
-        | inr same ↦ subst (HasMark (set s.marks x true)) same (mark_set s.marks x within)
+        | inl was ↦ HasMark-kept s.marks x within k was
+        | inr same ↦ subst (HasMark (set s.marks x true)) same (HasMark-set s.marks x within)
       ],
     );
-    joined = λ k h. elim (mark_cases s.marks x within k h) [
+    joined = λ k h. elim (HasMark-cases s.marks x within k h) [
       | inl was ↦ inl was
       | inr same ↦ inr (subst (Contains (s.level ++ x ∷ [])) same (Contains-push s.level x))
     ];
@@ -141,23 +141,23 @@ module _ (xs : List ℕ) (x : ℕ) (old now : MarkedLevel) (is : MarksMore (Cont
   -- one more target, marked or not
   push_marking : (new : MarkedLevel) → MarksMore (λ k. x ≡ k) now new
       → MarksMore (Contains (xs ++ x ∷ [])) old new
-  push_marking new one = marking_same (λ k. Contains xs k ⊎ (x ≡ k)) (Contains (xs ++ x ∷ [])) old
+  push_marking new one = MarksMore-same (λ k. Contains xs k ⊎ (x ≡ k)) (Contains (xs ++ x ∷ [])) old
       new
       (λ k h. elim h [
         | inl among ↦ Contains-append_left xs (x ∷ []) k among
         | inr same ↦ subst (Contains (xs ++ x ∷ [])) same (Contains-push xs x)
       ])
       (λ k h. Contains-push_cases xs x k h)
-      (marking_append (Contains xs) (λ k. x ≡ k) old now new is one)
+      (MarksMore-append (Contains xs) (λ k. x ≡ k) old now new is one)
 
   -- one more target that is marked
-  pub targets_skip : HasMark now.marks x → MarksMore (Contains (xs ++ x ∷ [])) old now
-  targets_skip has = push_marking now (marking_skip now x has)
+  pub MarksMore-target_skip : HasMark now.marks x → MarksMore (Contains (xs ++ x ∷ [])) old now
+  MarksMore-target_skip has = push_marking now (marking_skip now x has)
 
   -- one more target that is not marked
-  pub targets_more : x < length now.marks → MarksMore (Contains (xs ++ x ∷ [])) old
+  pub MarksMore-target_more : x < length now.marks → MarksMore (Contains (xs ++ x ∷ [])) old
       (record { marks = set now.marks x true; level = now.level ++ x ∷ [] })
-  targets_more within = push_marking
+  MarksMore-target_more within = push_marking
       (record { marks = set now.marks x true; level = now.level ++ x ∷ [] })
       (marking_one now x within)
 
@@ -167,9 +167,10 @@ module _ (g : DependencyGraph) (level : List ℕ) (x : ℕ) (P Q : ℕ → Type 
     (out : (k : ℕ) → IsNodeStep g x k → P k ⊎ Q k) (back : (k : ℕ) → P k ⊎ Q k → IsNodeStep g x k)
   where
     -- the nodes one step away from one more node of a level
-    pub level_more : (a b c d : MarkedLevel) → MarksMore (IsNextTo g level) a b → MarksMore P b c
+    pub MarksMore-level_more : (a b c d : MarkedLevel) → MarksMore (IsNextTo g level) a b
+        → MarksMore P b c
         → MarksMore Q c d → MarksMore (IsNextTo g (level ++ x ∷ [])) a d
-    level_more a b c d old along against = marking_same
+    MarksMore-level_more a b c d old along against = MarksMore-same
         (λ k. IsNextTo g level k ⊎ (P k ⊎ Q k)) (IsNextTo g (level ++ x ∷ [])) a d
         (λ k h. elim h [
           | inl was ↦ (was.0, Contains-append_left level (x ∷ []) was.0 was.1, was.2)
@@ -179,29 +180,30 @@ module _ (g : DependencyGraph) (level : List ℕ) (x : ℕ) (P Q : ℕ → Type 
           | inl was ↦ inl (h.0, was, h.2)
           | inr same ↦ inr (out k (subst (λ i. IsNodeStep g i k) (sym same) h.2))
         ])
-        (marking_append (IsNextTo g level) (λ k. P k ⊎ Q k) a b d old
-        (marking_append P Q b c d along against))
+        (MarksMore-append (IsNextTo g level) (λ k. P k ⊎ Q k) a b d old
+        (MarksMore-append P Q b c d along against))
 
 module _ (g : DependencyGraph) (sources : List (List ℕ))
     (transpose : AreTransposed g.edges sources) where
   -- the sources of a node are nodes
-  pub sources_below : IsGraph g → (x : ℕ) → All (λ k. k < length g.ids) (row_of sources x)
-  sources_below graph x = All-weaker (Contains (row_of sources x)) (λ k. k < length g.ids)
+  pub All-sources_below : IsGraph g → (x : ℕ) → All (λ k. k < length g.ids) (row_of sources x)
+  All-sources_below graph x = All-weaker (Contains (row_of sources x)) (λ k. k < length g.ids)
       (λ k h.
-      let low = edge_from_committed g graph k x ((transpose k x).1 h) in
+      let low = edges_of-from_committed g graph k x ((transpose k x).1 h) in
       omega (arith, graph.committed_nodes))
       (row_of sources x) (All-contains_itself (row_of sources x))
 
   -- the next node of a level: its targets are marked, and then its sources
-  pub level_next : (level : List ℕ) (i : ℕ) → i < length level → (a b c d : MarkedLevel)
+  pub MarksMore-level_next : (level : List ℕ) (i : ℕ) → i < length level → (a b c d : MarkedLevel)
       → MarksMore (IsNextTo g (take i level)) a b
       → MarksMore (Contains (edges_of g (get_or level i 0))) b c
       → MarksMore (Contains (row_of sources (get_or level i 0))) c d
       → MarksMore (IsNextTo g (take (i + 1) level)) a d
-  level_next level i within a b c d old along against =
+  MarksMore-level_next level i within a b c d old along against =
       let x = get_or level i 0 in
       subst (λ (xs : List ℕ). MarksMore (IsNextTo g xs) a d) (sym (take_more level i 0 within))
-      (level_more g (take i level) x (Contains (edges_of g x)) (Contains (row_of sources x))
+      (MarksMore-level_more g (take i level) x (Contains (edges_of g x))
+      (Contains (row_of sources x))
       (λ k step. elim step [ inl out ↦ inl out | inr back ↦ inr ((transpose k x).0 back) ])
       (λ k either. elim either [ inl out ↦ inl out | inr back ↦ inr ((transpose k x).1 back) ])
       a b c d old along against)
@@ -209,21 +211,21 @@ module _ (g : DependencyGraph) (sources : List (List ℕ))
 -- ---- from level to level
 
 -- more steps lose nothing
-pub within_more : (g : DependencyGraph) (k j n l : ℕ) → n ≤ l → IsNodeWithin g n k j
+pub IsNodeWithin-more : (g : DependencyGraph) (k j n l : ℕ) → n ≤ l → IsNodeWithin g n k j
     → IsNodeWithin g l k j
-within_more g k j n zero low near =
+IsNodeWithin-more g k j n zero low near =
     let same : n ≡ zero = omega arith in subst (λ i. IsNodeWithin g i k j) same near
-within_more g k j n (suc l) low near = elim (cases_lt n (suc l)) [
-  | inl less ↦ inl (within_more g k j n l (omega arith) near)
+IsNodeWithin-more g k j n (suc l) low near = elim (cases_lt n (suc l)) [
+  | inl less ↦ inl (IsNodeWithin-more g k j n l (omega arith) near)
   | inr not_less ↦
       let same : n ≡ suc l = omega arith in subst (λ i. IsNodeWithin g i k j) same near
 ]
 
 module _ (g : DependencyGraph) (k : ℕ) where
   -- the node itself is the first level
-  pub search_first : k < length g.ids → IsSearched g 0 k
+  pub IsSearched-first : k < length g.ids → IsSearched g 0 k
       (record { marks = set (replicate (length g.ids) false) k true; level = k ∷ [] })
-  search_first within = record {
+  IsSearched-first within = record {
     within = record {
       nodes = length-set (replicate (length g.ids) false) k true
           ∙ length-replicate (length g.ids) false;
@@ -239,11 +241,11 @@ module _ (g : DependencyGraph) (k : ℕ) where
     inside = omega (arith, within, length-replicate (length g.ids) false)
 
     start : HasMark (set (replicate (length g.ids) false) k true) k
-    start = mark_set (replicate (length g.ids) false) k inside
+    start = HasMark-set (replicate (length g.ids) false) k inside
 
     only : (j : ℕ) → HasMark (set (replicate (length g.ids) false) k true) j → k ≡ j
-    only j h = elim (mark_cases (replicate (length g.ids) false) k inside j h) [
-      | inl was ↦ absurd (none_marked (length g.ids) j was)
+    only j h = elim (HasMark-cases (replicate (length g.ids) false) k inside j h) [
+      | inl was ↦ absurd (HasMark-none (length g.ids) j was)
       | inr same ↦ same
     ]
 
@@ -253,10 +255,10 @@ module _ (g : DependencyGraph) (k : ℕ) where
 
   module _ (n : ℕ) (s : MarkedLevel) (is : IsSearched g n k s) where
     -- the search after one more level
-    pub search_next : (new : MarkedLevel)
+    pub IsSearched-next : (new : MarkedLevel)
         → MarksMore (IsNextTo g s.level) (record { marks = s.marks; level = [] }) new
         → IsSearched g (n + 1) k new
-    search_next new more = subst (λ i. IsSearched g i k new) long (record {
+    IsSearched-next new more = subst (λ i. IsSearched g i k new) long (record {
       within = record {
         nodes = more.nodes ∙ is.within.nodes;
         exact = λ j. (
@@ -289,22 +291,22 @@ module _ (g : DependencyGraph) (k : ℕ) where
       ]
 
     -- a level has nodes alone
-    pub level_within : All (λ j. j < length g.ids) s.level
-    level_within = All-weaker (Contains s.level) (λ j. j < length g.ids)
-        (λ j h. omega (arith, marked_within s.marks j (is.level j h), is.within.nodes)) s.level
+    pub All-level_within : All (λ j. j < length g.ids) s.level
+    All-level_within = All-weaker (Contains s.level) (λ j. j < length g.ids)
+        (λ j h. omega (arith, HasMark-within s.marks j (is.level j h), is.within.nodes)) s.level
         (All-contains_itself s.level)
 
     -- after an empty level more steps add nothing
-    pub search_end : s.level ≡ [] → (l : ℕ) → n ≤ l → AreMarksWithin g l k s.marks
-    search_end none l low = record {
+    pub AreMarksWithin-at_end : s.level ≡ [] → (l : ℕ) → n ≤ l → AreMarksWithin g l k s.marks
+    AreMarksWithin-at_end none l low = record {
       nodes = is.within.nodes;
       exact = λ j. (
-        λ h. within_more g k j n l low ((is.within.exact j).0 h),
+        λ h. IsNodeWithin-more g k j n l low ((is.within.exact j).0 h),
         all l j,
       );
     } where
       all : (i j : ℕ) → IsNodeWithin g i k j → HasMark s.marks j
-      all zero j near = (is.within.exact j).1 (within_more g k j 0 n (omega arith) near)
+      all zero j near = (is.within.exact j).1 (IsNodeWithin-more g k j 0 n (omega arith) near)
       all (suc i) j (inl near) = all i j near
       all (suc i) j (inr last) =
           elim (is.closed last.0 j (all i last.0 last.1) last.2) [
@@ -314,9 +316,9 @@ module _ (g : DependencyGraph) (k : ℕ) where
           ]
 
 -- what a slice of a whole vector was changed to is what the vector has
-pub written_back : (xs ys : List Bool) (n : ℕ) → length xs ≡ length ys → n ≡ length ys
+pub take-written_back : (xs ys : List Bool) (n : ℕ) → length xs ≡ length ys → n ≡ length ys
     → take n (xs ++ drop (length xs) ys) ≡ xs
-written_back xs ys n same all =
+take-written_back xs ys n same all =
     let none : drop (length xs) ys ≡ [] =
     nil_from_length (drop (length xs) ys) (omega (arith, length-drop (length xs) ys)) in
     ap (λ zs. take n (xs ++ zs)) none ∙ ap (take n) (append-nil xs)

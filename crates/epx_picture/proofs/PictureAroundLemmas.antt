@@ -17,22 +17,22 @@ use Rattle.epx_picture.specs.Pictures.{IsPicture}
 use Rattle.epx_picture.specs.PicturesAround.{part_near, IsPictureAround}
 use Rattle.epx_picture.specs.PictureLaws.{FurtherStepsAddNothing, PictureAroundExists}
 use Rattle.epx_picture.specs.PictureLaws.{PictureAroundIsWhole}
-use Rattle.epx_picture.proofs.PartLemmas.{filter-map, ids_of_part, part_all}
-use Rattle.epx_picture.proofs.PictureLemmas.{picture_exists}
-use Rattle.epx_picture.proofs.WithinLemmas.{within_test, IsWithin-more, IsWithin-stays}
+use Rattle.epx_picture.proofs.PartLemmas.{filter-map, ids_of-part_near, part_near-all}
+use Rattle.epx_picture.proofs.PictureLemmas.{IsPicture-exists}
+use Rattle.epx_picture.proofs.WithinLemmas.{IsWithinTest-exists, IsWithin-more, IsWithin-stays}
 
 -- what the picture of the map shows, as far as it passes the test
-pub part_of_picture : (m : List Instance) (x : Id) (n : ℕ) (near : Id → Bool) (text : List ℕ)
+pub IsPictureAround-part : (m : List Instance) (x : Id) (n : ℕ) (near : Id → Bool) (text : List ℕ)
     → IsWithinTest m n x near → (p : IsPicture m text)
     → IsPictureAround m x n (picture_text (part_near near m)
     (filter (λ d. near d.id) p.node_boxes) (filter near p.missing))
-part_of_picture m x n near text exact p = record {
+IsPictureAround-part m x n near text exact p = record {
   near = near;
   node_boxes = filter (λ d. near d.id) p.node_boxes;
   missing = filter near p.missing;
   exact = exact;
   named = sym (filter-map (λ (d : NodeBox). d.id) near p.node_boxes)
-      ∙ ap (filter near) p.named ∙ sym (ids_of_part near m);
+      ∙ ap (filter near) p.named ∙ sym (ids_of-part_near near m);
   shown = λ d h. p.shown d (Contains-from_filter (λ (d : NodeBox). near d.id) p.node_boxes d h);
   missing_rise = IsRising-from_AllPairs (filter near p.missing)
       (AllPairs-filter Below near p.missing (AllPairs-from_IsRising p.missing p.missing_rise));
@@ -47,13 +47,14 @@ part_of_picture m x n near text exact p = record {
 }
 
 -- the text of those boxes and missing instances that pass the test is a picture around x
-pub picture_from_marked : (m : List Instance) (g : DependencyGraph) → IsGraphOf m g → (x : Id)
+pub IsPictureAround-from_marked : (m : List Instance) (g : DependencyGraph) → IsGraphOf m g
+    → (x : Id)
     (n : ℕ) (near : Id → Bool) → IsWithinTest m n x near → (all node_boxes : List NodeBox)
     (missing : List Id) (text : List ℕ) → map (λ d. d.id) all ≡ ids_of m
     → ((d : NodeBox) → Contains all d → IsBoxOf m d)
     → node_boxes ≡ filter (λ d. near d.id) all → missing ≡ filter near (missing_ids g)
     → text ≡ picture_text (part_near near m) node_boxes missing → IsPictureAround m x n text
-picture_from_marked m g is x n near exact all node_boxes missing text named shown boxes ids
+IsPictureAround-from_marked m g is x n near exact all node_boxes missing text named shown boxes ids
     printed =
     let p : IsPicture m (picture_text m all (missing_ids g)) = record {
       node_boxes = all;
@@ -66,27 +67,27 @@ picture_from_marked m g is x n near exact all node_boxes missing text named show
     } in
     subst (IsPictureAround m x n)
     (sym (printed ∙ ap₂ (picture_text (part_near near m)) boxes ids))
-    (part_of_picture m x n near (picture_text m all (missing_ids g)) exact p)
+    (IsPictureAround-part m x n near (picture_text m all (missing_ids g)) exact p)
 
 -- the marks of the committed nodes, and those of the missing ones
 module _ (m : List Instance) (g : DependencyGraph) (is : IsGraphOf m g) (near : Id → Bool)
     (marks : List Bool) (same : marks ≡ map near g.ids) where
-  pub committed_marks : (all : List NodeBox) → map (λ d. d.id) all ≡ ids_of m
+  pub take-committed_marks : (all : List NodeBox) → map (λ d. d.id) all ≡ ids_of m
       → take g.committed marks ≡ map (λ d. near d.id) all
-  committed_marks all named =
+  take-committed_marks all named =
       ap (take g.committed) same ∙ take-map near g.committed g.ids
       ∙ ap (map near) (is.committed ∙ sym named)
       ∙ map-map near (λ (d : NodeBox). d.id) all
 
-  pub missing_marks : drop g.committed marks ≡ map near (missing_ids g)
-  missing_marks = ap (drop g.committed) same ∙ drop-map near g.committed g.ids
+  pub drop-missing_marks : drop g.committed marks ≡ map near (missing_ids g)
+  drop-missing_marks = ap (drop g.committed) same ∙ drop-map near g.committed g.ids
 
 -- there is a picture around each instance
-pub picture_around_exists : PictureAroundExists
-picture_around_exists m x n rising =
-    let p = picture_exists m rising in
-    let test = within_test m n x in
-    (_, part_of_picture m x n test.0 p.0 test.1 p.1)
+pub PictureAroundExists-holds : PictureAroundExists
+PictureAroundExists-holds m x n rising =
+    let p = IsPicture-exists m rising in
+    let test = IsWithinTest-exists m n x in
+    (_, IsPictureAround-part m x n test.0 p.0 test.1 p.1)
 
 -- ---- where all is shown
 
@@ -101,13 +102,13 @@ module _ (m : List Instance) (x : Id) (n : ℕ)
   ]
 
   part_is_whole : part_near near m ≡ m
-  part_is_whole = part_all near m
+  part_is_whole = part_near-all near m
       (λ e h. (exact e.id).1 (all e.id (inl (IsCommitted-from_Contains m e h))))
       (λ e h y among. (exact y).1 (all y (dependency e h y among)))
 
 -- the picture around an instance is that of the map
-pub picture_around_is_whole : PictureAroundIsWhole
-picture_around_is_whole m x n text all = (there, back) where
+pub PictureAroundIsWhole-holds : PictureAroundIsWhole
+PictureAroundIsWhole-holds m x n text all = (there, back) where
   there : IsPictureAround m x n text → IsPicture m text
   there q =
       let whole = part_is_whole m x n all q.near q.exact in
@@ -123,7 +124,7 @@ picture_around_is_whole m x n text all = (there, back) where
 
   back : IsPicture m text → IsPictureAround m x n text
   back p =
-      let test = within_test m n x in
+      let test = IsWithinTest-exists m n x in
       let whole = part_is_whole m x n all test.0 test.1 in
       record {
         near = test.0;
@@ -164,8 +165,8 @@ same_around m x n l text there back q = record {
 }
 
 -- where one step more adds nothing, the pictures are the same
-pub further_steps_add_nothing : FurtherStepsAddNothing
-further_steps_add_nothing m x n l text last low =
+pub FurtherStepsAddNothing-holds : FurtherStepsAddNothing
+FurtherStepsAddNothing-holds m x n l text last low =
     let more : (y : Id) → IsWithinSteps m n x y → IsWithinSteps m l x y =
     λ y. IsWithin-more m x y n l low in
     let stays : (y : Id) → IsWithinSteps m l x y → IsWithinSteps m n x y =

@@ -3,14 +3,14 @@ use Rattle.std.proofs.Common.{◌≡◌, ℕ, List, [], ◌∷◌, map, Bool, tr
 use Rattle.std.proofs.Common.{Contains, refl, ap, ap₂, subst, inl, inr}
 use Rattle.epx_types.proofs.Common.{false≢true, IsRising, Instance, ids_of, IsCommitted}
 use Rattle.epx_types.proofs.Common.{InOneComponent, IsReady, IsRising-same}
-use Rattle.epx_types.proofs.Common.{IsCommitted-from_Contains, some_or_none, Contains-nil}
+use Rattle.epx_types.proofs.Common.{IsCommitted-from_Contains, Contains-some_or_none, Contains-nil}
 use Rattle.epx_types.proofs.Common.{Contains-head, Contains-cons, Contains-cons_cases}
-use Rattle.epx_types.proofs.Common.{leader_exists, depth_exists, ready_or_waits}
-use Rattle.epx_types.proofs.Common.{IsReady-not_waiting, both_cases, not_cases}
+use Rattle.epx_types.proofs.Common.{IsLeader-exists, IsDepth-exists, IsReady-or_waits}
+use Rattle.epx_types.proofs.Common.{IsReady-not_waiting, both-cases, negation-cases}
 use Rattle.epx_types.proofs.Common.{InOneComponent-cases, within_reach, Contains-within_reach}
 use Rattle.epx_types.proofs.Common.{Id-cases}
 use Rattle.epx_types.specs.declared.id.Id.{Id}
-use Rattle.epx_graph.proofs.Common.{missing_ids, graph_exists}
+use Rattle.epx_graph.proofs.Common.{missing_ids, IsGraphOf-exists}
 use Rattle.epx_picture.specs.declared.node_box.NodeBox.{NodeBox}
 use Rattle.epx_picture.specs.NodeBoxes.{IsCluster, IsBoxOf}
 use Rattle.epx_picture.specs.PictureText.{picture_text}
@@ -19,10 +19,10 @@ use Rattle.epx_picture.specs.Pictures.{IsPicture}
 module _ (m : List Instance) (rising : IsRising (ids_of m)) where
   cluster_exists : (x : Id) → (cluster : Option Id) × IsCluster m x cluster
   cluster_exists x =
-      elim (some_or_none (λ y. InOneComponent m x y × (¬ (y ≡ x)))
-      (λ y. both_cases (InOneComponent-cases m x y) (not_cases (Id-cases y x)))
+      elim (Contains-some_or_none (λ y. InOneComponent m x y × (¬ (y ≡ x)))
+      (λ y. both-cases (InOneComponent-cases m x y) (negation-cases (Id-cases y x)))
       (within_reach m x)) [
-        | inl other ↦ let leader = leader_exists m x in
+        | inl other ↦ let leader = IsLeader-exists m x in
             (Some leader.0, (leader.1, (other.0, other.2.0, other.2.1)))
         | inr none ↦ (
           None,
@@ -35,14 +35,14 @@ module _ (m : List Instance) (rising : IsRising (ids_of m)) where
 
   waits_exists : (x : Id) → IsCommitted m x
       → (waits : Bool) × ((waits ≡ true → ¬ IsReady m x) × (¬ IsReady m x → waits ≡ true))
-  waits_exists x committed = elim (ready_or_waits m x committed) [
+  waits_exists x committed = elim (IsReady-or_waits m x committed) [
     | inl ready ↦ (false, (λ h. absurd (false≢true h), λ not. absurd (not ready)))
     | inr waits ↦ (true, (λ h ready. IsReady-not_waiting m x waits.0 ready waits.1, λ not. refl))
   ]
 
   box_exists : (e : Instance) → Contains m e → (d : NodeBox) × IsBoxOf m d × (d.id ≡ e.id)
   box_exists e in_e =
-      let depth = depth_exists m e.id in
+      let depth = IsDepth-exists m e.id in
       let cluster = cluster_exists e.id in
       let waits = waits_exists e.id (IsCommitted-from_Contains m e in_e) in (
         record { id = e.id; seq = e.seq; depth = depth.0; cluster = cluster.0; waits = waits.0 },
@@ -69,10 +69,10 @@ module _ (m : List Instance) (rising : IsRising (ids_of m)) where
             [ inl same ↦ subst (IsBoxOf m) same first.1 | inr later ↦ rest.2 d later ],
       )
 
-  pub picture_exists : (text : List ℕ) × IsPicture m text
-  picture_exists =
+  pub IsPicture-exists : (text : List ℕ) × IsPicture m text
+  IsPicture-exists =
       let node_boxes = all_boxes_exist m (λ e h. h) in
-      let g = graph_exists m rising in
+      let g = IsGraphOf-exists m rising in
       let missing = missing_ids g.0 in (
         picture_text m node_boxes.0 missing,
         record {

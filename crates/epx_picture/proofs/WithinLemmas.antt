@@ -2,8 +2,8 @@
 use Rattle.std.proofs.Common.{◌≡◌, ◌⊎◌, ◌↔◌, inl, inr, ℕ, zero, suc, ◌+◌, ◌≤◌, Bool, true}
 use Rattle.std.proofs.Common.{false, List, ◌++◌, flat_map, Contains, IsTrue, refl, subst, arith}
 use Rattle.epx_types.proofs.Common.{false≢true, cases_lt, Contains-append_left}
-use Rattle.epx_types.proofs.Common.{Contains-append_right, Contains-flat_map, some_or_none}
-use Rattle.epx_types.proofs.Common.{both_cases, Instance, ids_of, DependsOn-cases}
+use Rattle.epx_types.proofs.Common.{Contains-append_right, Contains-flat_map, Contains-some_or_none}
+use Rattle.epx_types.proofs.Common.{both-cases, Instance, ids_of, DependsOn-cases}
 use Rattle.epx_types.proofs.Common.{DependsOn-committed, Id-cases}
 use Rattle.epx_types.specs.declared.id.Id.{Id}
 use Rattle.epx_picture.specs.Neighbourhoods.{IsStep, IsWithinSteps, IsWithinTest}
@@ -46,8 +46,8 @@ module _ (m : List Instance) where
   IsWithin-cases (suc n) x y =
       elim (IsWithin-cases n x y) [
         | inl near ↦ inl (inl near)
-        | inr far ↦ elim (some_or_none (λ z. IsWithinSteps m n x z × IsStep m z y)
-            (λ z. both_cases (IsWithin-cases n x z) (IsStep-cases z y)) step_starts) [
+        | inr far ↦ elim (Contains-some_or_none (λ z. IsWithinSteps m n x z × IsStep m z y)
+            (λ z. both-cases (IsWithin-cases n x z) (IsStep-cases z y)) step_starts) [
               | inl last ↦ inl (inr (last.0, last.2.0, last.2.1))
               | inr none ↦ inr (λ h. elim h [
                 | inl near ↦ far near
@@ -57,8 +57,8 @@ module _ (m : List Instance) where
       ]
 
   -- so there is a test for it
-  pub within_test : (n : ℕ) (x : Id) → (near : Id → Bool) × IsWithinTest m n x near
-  within_test n x = (
+  pub IsWithinTest-exists : (n : ℕ) (x : Id) → (near : Id → Bool) × IsWithinTest m n x near
+  IsWithinTest-exists n x = (
     λ y. passes (IsWithin-cases n x y),
     λ y. passes_exactly (IsWithin-cases n x y),
   )

@@ -4,7 +4,7 @@ ghost use Rattle.epx_types.specs.declared.id.Id.{Id};
 ghost use Rattle.epx_types.specs.Instances.{Instance};
 ghost use Rattle.epx_graph.specs.GraphOf.{IsGraphOf};
 ghost use Rattle.epx_graph.specs.Graphs.{IsGraph};
-ghost use Rattle.epx_components.specs.NodeRanks.{IsNodeRank};
+ghost use Rattle.epx_components.specs.between.NodeRanks.{IsNodeRank};
 ghost use Rattle.epx_picture.specs.inner.Clusters.{AreLeaderMarks, AreNodeRanks};
 ghost use Rattle.epx_picture.specs.NodeBoxes.{IsCluster};
 

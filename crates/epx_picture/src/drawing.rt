@@ -2,7 +2,7 @@
 ghost use Rattle.std.specs.Prelude.{◌≡◌, ◌<◌, length, map, slice_get, Contains, Some, IfOk};
 ghost use Rattle.epx_types.specs.CommittedMap.{ids_of};
 ghost use Rattle.epx_graph.specs.GraphOf.{IsGraphOf};
-ghost use Rattle.epx_components.specs.NodeRanks.{IsNodeRank};
+ghost use Rattle.epx_components.specs.between.NodeRanks.{IsNodeRank};
 ghost use Rattle.epx_picture.specs.inner.Clusters.{AreLeaderMarks, AreNodeRanks};
 ghost use Rattle.epx_picture.specs.declared.node_box.NodeBox.{NodeBox};
 ghost use Rattle.epx_picture.specs.NodeBoxes.{IsBoxOf};

@@ -1,10 +1,10 @@
 //! The nodes of what lies within some steps of an instance, along dependencies and against them.
-ghost use Rattle.std.specs.Prelude.{◌≡◌, ◌<◌, [], ℕ, Bool, List, length, map, All, Contains};
+ghost use Rattle.std.specs.Prelude.{◌≡◌, ◌<◌, [], Bool, List, length, map, All, Contains};
 ghost use Rattle.std.specs.Prelude.{IfOk, OnOk};
 ghost use Rattle.epx_types.specs.declared.id.Id.{Id};
 ghost use Rattle.epx_types.specs.Instances.{Instance};
 ghost use Rattle.epx_graph.specs.GraphOf.{IsGraphOf};
-ghost use Rattle.epx_rows.specs.Rows.{AreTransposed};
+ghost use Rattle.epx_rows.specs.between.Rows.{AreTransposed};
 ghost use Rattle.epx_picture.specs.Neighbourhoods.{IsWithinTest};
 ghost use Rattle.epx_picture.specs.inner.NodeMarks.{AreMarksWithin, MarksMore, IsNextTo};
 

@@ -15,10 +15,10 @@ use Rattle.epx_names.specs.declared.task.Task.TheVariants.{Run}
 use Rattle.epx_words.specs.declared.words.Words.{Words}
 use Rattle.epx_words.specs.declared.words.Words.TheVariants as asked
 
-pub bare_or_not : (words : List Text) → IsBare words ⊎ (¬ IsBare words)
-bare_or_not [] = inl (inl (omega arith))
-bare_or_not (p ∷ []) = inl (inl (omega arith))
-bare_or_not (p ∷ w ∷ []) = go (bytes_eq w (codes "-")) refl
+pub IsBare-decides : (words : List Text) → IsBare words ⊎ (¬ IsBare words)
+IsBare-decides [] = inl (inl (omega arith))
+IsBare-decides (p ∷ []) = inl (inl (omega arith))
+IsBare-decides (p ∷ w ∷ []) = go (bytes_eq w (codes "-")) refl
   where
     go : (b : Bool) → bytes_eq w (codes "-") ≡ b
         → IsBare (p ∷ w ∷ []) ⊎ (¬ IsBare (p ∷ w ∷ []))
@@ -29,7 +29,7 @@ bare_or_not (p ∷ w ∷ []) = go (bytes_eq w (codes "-")) refl
           let same : w ≡ codes "-" = cc (hyphen.1) in
           true≢false (sym ((bytes_eq-Decides w (codes "-")).1 same) ∙ e)
     ])
-bare_or_not (p ∷ w ∷ x ∷ rest) = inr (λ bare. elim bare [
+IsBare-decides (p ∷ w ∷ x ∷ rest) = inr (λ bare. elim bare [
   | inl few ↦ absurd (omega (arith, few))
   | inr hyphen ↦ absurd (omega (arith, hyphen.0))
 ])
@@ -55,14 +55,14 @@ text_ends kinds given (asked.Follow plan paths options) is = tt
 text_ends kinds given (asked.Text text status) is = status_ends kinds given status is
 
 -- words that name no subcommand ask for no text
-pub words_end : (words : List Text) (read : Result Words Memory)
+pub IfOk-text_status : (words : List Text) (read : Result Words Memory)
     → (IsBare words → IfOk read
     (λ wanted. wanted ≡ asked.Work Run (record { workers = 4; cut = 256 }) None))
     → (¬ IsBare words → IfOk read
     (IfText (IsTextStatus (fault_of epx_app words) (subcommand_of epx_app words))))
     → IfOk read (IfText (λ status. (status ≡ 0) ⊎ (status ≡ 2)))
-words_end words (Err memory) bare named = tt
-words_end words (Ok wanted) bare named = elim (bare_or_not words) [
+IfOk-text_status words (Err memory) bare named = tt
+IfOk-text_status words (Ok wanted) bare named = elim (IsBare-decides words) [
   | inl is ↦ subst (IfText IsTextEnd) (sym (bare is)) tt
   | inr not ↦ text_ends (fault_of epx_app words) (subcommand_of epx_app words) wanted (named not)
 ]

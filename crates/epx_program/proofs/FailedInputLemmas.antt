@@ -7,7 +7,8 @@ use Rattle.epx_types.specs.declared.fault.Fault.TheVariants.{Read, Write}
 use Rattle.epx_devices.specs.declared.either_source.EitherSource.TheVariants.{First, Second}
 use Rattle.epx_devices.specs.EitherSources.{either_source}
 use Rattle.epx_devices.specs.Models.{SourceModel}
-use Rattle.epx_devices.proofs.EitherSourceLemmas.{first_then_fails, second_then_fails}
+use Rattle.epx_devices.proofs.EitherSourceLemmas.{DeliversThenFails-from_first}
+use Rattle.epx_devices.proofs.EitherSourceLemmas.{DeliversThenFails-from_second}
 use Rattle.epx_tool.specs.Delivered.{EndsRefused}
 use Rattle.epx_merge.specs.DeliveredLogs.{StopsAtSource}
 use Rattle.epx_tool.specs.DeliveredWithInput.{EndsWithoutBoth}
@@ -38,14 +39,14 @@ module _ {S : Type 0} (D : SourceModel S) (before after : List S) where
     unread_of log (inr refused) = absurd (not_unread task refused.logs log refused.refusal)
 
     -- a run over logs that ends this way has a source that failed
-    pub unread : {A : Type 0} (done : Result A Fault)
+    pub OneHasFailedRead-unread : {A : Type 0} (done : Result A Fault)
         → IfErr done (λ fault. fault ≢ Write → EndsLogs fault)
         → (log : ℕ) → IsErrOf done (Read log) → OneHasFailedRead D before
-    unread (Err fault) h log is =
+    OneHasFailedRead-unread (Err fault) h log is =
         let named : fault ≡ Read log = cc is in
         let Ends : Fault → Type 0 = λ f. f ≢ Write → EndsLogs f in
         unread_of log (subst Ends named h (λ write. absurd (cc write)))
-    unread done h log is = absurd (cc is)
+    OneHasFailedRead-unread done h log is = absurd (cc is)
 
   module _ {I : Type 0} (E : SourceModel I) (IsBad : List ℕ → ℕ → Type 0) (first last : I) where
     abbrev Ends : Fault → Type 0
@@ -59,15 +60,15 @@ module _ {S : Type 0} (D : SourceModel S) (before after : List S) where
     unread_of_both log (inr refused) = absurd refused.refusal.1
 
     -- so has a run over an extra input and logs, or the extra input failed
-    pub unread_both : {A : Type 0} (done : Result A Fault)
+    pub HasFailedRead-unread : {A : Type 0} (done : Result A Fault)
         → IfErr done (λ fault. fault ≢ Write → Ends fault)
         → (log : ℕ) → IsErrOf done (Read log)
         → HasFailedRead E first ⊎ OneHasFailedRead D before
-    unread_both (Err fault) h log is =
+    HasFailedRead-unread (Err fault) h log is =
         let named : fault ≡ Read log = cc is in
         let Stops : Fault → Type 0 = λ f. f ≢ Write → Ends f in
         unread_of_both log (subst Stops named h (λ write. absurd (cc write)))
-    unread_both done h log is = absurd (cc is)
+    HasFailedRead-unread done h log is = absurd (cc is)
 
 only_source : {S : Type 0} (log : ℕ) (source s : S) → slice_get (source ∷ []) log ≡ Some s
     → s ≡ source
@@ -75,16 +76,16 @@ only_source zero source s there = cc there
 only_source (suc log) source s there = absurd (cc there)
 
 -- if there is only one source, it is that one
-pub alone : {S : Type 0} (D : SourceModel S) (source : S)
+pub HasFailedRead-alone : {S : Type 0} (D : SourceModel S) (source : S)
     → OneHasFailedRead D (source ∷ []) → HasFailedRead D source
-alone D source h =
+HasFailedRead-alone D source h =
     subst (HasFailedRead D) (only_source h.log source h.source h.there) h.failed
 
 -- if the input is the only source, the input failed
-pub input_failed : {P I M : Type 0} (path : SourceModel P) (E : SourceModel I)
+pub HasFailedRead-input : {P I M : Type 0} (path : SourceModel P) (E : SourceModel I)
     (memory : SourceModel M) (input : I)
     → HasFailedRead (either_source path (either_source E memory)) (Second (First input))
     → HasFailedRead E input
-input_failed path E memory input h =
-    let inner = second_then_fails path (either_source E memory) (First input) h.0 h.1 in
-    first_then_fails E memory input inner.0 inner.1
+HasFailedRead-input path E memory input h =
+    let inner = DeliversThenFails-from_second path (either_source E memory) (First input) h.0 h.1 in
+    DeliversThenFails-from_first E memory input inner.0 inner.1

@@ -13,7 +13,7 @@ use Rattle.epx_program.specs.Inputs.{TextRelation, text_relation}
 use Rattle.epx_program.specs.PathsRead.{paths_read}
 use Rattle.epx_program.specs.SourcesAt.{AreSourcesAt, SourceAt}
 use Rattle.epx_program.specs.inner.Follows.{FollowsFrom, RefusesStart, StartsAt}
-use Rattle.epx_program.proofs.TextsReadLemmas.{texts_after, texts_at}
+use Rattle.epx_program.proofs.TextsReadLemmas.{AreTextsAt-cons, AreTextsAt-delivered}
 
 -- there is one source for each path
 as_many_sources : {O F I : Type 0} (opener : O) (input left : Option I) (paths : List (List ℕ))
@@ -34,11 +34,11 @@ module _ {O F I : Type 0} (opening : OpenerModel O F) (D : SourceModel F) (opene
   starts_at state left start =
       StartsAt opening D opener E state (state_number paths) (Some input) left start
 
-  pub follows_to_ends : (left : Option I) (start last : FollowerView)
+  pub FollowsToEnds-from_follows : (left : Option I) (start last : FollowerView)
       → starts_at (state_of options) left start
       → FollowsFrom opening D opener E start left options.each paths last old new
       → FollowsToEnds texts options paths last old new
-  follows_to_ends left start last starts h = record {
+  FollowsToEnds-from_follows left start last starts h = record {
     logs = h.logs;
     start = start;
     text = h.text;
@@ -54,7 +54,7 @@ module _ {O F I : Type 0} (opening : OpenerModel O F) (D : SourceModel F) (opene
       go : (state : Option (List ℕ)) → starts_at state left start
           → Begins texts state paths h.logs start
       go None begins = (
-        texts_at opening D opener E input h.left (paths_read paths) h.sources h.after
+        AreTextsAt-delivered opening D opener E input h.left (paths_read paths) h.sources h.after
             (subst (λ i. AreSourcesAt opener i h.left (paths_read paths) h.sources) begins.0 h.at)
             h.logs h.delivered,
         begins.1,
@@ -62,7 +62,8 @@ module _ {O F I : Type 0} (opening : OpenerModel O F) (D : SourceModel F) (opene
       go (Some state) begins =
           let read = begins.1 in (
             begins.0,
-            texts_after opening D opener E input left h.left state read.source read.last begins.0
+            AreTextsAt-cons opening D opener E input left h.left state read.source read.last
+                begins.0
                 read.at read.delivered (paths_read paths) h.sources h.after h.at h.logs h.delivered,
             subst (λ n. StartsAfter begins.0 n start) number begins.2,
           )
@@ -71,11 +72,11 @@ module _ {O F I : Type 0} (opening : OpenerModel O F) (D : SourceModel F) (opene
   stops_at state fault =
       StopsAtPaths opening D opener E input state options.each paths fault old new
 
-  pub stops_at_paths : (left : Option I) (start : FollowerView) (fault : Fault)
+  pub stops_at-from_stops : (left : Option I) (start : FollowerView) (fault : Fault)
       → starts_at (state_of options) left start
       → StopsFrom opening D opener E start left options.each paths fault old new
       → stops_at (state_of options) fault
-  stops_at_paths left start fault starts h = go (state_of options) starts
+  stops_at-from_stops left start fault starts h = go (state_of options) starts
     where
       go : (state : Option (List ℕ)) → starts_at state left start → stops_at state fault
       go None begins = subst₂
@@ -83,10 +84,10 @@ module _ {O F I : Type 0} (opening : OpenerModel O F) (D : SourceModel F) (opene
           begins.1 begins.0 h
       go (Some state) begins = inr (left, begins.0, start, begins.1, begins.2, h)
 
-  pub refused_at_paths : (fault : Fault)
+  pub stops_at-if_refused : (fault : Fault)
       → RefusesStart opening D opener E (state_of options) (state_number paths) (Some input) fault
       → Keeps old new → stops_at (state_of options) fault
-  refused_at_paths fault refused kept = go (state_of options) refused
+  stops_at-if_refused fault refused kept = go (state_of options) refused
     where
       go : (state : Option (List ℕ))
           → RefusesStart opening D opener E state (state_number paths) (Some input) fault
@@ -95,8 +96,8 @@ module _ {O F I : Type 0} (opening : OpenerModel O F) (D : SourceModel F) (opene
       go (Some state) bad = inl (bad, kept)
 
 -- a call that ends with this fault
-pub ends_with : {T : Type 0} (P : T → Type 0) (Q : Fault → Type 0) (done : Result T Fault)
+pub MatchResult-err : {T : Type 0} (P : T → Type 0) (Q : Fault → Type 0) (done : Result T Fault)
     (fault : Fault) → IsErrOf done fault → Q fault → MatchResult done P Q
-ends_with P Q (Ok x) fault is why = absurd (cc is)
-ends_with P Q (Err other) fault is why =
+MatchResult-err P Q (Ok x) fault is why = absurd (cc is)
+MatchResult-err P Q (Err other) fault is why =
     let same : other ≡ fault = cc is in subst Q (sym same) why

@@ -19,12 +19,12 @@ use Rattle.epx_tool.specs.RunEndings.{WritesAnswer, EndsRun, EndsRunWithInput}
 use Rattle.epx_merge.specs.ReadingRefusals.{AreBytesOf}
 use Rattle.epx_tool.specs.RunsWithInput.{IsRunFaultWithInput}
 use Rattle.epx_tool.specs.WithInput.{AnswersWithInput}
-use Rattle.epx_merge.proofs.ReturnedFaultLemmas.{ok_is_no_fault}
+use Rattle.epx_merge.proofs.ReturnedFaultLemmas.{IsErrOf-not_ok}
 use Rattle.epx_program.specs.Endings.{AddsAnswer, AddsPart, IsTaskAnswer, IsTaskFault}
 use Rattle.epx_program.specs.Endings.{IsTaskFinding, IsTaskResult, first_of, over_texts}
 use Rattle.epx_program.specs.Inputs.{HasFailedRead, OneHasFailedRead}
 use Rattle.epx_program.specs.inner.Outcomes.{TaskOutcome}
-use Rattle.epx_program.proofs.FailedInputLemmas.{unread, unread_both}
+use Rattle.epx_program.proofs.FailedInputLemmas.{OneHasFailedRead-unread, HasFailedRead-unread}
 
 -- ---- texts and sources
 
@@ -148,7 +148,7 @@ adds_part_to_nothing AreRead old new task (Err fault) none h is =
 written_well : {A B : Type 0} (x : A) (y : B) (failed : Bool)
     → IsErrOf (Ok x) Write ↔ (failed ≡ true) → IsErrOf (Ok y) Write ↔ (failed ≡ true)
 written_well x y failed h =
-    (λ is. absurd (ok_is_no_fault y Write is), λ bad. absurd (ok_is_no_fault x Write (h.1 bad)))
+    (λ is. absurd (IsErrOf-not_ok y Write is), λ bad. absurd (IsErrOf-not_ok x Write (h.1 bad)))
 
 written_badly : {A B : Type 0} (fault : Fault) (failed : Bool)
     → IsErrOf {T = A} (Err fault) Write ↔ (failed ≡ true)
@@ -187,9 +187,9 @@ module _ {S T : Type 0} (D : SourceModel S) (W : SinkModel T) (task : Task)
         (h.text, text_of_logs found h.logs h.text h.answer, h.written),
       );
       flushed = run.sink.flushed;
-      part = λ bad. absurd (ok_is_no_fault found Write bad);
+      part = λ bad. absurd (IsErrOf-not_ok found Write bad);
       nothing = tt;
-      unread = λ log bad. absurd (ok_is_no_fault found (Read log) bad);
+      unread = λ log bad. absurd (IsErrOf-not_ok found (Read log) bad);
       written = written_well tt found _ run.sink.written;
     }
 
@@ -207,18 +207,18 @@ module _ {S T : Type 0} (D : SourceModel S) (W : SinkModel T) (task : Task)
         (h.text, answer_of_logs h.logs h.text h.answer, h.written),
       );
       nothing = run.sink.nothing;
-      unread = λ log bad. unread D before after task (ended fault)
+      unread = λ log bad. OneHasFailedRead-unread D before after task (ended fault)
           run.sink.refused log (same_error fault (Read log) bad);
       written = written_badly fault _ run.sink.written;
     }
 
-    pub outcome_of_logs : (done : Result Bool Fault)
+    pub Outcome-logs : (done : Result Bool Fault)
         → MatchResult done
         (λ found. EndsRun D W (AnswersFinding task found) before after old new (Ok tt))
         (λ fault. EndsRun D W (AnswersLogs task) before after old new (Err fault))
         → Outcome done
-    outcome_of_logs (Ok found) run = logs_answered found run
-    outcome_of_logs (Err fault) run = logs_refused fault run
+    Outcome-logs (Ok found) run = logs_answered found run
+    Outcome-logs (Err fault) run = logs_refused fault run
 
   module _ (has : HasInput task) where
     -- the answer to the first of these texts, which is the input, and to the logs after it
@@ -264,9 +264,9 @@ module _ {S T : Type 0} (D : SourceModel S) (W : SinkModel T) (task : Task)
         whole = (h.of_input, h.of_logs.whole);
       }
 
-      pub outcome_of_first : (done : Result Bool Fault)
+      pub Outcome-first : (done : Result Bool Fault)
           → EndsFirst D first last logs left done → Outcome done
-      outcome_of_first (Ok found) run = record {
+      Outcome-first (Ok found) run = record {
         known = from_first D (λ texts. ComesTo texts (Ok found)) before logs first all
             (λ text texts known are. task_answered found run.sink task (text ∷ texts) (text, texts)
             (λ P h. h text texts known are)
@@ -281,12 +281,12 @@ module _ {S T : Type 0} (D : SourceModel S) (W : SinkModel T) (task : Task)
           ),
         );
         flushed = run.sink.flushed;
-        part = λ bad. absurd (ok_is_no_fault found Write bad);
+        part = λ bad. absurd (IsErrOf-not_ok found Write bad);
         nothing = tt;
-        unread = λ log bad. absurd (ok_is_no_fault found (Read log) bad);
+        unread = λ log bad. absurd (IsErrOf-not_ok found (Read log) bad);
         written = written_well tt found _ run.sink.written;
       }
-      outcome_of_first (Err fault) run = record {
+      Outcome-first (Err fault) run = record {
         known = from_first D (λ texts. ComesTo texts (Err fault)) before logs first all
             (λ text texts known are. task_refused fault run.sink task (text ∷ texts) (text, texts)
             (λ P h. h text texts known are)
@@ -304,7 +304,7 @@ module _ {S T : Type 0} (D : SourceModel S) (W : SinkModel T) (task : Task)
         );
         nothing = run.sink.nothing;
         unread = λ log bad. failed_of_all D before logs first all
-            (unread_both D logs left D (IsBadInput task) first last
+            (HasFailedRead-unread D logs left D (IsBadInput task) first last
             (ended fault) run.sink.refused log (same_error fault (Read log) bad));
         written = written_badly fault _ run.sink.written;
       }
@@ -327,17 +327,17 @@ module _ {S T : Type 0} (D : SourceModel S) (W : SinkModel T) (task : Task)
 
       nothing_unread : (done : Result Bool Fault) (log : ℕ)
           → EndsFirst E first last [] now done → ¬ IsErrOf done (Read log)
-      nothing_unread (Ok found) log run bad = ok_is_no_fault found (Read log) bad
-      nothing_unread (Err fault) log run bad = elim (unread_both E [] now E
+      nothing_unread (Ok found) log run bad = IsErrOf-not_ok found (Read log) bad
+      nothing_unread (Err fault) log run bad = elim (HasFailedRead-unread E [] now E
           (IsBadInput task) first last (ended fault) run.sink.refused log
           (same_error fault (Read log) bad)) [
             | inl bad ↦ never bad
             | inr one ↦ cc one.there
           ]
 
-      pub outcome_of_nothing : (done : Result Bool Fault)
+      pub Outcome-nothing : (done : Result Bool Fault)
           → EndsFirst E first last [] now done → Outcome done
-      outcome_of_nothing done run =
+      Outcome-nothing done run =
           let comes = comes_to done run in record {
             known = from_nothing D (λ texts. ComesTo texts done) before none comes;
             answered = adds_to_nothing (EachDelivers D before after) _ _ task done none_deliver

@@ -41,10 +41,10 @@ module _ {O F I : Type 0} (opener : O) where
   ]
 
   -- if the only path is a hyphen, the only source is the input
-  pub only_source_at : (input : I) (left : Option I) (paths : List (List ℕ))
+  pub AreSourcesAt-only_input : (input : I) (left : Option I) (paths : List (List ℕ))
       (sources : List (SourceAt O F I)) → paths ≡ codes "-" ∷ []
       → AreSourcesAt opener (Some input) left paths sources
       → sources ≡ Second (First input) ∷ []
-  only_source_at input left paths sources alone are =
+  AreSourcesAt-only_input input left paths sources alone are =
       only_one input left sources
       (subst (λ ps. AreSourcesAt opener (Some input) left ps sources) alone are)

@@ -6,7 +6,7 @@ use Rattle.epx_types.specs.declared.fault.Fault.{Fault}
 use Rattle.epx_types.specs.declared.fault.Fault.TheVariants.{Write}
 use Rattle.epx_devices.specs.Deliveries.{DeliversAll}
 use Rattle.epx_devices.specs.Models.{OpenerModel, SourceModel}
-use Rattle.epx_merge.proofs.LogPartLemmas.{few_lines}
+use Rattle.epx_merge.proofs.LogPartLemmas.{length-lines_of_bound}
 use Rattle.epx_report.specs.Bases.{fault_of}
 use Rattle.epx_report.specs.declared.base.BaseFault.{BaseFault}
 use Rattle.epx_report.specs.declared.base.BaseFault.TheVariants.{Memory, Bad}
@@ -26,16 +26,16 @@ as_many f lines said e =
     sym (length-map lines f) ∙ ap length e ∙ length-map said Some
 
 -- the line of the first instance that waits, and how many wait, are no more than the bytes allow
-pub few_wait : (bytes : List ℕ) (v : ExecutorView) (line : ℕ) → GoesOnFrom bytes v line
+pub GoesOnFrom-within : (bytes : List ℕ) (v : ExecutorView) (line : ℕ) → GoesOnFrom bytes v line
     → length bytes ≤ most_followed_bytes → line + length v.pending < 2 ^ 63
-few_wait bytes v line (inl state) bound =
+GoesOnFrom-within bytes v line (inl state) bound =
     let said = state.1.said in
     let p = state.0 in
     let behind = said.waiting ++ said.stored in
     omega (
       arith,
       bound,
-      few_lines bytes,
+      length-lines_of_bound bytes,
       ap length said.cut,
       length-append said.runs behind,
       length-append said.waiting said.stored,
@@ -44,39 +44,42 @@ few_wait bytes v line (inl state) bound =
       ap length state.2.pending,
       state.3,
     )
-few_wait bytes v line (inr report) bound =
+GoesOnFrom-within bytes v line (inr report) bound =
     omega (arith, ap length report.3.pending, report.4)
 
 -- why the state at a path is refused, from what its source delivered
-pub refuses_state : {O F I : Type 0} (opening : OpenerModel O F) (D : SourceModel F) (opener : O)
+pub RefusesState-from_source : {O F I : Type 0} (opening : OpenerModel O F) (D : SourceModel F)
+    (opener : O)
     (E : SourceModel I) (state : List ℕ) (log : ℕ) (input left : Option I)
     (source last : SourceAt O F I) (fault : Fault) → IsSourceAt opener state input left source
     → CannotRead (model_at opening D E) log source last fault
     ⊎ ((bytes : List ℕ) × DeliversAll (model_at opening D E) source last bytes
     × IsStartFault bytes fault) → RefusesState opening D opener E state log input fault
-refuses_state opening D opener E state log input left source last fault at refused = record {
-  left = left;
-  source = source;
-  last = last;
-  at = at;
-  refused = refused;
-}
+RefusesState-from_source opening D opener E state log input left source last fault at refused =
+    record {
+      left = left;
+      source = source;
+      last = last;
+      at = at;
+      refused = refused;
+    }
 
 no_base_fault : (why : BaseFault) → fault_of why ≢ Write
 no_base_fault Memory e = cc e
 no_base_fault (Bad line) e = cc e
 
 -- a state is not refused with the fault of the output
-pub refused_unwritten : {O F I : Type 0} (opening : OpenerModel O F) (D : SourceModel F)
+pub RefusesStart-not_write : {O F I : Type 0} (opening : OpenerModel O F) (D : SourceModel F)
     (opener : O) (E : SourceModel I) (state : Option (List ℕ)) (log : ℕ) (input : Option I)
     (fault : Fault) → RefusesStart opening D opener E state log input fault → fault ≢ Write
-refused_unwritten opening D opener E None log input fault bad write = bad
-refused_unwritten opening D opener E (Some state) log input fault bad write = elim bad.refused [
-  | inl (inl memory) ↦ cc (sym memory ∙ write)
-  | inl (inr (inl long)) ↦ cc (sym long.0 ∙ write)
-  | inl (inr (inr read)) ↦ cc (sym read.0 ∙ write)
-  | inr none ↦ elim none.2 [
-    | inl as_state ↦ subst (λ (f : Fault). IsStateFault none.0 f) write as_state.1
-    | inr as_report ↦ no_base_fault as_report.1.0 (sym as_report.1.2 ∙ write)
-  ]
-]
+RefusesStart-not_write opening D opener E None log input fault bad write = bad
+RefusesStart-not_write opening D opener E (Some state) log input fault bad write =
+    elim bad.refused [
+      | inl (inl memory) ↦ cc (sym memory ∙ write)
+      | inl (inr (inl long)) ↦ cc (sym long.0 ∙ write)
+      | inl (inr (inr read)) ↦ cc (sym read.0 ∙ write)
+      | inr none ↦ elim none.2 [
+        | inl as_state ↦ subst (λ (f : Fault). IsStateFault none.0 f) write as_state.1
+        | inr as_report ↦ no_base_fault as_report.1.0 (sym as_report.1.2 ∙ write)
+      ]
+    ]

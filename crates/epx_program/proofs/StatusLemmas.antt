@@ -18,7 +18,7 @@ use Rattle.epx_program.specs.Endings.{answer_status, status_of}
 use Rattle.epx_program.specs.FollowEndings.{EndsFollow}
 use Rattle.epx_program.specs.Inputs.{TextRelation}
 use Rattle.epx_program.specs.Saving.{SaveRelation}
-use Rattle.epx_program.proofs.OutputLemmas.{contents_unchanged}
+use Rattle.epx_program.proofs.OutputLemmas.{Keeps-contents}
 
 -- the status of a task that succeeded or failed
 pub ends-as-done : (exit_code : Bool) (task : Task) (logs : List (List ℕ))
@@ -33,39 +33,40 @@ answered_well true true = inr refl
 answered_well true false = inl refl
 answered_well false found = inl refl
 
-pub no_fault_ends_well : (fault : Fault) → ¬ IsAnswerStatus (fault_status fault)
-no_fault_ends_well Memory (inl e) = cc e
-no_fault_ends_well Memory (inr e) = cc e
-no_fault_ends_well TooManyLogs (inl e) = cc e
-no_fault_ends_well TooManyLogs (inr e) = cc e
-no_fault_ends_well (LogTooLong log) (inl e) = cc e
-no_fault_ends_well (LogTooLong log) (inr e) = cc e
-no_fault_ends_well (BadLine place why) (inl e) = cc e
-no_fault_ends_well (BadLine place why) (inr e) = cc e
-no_fault_ends_well TooManyInstances (inl e) = cc e
-no_fault_ends_well TooManyInstances (inr e) = cc e
-no_fault_ends_well (Disagree id first second) (inl e) = cc e
-no_fault_ends_well (Disagree id first second) (inr e) = cc e
-no_fault_ends_well (Read log) (inl e) = cc e
-no_fault_ends_well (Read log) (inr e) = cc e
-no_fault_ends_well Write (inl e) = cc e
-no_fault_ends_well Write (inr e) = cc e
-no_fault_ends_well (BadBase line) (inl e) = cc e
-no_fault_ends_well (BadBase line) (inr e) = cc e
+pub IsAnswerStatus-not_fault : (fault : Fault) → ¬ IsAnswerStatus (fault_status fault)
+IsAnswerStatus-not_fault Memory (inl e) = cc e
+IsAnswerStatus-not_fault Memory (inr e) = cc e
+IsAnswerStatus-not_fault TooManyLogs (inl e) = cc e
+IsAnswerStatus-not_fault TooManyLogs (inr e) = cc e
+IsAnswerStatus-not_fault (LogTooLong log) (inl e) = cc e
+IsAnswerStatus-not_fault (LogTooLong log) (inr e) = cc e
+IsAnswerStatus-not_fault (BadLine place why) (inl e) = cc e
+IsAnswerStatus-not_fault (BadLine place why) (inr e) = cc e
+IsAnswerStatus-not_fault TooManyInstances (inl e) = cc e
+IsAnswerStatus-not_fault TooManyInstances (inr e) = cc e
+IsAnswerStatus-not_fault (Disagree id first second) (inl e) = cc e
+IsAnswerStatus-not_fault (Disagree id first second) (inr e) = cc e
+IsAnswerStatus-not_fault (Read log) (inl e) = cc e
+IsAnswerStatus-not_fault (Read log) (inr e) = cc e
+IsAnswerStatus-not_fault Write (inl e) = cc e
+IsAnswerStatus-not_fault Write (inr e) = cc e
+IsAnswerStatus-not_fault (BadBase line) (inl e) = cc e
+IsAnswerStatus-not_fault (BadBase line) (inr e) = cc e
 
 -- the status of an answer means that the work was done
-pub of_done : {P : Bool → Type 0} (exit_code : Bool) (done : Result Bool Fault) (status : ℕ)
+pub answer_status-exists : {P : Bool → Type 0} (exit_code : Bool) (done : Result Bool Fault)
+    (status : ℕ)
     → status ≡ status_of exit_code done → IfOk done P → IsAnswerStatus status
     → (found : Bool) × (status ≡ answer_status exit_code found) × P found
-of_done exit_code (Ok found) status is h well = (found, is, h)
-of_done exit_code (Err fault) status is h well =
-    absurd (no_fault_ends_well fault (subst IsAnswerStatus is well))
+answer_status-exists exit_code (Ok found) status is h well = (found, is, h)
+answer_status-exists exit_code (Err fault) status is h well =
+    absurd (IsAnswerStatus-not_fault fault (subst IsAnswerStatus is well))
 
-pub is_status : (exit_code : Bool) (done : Result Bool Fault) (status : ℕ)
+pub IsStatus-status_of : (exit_code : Bool) (done : Result Bool Fault) (status : ℕ)
     → status ≡ status_of exit_code done → IsStatus status
-is_status exit_code (Ok found) status is =
+IsStatus-status_of exit_code (Ok found) status is =
     inl (subst IsAnswerStatus (sym is) (answered_well exit_code found))
-is_status exit_code (Err fault) status is = inr (fault, is)
+IsStatus-status_of exit_code (Err fault) status is = inr (fault, is)
 
 -- status 4 means that a device failed
 status_of_device : (fault : Fault) → fault_status fault ≡ 4
@@ -85,43 +86,44 @@ answer_is_no_device true true e = cc e
 answer_is_no_device true false e = cc e
 answer_is_no_device false found e = cc e
 
-pub failed_device : {P Q : Type 0} (exit_code : Bool) (done : Result Bool Fault) (status : ℕ)
+pub status_of-failed_device : {P Q : Type 0} (exit_code : Bool) (done : Result Bool Fault)
+    (status : ℕ)
     → status ≡ status_of exit_code done
     → (IsErrOf done Write → P) → ((log : ℕ) → IsErrOf done (Read log) → Q) → status ≡ 4 → P ⊎ Q
-failed_device exit_code (Ok found) status is written read four =
+status_of-failed_device exit_code (Ok found) status is written read four =
     absurd (answer_is_no_device exit_code found (sym is ∙ four))
-failed_device exit_code (Err fault) status is written read four =
+status_of-failed_device exit_code (Err fault) status is written read four =
     elim (status_of_device fault (sym is ∙ four)) [
       | inl write ↦ inl (written (ap Err write))
       | inr unread ↦ inr (read unread.0 (ap Err unread.1))
     ]
 
 -- an output that did not fail is unchanged, unless the status is that of an answer
-pub unchanged_by_work : (exit_code : Bool) (done : Result Bool Fault) (status : ℕ) (failed : Bool)
+pub Keeps-by_work : (exit_code : Bool) (done : Result Bool Fault) (status : ℕ) (failed : Bool)
     (old new : Option (List ℕ)) → status ≡ status_of exit_code done
     → IfErr done (λ fault. fault ≢ Write → Keeps old new)
     → IsErrOf done Write ↔ (failed ≡ true) → failed ≡ false → ¬ IsAnswerStatus status
     → Keeps old new
-unchanged_by_work exit_code (Ok found) status failed old new is nothing written well other =
+Keeps-by_work exit_code (Ok found) status failed old new is nothing written well other =
     absurd (other (subst IsAnswerStatus (sym is) (answered_well exit_code found)))
-unchanged_by_work exit_code (Err fault) status failed old new is nothing written well other =
+Keeps-by_work exit_code (Err fault) status failed old new is nothing written well other =
     nothing (λ named. let bad = written.0 (ap Err named) in cc (well, bad))
 
 -- flushed where the status is that of an answer
-pub flushed_by_work : (exit_code : Bool) (done : Result Bool Fault) (status : ℕ) (P : Type 0)
+pub OnOk-by_status : (exit_code : Bool) (done : Result Bool Fault) (status : ℕ) (P : Type 0)
     → status ≡ status_of exit_code done → OnOk done P → IsAnswerStatus status → P
-flushed_by_work exit_code (Ok found) status P is h well = h
-flushed_by_work exit_code (Err fault) status P is h well =
-    absurd (no_fault_ends_well fault (subst IsAnswerStatus is well))
+OnOk-by_status exit_code (Ok found) status P is h well = h
+OnOk-by_status exit_code (Err fault) status P is h well =
+    absurd (IsAnswerStatus-not_fault fault (subst IsAnswerStatus is well))
 
-pub unchanged_by_text : {W : Type 0} (contents : W → Option (List ℕ)) (before after : W)
+pub Keeps-by_text : {W : Type 0} (contents : W → Option (List ℕ)) (before after : W)
     (status result : ℕ) (failed : Bool) → (status ≢ 0 → (result ≡ status) × (after ≡ before))
     → (status ≡ 0 → result ≢ 0 → (result ≡ 4) × (failed ≡ true)) → failed ≡ false
     → ¬ IsAnswerStatus result → Keeps (contents before) (contents after)
-unchanged_by_text contents before after zero result failed refused bad well other =
+Keeps-by_text contents before after zero result failed refused bad well other =
     let is = (bad refl (λ none. other (inl none))).1 in absurd (cc (is, well))
-unchanged_by_text contents before after (suc n) result failed refused bad well other =
-    contents_unchanged contents before after (refused (λ none. omega (arith, none))).1
+Keeps-by_text contents before after (suc n) result failed refused bad well other =
+    Keeps-contents contents before after (refused (λ none. omega (arith, none))).1
 
 -- a text with status 0 is written, or the output failed
 pub of-text : {P : Type 0} (result : ℕ) → (result ≢ 0 → (result ≡ 4) × P)
@@ -133,15 +135,15 @@ shown : {P : Type 0} (result : ℕ) → (result ≡ 0) ⊎ ((result ≡ 4) × P)
 shown result (inl well) = inl (inl well)
 shown result (inr failed) = inr (Write, failed.0)
 
-pub work_status : (input : Option (List ℕ)) (Unread : Type 0) (Is : TextRelation) (status : ℕ)
+pub IfWork-status : (input : Option (List ℕ)) (Unread : Type 0) (Is : TextRelation) (status : ℕ)
     (failed : Bool) (old new : Option (List ℕ)) (words : Words)
     → IfWork (λ task plan paths. EndsTask input Unread Is (flags_of words).exit_code task paths
     status failed old new) words
     → IfWork (λ task plan paths. IsStatus status) words
-work_status input Unread Is status failed old new (Work task plan paths) h = h.ends
-work_status input Unread Is status failed old new (WorkWith task plan paths flags) h = h.ends
-work_status input Unread Is status failed old new (Follow plan paths options) h = tt
-work_status input Unread Is status failed old new (Text text said) h = tt
+IfWork-status input Unread Is status failed old new (Work task plan paths) h = h.ends
+IfWork-status input Unread Is status failed old new (WorkWith task plan paths flags) h = h.ends
+IfWork-status input Unread Is status failed old new (Follow plan paths options) h = tt
+IfWork-status input Unread Is status failed old new (Text text said) h = tt
 
 -- the status of following logs: 0, or that of a fault
 abbrev IsFollowStatus : ℕ → Type 0
@@ -154,16 +156,16 @@ status_of_following Is Saving options paths zero failed old new h = inl refl
 status_of_following Is Saving options paths (suc n) failed old new h =
     let stopped = h.stopped (λ none. omega (arith, none)) in inr (stopped.0, stopped.1)
 
-pub follow_status : (Is : TextRelation) (Saving : SaveRelation) (status : ℕ) (failed : Bool)
+pub IfFollow-status : (Is : TextRelation) (Saving : SaveRelation) (status : ℕ) (failed : Bool)
     (old new : Option (List ℕ)) (words : Words)
     → IfFollow (λ plan paths options. EndsFollow Is Saving options paths status failed old new)
     words
     → IfFollow (λ plan paths options. IsFollowStatus status) words
-follow_status Is Saving status failed old new (Work task plan paths) h = tt
-follow_status Is Saving status failed old new (WorkWith task plan paths flags) h = tt
-follow_status Is Saving status failed old new (Follow plan paths options) h =
+IfFollow-status Is Saving status failed old new (Work task plan paths) h = tt
+IfFollow-status Is Saving status failed old new (WorkWith task plan paths flags) h = tt
+IfFollow-status Is Saving status failed old new (Follow plan paths options) h =
     status_of_following Is Saving options _ status failed old new h
-follow_status Is Saving status failed old new (Text text said) h = tt
+IfFollow-status Is Saving status failed old new (Text text said) h = tt
 
 followed : (result : ℕ) → IsFollowStatus result → IsStatus result
 followed result (inl well) = inl (inl well)
@@ -171,7 +173,7 @@ followed result (inr failed) = inr failed
 
 no_five : (result : ℕ) → IsFollowStatus result → result ≢ 5
 no_five result (inl well) five = omega (arith, well, five)
-no_five result (inr failed) five = no_fault_ends_well failed.0 (inr (sym failed.1 ∙ five))
+no_five result (inr failed) five = IsAnswerStatus-not_fault failed.0 (inr (sym failed.1 ∙ five))
 
 -- the program ends as the words ask, for every kind of words
 pub of-words : (P Q : Type 0) (words : Words) (result : ℕ)
@@ -190,22 +192,22 @@ of-words P Q (Text text status) result (inr two) work follow asked refused =
     inr ((refused (λ none. omega (arith, none, two))).0 ∙ two)
 
 -- only work ends with status 5
-pub found_by_work : (P Q R : Type 0) (words : Words) (result : ℕ)
+pub IfWork-found : (P Q R : Type 0) (words : Words) (result : ℕ)
     → IfText (λ status. (status ≡ 0) ⊎ (status ≡ 2)) words
     → IfWork (λ task plan paths. result ≡ 5 → P) words
     → IfFollow (λ plan paths options. IsFollowStatus result) words
     → IfText (λ status. status ≡ 0 → (result ≡ 0) ⊎ ((result ≡ 4) × Q)) words
     → IfText (λ status. status ≢ 0 → (result ≡ status) × R) words → result ≡ 5 → P
-found_by_work P Q R (Work task plan paths) result said work follow text refused five = work five
-found_by_work P Q R (WorkWith task plan paths flags) result said work follow text refused five =
+IfWork-found P Q R (Work task plan paths) result said work follow text refused five = work five
+IfWork-found P Q R (WorkWith task plan paths flags) result said work follow text refused five =
     work five
-found_by_work P Q R (Follow plan paths options) result said work follow text refused five =
+IfWork-found P Q R (Follow plan paths options) result said work follow text refused five =
     absurd (no_five result follow five)
-found_by_work P Q R (Text text status) result (inl good) work follow asked refused five =
+IfWork-found P Q R (Text text status) result (inl good) work follow asked refused five =
     elim (asked good) [
       | inl well ↦ absurd (omega (arith, well, five))
       | inr failed ↦ absurd (omega (arith, failed.0, five))
     ]
-found_by_work P Q R (Text text status) result (inr two) work follow asked refused five =
+IfWork-found P Q R (Text text status) result (inr two) work follow asked refused five =
     let is = (refused (λ none. omega (arith, none, two))).0 in
     absurd (omega (arith, is, two, five))

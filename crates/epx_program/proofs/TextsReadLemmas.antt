@@ -3,8 +3,8 @@ use Rattle.std.proofs.Common.{◌≡◌, ◌∷◌, [], ℕ, List, length, Optio
 use Rattle.std.proofs.Common.{inl, inr, arith, Bool, Result, Ok, Err, IfOk}
 use Rattle.epx_types.specs.declared.fault.Fault.{Fault}
 use Rattle.epx_names.specs.declared.task.Task.{Task}
-use Rattle.epx_devices.proofs.DeliveryLemmas.{all_are_known, path_delivers_opened}
-use Rattle.epx_devices.proofs.EitherSourceLemmas.{first_delivers_all, second_delivers_all}
+use Rattle.epx_devices.proofs.DeliveryLemmas.{AllAreTheKnown-holds, PathDeliversOpened-holds}
+use Rattle.epx_devices.proofs.EitherSourceLemmas.{DeliversAll-from_first, DeliversAll-from_second}
 use Rattle.epx_devices.specs.Deliveries.{DeliversAll}
 use Rattle.epx_devices.specs.DeviceStates.{PathState, path_source}
 use Rattle.epx_devices.specs.EitherSources.{either_source}
@@ -40,22 +40,22 @@ module _ {O F I : Type 0} (opening : OpenerModel O F) (D : SourceModel F) (opene
       → DeliversAll any (unopened opener path) last text
       → IsFileText opening D opener path text
   file_text path last text all =
-      let of_path = first_delivers_all file other _ last text all in
-      let from = path_delivers_opened opening D _ of_path.0 text refl of_path.1 in
+      let of_path = DeliversAll-from_first file other _ last text all in
+      let from = PathDeliversOpened-holds opening D _ of_path.0 text refl of_path.1 in
       (from.opened, from.at_path, (from.last, from.all))
 
   input_text : (input : I) (last : SourceAt O F I) (text : List ℕ)
       → DeliversAll any (input_or_nothing (Some input)) last text → IsWholeText E input text
   input_text input last text all =
-      let inner = second_delivers_all file other (First input) last text all in
-      first_delivers_all E memory_source input inner.0 text inner.1
+      let inner = DeliversAll-from_second file other (First input) last text all in
+      DeliversAll-from_first E memory_source input inner.0 text inner.1
 
   nothing_text : (last : SourceAt O F I) (text : List ℕ)
       → DeliversAll any (input_or_nothing None) last text → text ≡ []
   nothing_text last text all =
-      let inner = second_delivers_all file other (Second []) last text all in
-      let bytes = second_delivers_all E memory_source [] inner.0 text inner.1 in
-      all_are_known memory_source (λ s room bytes t read. read) [] bytes.0 text bytes.1
+      let inner = DeliversAll-from_second file other (Second []) last text all in
+      let bytes = DeliversAll-from_second E memory_source [] inner.0 text inner.1 in
+      AllAreTheKnown-holds memory_source (λ s room bytes t read. read) [] bytes.0 text bytes.1
 
   module _ (whole : I) where
     -- what the texts are, while the input is left and once it is taken
@@ -104,30 +104,30 @@ module _ {O F I : Type 0} (opening : OpenerModel O F) (D : SourceModel F) (opene
         one_text path text paths texts input are.0 s t are.1 whole.0
         (texts_from are.0 left paths texts sources after are.2 (omega (arith, many)) whole.1)
 
-  pub texts_at : (input : I) (left : Option I) (paths : List (List ℕ))
+  pub AreTextsAt-delivered : (input : I) (left : Option I) (paths : List (List ℕ))
       (sources after : List (SourceAt O F I)) → AreSourcesAt opener (Some input) left paths sources
       → (texts : List (List ℕ)) → EachDelivers any sources after texts
       → AreTextsAt (text_relation opening D opener E input) paths texts
-  texts_at input left paths sources after are texts each =
+  AreTextsAt-delivered input left paths sources after are texts each =
       texts_from input (Some input) left paths texts sources after are each.as_many each.whole
 
   -- what a source delivered and then others is the text at its path and those at theirs
-  pub texts_after : (input : I) (next left : Option I) (path : List ℕ)
+  pub AreTextsAt-cons : (input : I) (next left : Option I) (path : List ℕ)
       (source last : SourceAt O F I) (text : List ℕ)
       → IsSourceAt opener path (Some input) next source
       → DeliversAll any source last text → (paths : List (List ℕ))
       (sources after : List (SourceAt O F I)) → AreSourcesAt opener next left paths sources
       → (texts : List (List ℕ)) → EachDelivers any sources after texts
       → AreTextsAt (text_relation opening D opener E input) (path ∷ paths) (text ∷ texts)
-  texts_after input next left path source last text is all paths sources after are texts each =
+  AreTextsAt-cons input next left path source last text is all paths sources after are texts each =
       one_text input path text paths texts (Some input) next source last is all
       (texts_from input next left paths texts sources after are each.as_many each.whole)
 
   -- what the input delivered, if it is the only source, is the text at a hyphen
-  pub text_of_input : (input : I) (sources after : List I) → sources ≡ input ∷ []
+  pub AreTextsAt-input : (input : I) (sources after : List I) → sources ≡ input ∷ []
       → (texts : List (List ℕ)) → EachDelivers E sources after texts
       → AreTextsAt (text_relation opening D opener E input) (codes "-" ∷ []) texts
-  text_of_input input sources after only texts each =
+  AreTextsAt-input input sources after only texts each =
       let alone = subst (λ ss. EachDelivers E ss after texts) only each in
       go after texts alone.as_many alone.whole
     where
@@ -142,11 +142,11 @@ module _ {O F I : Type 0} (opening : OpenerModel O F) (D : SourceModel F) (opene
 -- the answer to texts that are read in one sense is one to texts that are read in another
 module _ (task : Task) (old new : Option (List ℕ)) {AreRead Are : List (List ℕ) → Type 0}
     (these : (texts : List (List ℕ)) → AreRead texts → Are texts) where
-  pub answer_read : (done : Result Bool Fault)
+  pub IfOk-answer_read : (done : Result Bool Fault)
       → IfOk done (λ found. AddsAnswer task found AreRead old new)
       → IfOk done (λ found. AddsAnswer task found Are old new)
-  answer_read (Ok found) h = (h.0, these h.0 h.1, h.2)
-  answer_read (Err fault) h = tt
+  IfOk-answer_read (Ok found) h = (h.0, these h.0 h.1, h.2)
+  IfOk-answer_read (Err fault) h = tt
 
-  pub part_read : AddsPart task AreRead old new → AddsPart task Are old new
-  part_read h = (h.0, these h.0 h.1, h.2)
+  pub AddsPart-read : AddsPart task AreRead old new → AddsPart task Are old new
+  AddsPart-read h = (h.0, these h.0 h.1, h.2)

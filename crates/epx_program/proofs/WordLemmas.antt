@@ -24,15 +24,15 @@ use Rattle.epx_program.specs.Calls.{IsFollow, NamesFollow}
 use Rattle.epx_program.specs.FollowEndings.{EndsFollow}
 use Rattle.epx_program.specs.Inputs.{TextRelation}
 use Rattle.epx_program.specs.Saving.{SaveRelation}
-use Rattle.epx_program.proofs.BareWordLemmas.{bare_or_not}
-use Rattle.epx_program.proofs.OutputLemmas.{contents_unchanged}
+use Rattle.epx_program.proofs.BareWordLemmas.{IsBare-decides}
+use Rattle.epx_program.proofs.OutputLemmas.{Keeps-contents}
 
 -- words are taken for only one list of texts
-pub one_list_taken : (words : Result (IntoIter (String Global) Global) Error)
+pub AreTakenFor-is_unique : (words : Result (IntoIter (String Global) Global) Error)
     (texts others : List Text) → AreTakenFor words texts → AreTakenFor words others
     → texts ≡ others
-one_list_taken (Ok given) texts others these those = sym these ∙ those
-one_list_taken (Err why) texts others these those = absurd these
+AreTakenFor-is_unique (Ok given) texts others these those = sym these ∙ those
+AreTakenFor-is_unique (Err why) texts others these those = absurd these
 
 no_items : {A : Type 0} (xs : List A) → length xs ≡ 0 → xs ≡ []
 no_items [] none = refl
@@ -43,11 +43,12 @@ all_taken : {A B : Type 0} (f : A → B) (came : List B) (rest : List A) → len
 all_taken f came rest none = ap (λ xs. came ++ map f xs) (no_items rest none) ∙ append-nil came
 
 -- if no word is left to read, the words read so far are all words
-pub words_taken : (words : Result (IntoIter (String Global) Global) Error) (texts : List Text)
+pub AreTakenFor-at_end : (words : Result (IntoIter (String Global) Global) Error)
+    (texts : List Text)
     (came rest : List (String Global))
     → AreTakenFor words (map string_bytes came ++ map string_bytes rest) → length rest ≡ 0
     → texts ≡ map string_bytes came → AreTakenFor words texts
-words_taken words texts came rest taken none same = subst (AreTakenFor words)
+AreTakenFor-at_end words texts came rest taken none same = subst (AreTakenFor words)
     (all_taken string_bytes (map string_bytes came) rest none ∙ sym same) taken
 
 module _ (words : List Text) where
@@ -93,7 +94,7 @@ module _ (words : List Text) where
   text_ends (text said status) refused ends = (refused, ends)
 
   -- what is read of the words is what they ask for
-  pub asks : (read : Result Words Memory)
+  pub IfOk-asks : (read : Result Words Memory)
       → (IsBare words → IfOk read
       (λ asked. asked ≡ Work Run (record { workers = 4; cut = 256 }) None))
       → (¬ IsBare words → IfOk read
@@ -114,7 +115,8 @@ module _ (words : List Text) where
       (IfText (λ status. (takes epx_app words ≡ false) ⊎ (¬ NamesAll given))))
       → (¬ IsBare words → IfOk read (IfText (IsTextStatus kinds given)))
       → IfOk read (Asks words)
-  asks (Ok asked) bare is_task is_workers is_cut are_paths are_parts followed flags taken refused
+  IfOk-asks (Ok asked) bare is_task is_workers is_cut are_paths are_parts followed flags taken
+      refused
       ends =
       record {
         bare = bare;
@@ -125,7 +127,8 @@ module _ (words : List Text) where
         taken = taken;
         text = λ named. text_ends asked (refused named) (ends named);
       }
-  asks (Err memory) bare is_task is_workers is_cut are_paths are_parts followed flags taken refused
+  IfOk-asks (Err memory) bare is_task is_workers is_cut are_paths are_parts followed flags taken
+      refused
       ends = tt
 
   name_of_follow : (asked : Words) → IfFollow (AsksToFollow given) asked → IsFollow asked
@@ -136,14 +139,14 @@ module _ (words : List Text) where
   name_of_follow (text said status) asks follow = absurd follow
 
   -- words that ask to follow logs name the subcommand
-  pub names_follow : (args : Result (IntoIter (String Global) Global) Error)
+  pub IfOk-names_follow : (args : Result (IntoIter (String Global) Global) Error)
       → AreTakenFor args words → (read : Result Words Memory)
       → (IsBare words → IfOk read
       (λ asked. asked ≡ Work Run (record { workers = 4; cut = 256 }) None))
       → (¬ IsBare words → IfOk read (IfFollow (AsksToFollow given)))
       → IfOk read (λ asked. IsFollow asked → NamesFollow args)
-  names_follow args taken (Err memory) bare named = tt
-  names_follow args taken (Ok asked) bare named = elim (bare_or_not words) [
+  IfOk-names_follow args taken (Err memory) bare named = tt
+  IfOk-names_follow args taken (Ok asked) bare named = elim (IsBare-decides words) [
     | inl is ↦ λ follow. absurd (subst IsFollow (bare is) follow)
     | inr not ↦ λ follow. (words, taken, name_of_follow asked (named not) follow)
   ]
@@ -165,10 +168,10 @@ module _ {S : Type 0} (contents : S → Option (List ℕ)) (before after : S)
       go (inr bad) = inr (bad.0, bad.1, prefix refl)
   ends_with_text said (suc n) shown prefix well refused =
       let ends = refused (λ none. omega (arith, none)) in
-      (ends.0, contents_unchanged contents before after ends.1)
+      (ends.0, Keeps-contents contents before after ends.1)
 
   -- how the program ends with what is wanted, from the contracts of the calls that do it
-  pub ends_as_asked : (wanted : Words)
+  pub EndsAsAsked-cases : (wanted : Words)
       → IfWork (λ task plan paths. EndsTask input Unread Is (flags_of wanted).exit_code task paths
       status failed (contents before) (contents after)) wanted
       → IfFollow (λ plan paths options. EndsFollow Is Saving options paths status failed
@@ -180,9 +183,9 @@ module _ {S : Type 0} (contents : S → Option (List ℕ)) (before after : S)
       → IfText (λ n. n ≡ 0 → (status ≡ 0) ⊎ ((status ≡ 4) × (failed ≡ true))) wanted
       → IfText (λ n. n ≢ 0 → (status ≡ n) × (after ≡ before)) wanted
       → EndsAsAsked input Unread Is Saving wanted status failed (contents before) (contents after)
-  ends_as_asked (Work task plan paths) work follow shown prefix well refused = work
-  ends_as_asked (WorkWith task plan paths flags) work follow shown prefix well refused = work
-  ends_as_asked (Follow plan paths options) work follow shown prefix well refused = follow
-  ends_as_asked (text said n) work follow shown prefix well refused =
+  EndsAsAsked-cases (Work task plan paths) work follow shown prefix well refused = work
+  EndsAsAsked-cases (WorkWith task plan paths flags) work follow shown prefix well refused = work
+  EndsAsAsked-cases (Follow plan paths options) work follow shown prefix well refused = follow
+  EndsAsAsked-cases (text said n) work follow shown prefix well refused =
       ends_with_text (string_bytes said) n (λ none. shown said (ap (text said) none))
       (λ none. prefix said (ap (text said) none)) well refused

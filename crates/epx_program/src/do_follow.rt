@@ -1,12 +1,12 @@
 //! The subcommand `follow`: opens the sources at the paths, follows their logs, and saves the state
 //! at the end.
-ghost use Rattle.std.specs.Prelude.{◌≡◌, ◌↔◌, ◌⊎◌, true, false, All, Some, length};
+ghost use Rattle.std.specs.Prelude.{◌≡◌, ◌↔◌, ◌⊎◌, true, false, All, Some};
 ghost use Rattle.std.specs.Prelude.{IfErr, IfOk, IfSome, IsErrOf, MatchResult, OnOk};
 ghost use Rattle.std.specs.Prelude.{option_map, string_bytes};
 ghost use Rattle.std.specs.Io.KnownBytes.{Keeps};
 ghost use Rattle.epx_program.specs.Calls.{paths_of};
 ghost use Rattle.epx_program.specs.FollowEndings.{EndsFollow, FollowsToEnds, StopsBefore};
-ghost use Rattle.epx_program.specs.FollowEndings.{save_of, state_of};
+ghost use Rattle.epx_program.specs.FollowEndings.{save_of};
 ghost use Rattle.epx_program.specs.FollowStops.{RefusesState, StopsFrom, state_number};
 ghost use Rattle.epx_program.specs.Inputs.{text_relation};
 ghost use Rattle.epx_program.specs.PathsRead.{paths_read};

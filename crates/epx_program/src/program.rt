@@ -19,7 +19,7 @@ use crate::exit_report::{print_text, report_fault, report_task};
 use crate::explain::explain;
 use crate::read_args::read_args;
 use crate::shown_job::job_of;
-use crate::streams::{Streams, say_what_is_read};
+use crate::streams::{Streams, warn_about_input};
 use epx_devices::{Opener, Saver};
 use epx_progress::{CountedOpener, CountedSource, Progress};
 use epx_tool::{Flags, Sink, Source, Task, Words};
@@ -214,7 +214,7 @@ where
 {
     let status = match read_args(rt.alloc(), words) {
         Ok(words) => {
-            say_what_is_read(rt, streams.input, &words);
+            warn_about_input(rt, streams.input, &words);
             execute_words(rt, opener, saver, words, streams, input, output)
         }
         Err(Memory) => report_fault(rt, Fault::Memory),

@@ -48,7 +48,7 @@ fn following_line(input: StreamKind, paths: &Option<Vec<String>>) -> Option<&'st
 }
 
 /// Writes a line to standard error where the words ask for one log from a terminal, or for no log.
-pub(crate) fn say_what_is_read(rt: &impl Eprint, input: StreamKind, words: &Words) {
+pub(crate) fn warn_about_input(rt: &impl Eprint, input: StreamKind, words: &Words) {
     let line = match words {
         Words::Work { task, paths, .. } | Words::WorkWith { task, paths, .. } => {
             reading_line(input, *task, paths)

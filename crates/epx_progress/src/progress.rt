@@ -1,6 +1,6 @@
 //! The line that says how far a run is.
 ghost use Rattle.std.specs.Thread.{IsSync};
-ghost use Rattle.epx_claims.specs.Seated.{IsSeatOf};
+ghost use Rattle.epx_claims.specs.between.Seated.{IsSeatOf};
 
 use crate::job::Job;
 use crate::reporter::{POLLS, SECOND, erase, report, use_up, write_line};

@@ -1,5 +1,5 @@
 //! The thread that says what is done while an answer is made.
-ghost use Rattle.epx_claims.specs.Seated.{IsSeatOf};
+ghost use Rattle.epx_claims.specs.between.Seated.{IsSeatOf};
 
 use epx_claims::{ClaimSeat, Claims};
 use std::io::Eprint;

@@ -4,9 +4,10 @@ use Rattle.std.proofs.Common.{replicate, arith}
 use Rattle.epx_types.proofs.Common.{cases_lt}
 use Rattle.epx_graph.proofs.Common.{NodeReaches}
 use Rattle.epx_ranking.specs.inner.Ends.{IsEndBelow}
-use Rattle.epx_components.specs.Collections.{AreCollected}
-use Rattle.epx_components.specs.Partitions.{ComponentParts, IsPartition, component_of, number_for}
-use Rattle.epx_components.proofs.CollectionLemmas.{collects_from_others}
+use Rattle.epx_components.specs.between.Collections.{AreCollected}
+use Rattle.epx_components.specs.between.Partitions.{ComponentParts, IsPartition, component_of}
+use Rattle.epx_components.specs.between.Partitions.{number_for}
+use Rattle.epx_components.proofs.CollectionLemmas.{AreCollected-from_others}
 
 module _ (edges : ℕ → List ℕ) (p : ComponentParts) (is : IsPartition edges p)
     (ends below first : List ℕ) (n : ℕ) (zeros : first ≡ replicate n 0)
@@ -15,7 +16,7 @@ module _ (edges : ℕ → List ℕ) (p : ComponentParts) (is : IsPartition edges
   later : (t k : ℕ) → k < length p.component → (t < number_for p below k)
       ↔ ((j : ℕ) × NodeReaches edges k j × (t < number_for p ends j)
       × (component_of p j ≢ component_of p k))
-  later t = collects_from_others edges p is first n t (λ c. t < get_or ends c 0)
+  later t = AreCollected-from_others edges p is first n t (λ c. t < get_or ends c 0)
       (λ c. (t < get_or ends c 0) ⊎ (t < get_or below c 0)) (λ c. t < get_or below c 0) zeros
       (all t) (λ c. ((λ h. h), λ h. h))
 
@@ -28,9 +29,9 @@ module _ (edges : ℕ → List ℕ) (p : ComponentParts) (is : IsPartition edges
         | inr most ↦ omega (arith, most)
       ]
 
-  pub ends_below_exact : (k : ℕ) → k < length p.component
+  pub IsEndBelow-exact : (k : ℕ) → k < length p.component
       → IsEndBelow edges p ends k (number_for p below k)
-  ends_below_exact k l = record {
+  IsEndBelow-exact k l = record {
     all = λ j there other. end_below k j l there other;
     one = elim (cases_lt 0 (number_for p below k)) [
       | inl some ↦

@@ -4,23 +4,24 @@ use Rattle.std.proofs.Common.{◌≡◌, ◌≢◌, ℕ, inl, inr, List, true, l
 use Rattle.std.proofs.Common.{subst, ◌∙◌, ap, arith, is_lt, nat_cmp, Contains}
 use Rattle.epx_types.proofs.Common.{ordering_then, nat_cmp_total, cases_lt, slice_get_within}
 use Rattle.epx_types.proofs.Common.{id_cmp, IsRising, ids_of, Instance, SequenceBefore, IsLawful}
-use Rattle.epx_types.proofs.Common.{IsReady, IsRising-same, id_cmp_total, slice_get-from_Contains}
-use Rattle.epx_types.proofs.Common.{AllPairs-from_slice_get, IsReady-reached, below_irrefl}
+use Rattle.epx_types.proofs.Common.{IsReady, IsRising-same, id_cmp-IsTotalOrder}
+use Rattle.epx_types.proofs.Common.{slice_get-from_Contains}
+use Rattle.epx_types.proofs.Common.{AllPairs-from_slice_get, IsReady-reached, is_lt-irrefl}
 use Rattle.epx_types.specs.declared.id.Id.{Id}
 use Rattle.std.specs.Cmp.{on_total, then_total}
 use Rattle.epx_ranking.specs.OrderFaults.{IsListOfReady, InOrder}
 
 module _ (m : List Instance) (rising : IsRising (ids_of m)) (ids : List Id) where
   -- no instance comes before itself
-  pub not_before_itself : (x : Id) → ¬ SequenceBefore m x x
-  not_before_itself x by =
+  pub SequenceBefore-irrefl : (x : Id) → ¬ SequenceBefore m x x
+  SequenceBefore-irrefl x by =
       let e = by.second in
       let one = IsRising-same m rising by.first e by.first_in by.second_in
       (by.first_is ∙ sym by.second_is) in
       let same = subst (λ (d : Instance). is_lt (ordering_then (nat_cmp d.seq e.seq) (id_cmp x x))
       ≡ true) one by.lower in
-      below_irrefl (then_total (on_total (λ (a : ℕ × Id). a.0) nat_cmp_total)
-      (on_total (λ (a : ℕ × Id). a.1) id_cmp_total)) (e.seq, x) same
+      is_lt-irrefl (then_total (on_total (λ (a : ℕ × Id). a.0) nat_cmp_total)
+      (on_total (λ (a : ℕ × Id). a.1) id_cmp-IsTotalOrder)) (e.seq, x) same
 
   module _ (ready : IsListOfReady m ids) (order : InOrder m ids (length ids)) where
     member : (x : Id) → Contains ids x → IsReady m x
@@ -28,8 +29,8 @@ module _ (m : List Instance) (rising : IsRising (ids_of m)) (ids : List Id) wher
         let at = slice_get-from_Contains ids x h in
         (ready.0 at.0 x (slice_get_within ids at.0 x at.1) at.1).0
 
-    pub lawful_from_order : IsLawful m ids
-    lawful_from_order = record {
+    pub IsLawful-from_order : IsLawful m ids
+    IsLawful-from_order = record {
       once = AllPairs-from_slice_get (λ x y. x ≢ y) ids
           (λ i j x y l at to same. (ready.0 j y (slice_get_within ids j y to) to).1 i l
           (at ∙ ap Some same));
@@ -81,7 +82,7 @@ module _ (m : List Instance) (rising : IsRising (ids_of m)) (ids : List Id) wher
                   let position : j.0 ≡ i.0 = omega arith in
                   let same : Some y ≡ Some x = sym j.1 ∙ ap (slice_get ids) position ∙ i.1 in
                   let is_x : y ≡ x = cc same in
-                  absurd (not_before_itself x (subst (SequenceBefore m x) is_x lower))
+                  absurd (SequenceBefore-irrefl x (subst (SequenceBefore m x) is_x lower))
             ]
           ];
     }

@@ -2,14 +2,15 @@
 use Rattle.std.proofs.Common.{◌≡◌, ◌≢◌, ℕ, ◌+◌, ◌<◌, ◌⊎◌, inl, inr, List, Bool, length, get_or, set}
 use Rattle.std.proofs.Common.{slice_get, Option, Some, None, true, refl, sym, subst, ◌∙◌, ap, arith}
 use Rattle.std.proofs.Common.{is_lt, IsTrue}
-use Rattle.epx_types.proofs.Common.{cases_lt, length-set, Instance, below_irrefl, below_trans}
+use Rattle.epx_types.proofs.Common.{cases_lt, length-set, Instance, is_lt-irrefl, is_lt-trans}
 use Rattle.epx_ranking.specs.declared.check.sequence_key.SequenceKey.{SequenceKey}
 use Rattle.epx_ranking.specs.inner.SequenceKeys.{sequence_key_of, sequence_key_cmp, ComesAfter}
 use Rattle.epx_ranking.specs.inner.SequenceKeys.{key_for, AreLeftOut}
-use Rattle.epx_ranking.proofs.SequenceKeyLemmas.{sequence_key_cmp_total, before_later}
-use Rattle.epx_components.specs.Partitions.{ComponentParts, component_of}
-use Rattle.epx_components.specs.ReadyMarks.{is_marked}
-use Rattle.epx_components.proofs.PartitionLemmas.{value_after_set}
+use Rattle.epx_ranking.proofs.SequenceKeyLemmas.{sequence_key_cmp-total}
+use Rattle.epx_ranking.proofs.SequenceKeyLemmas.{sequence_key_cmp-before_later}
+use Rattle.epx_components.specs.between.Partitions.{ComponentParts, component_of}
+use Rattle.epx_components.specs.between.ReadyMarks.{is_marked}
+use Rattle.epx_components.proofs.PartitionLemmas.{get_or-set_component}
 
 module _ (m : List Instance) (p : ComponentParts) (marks : List Bool) (n : ℕ)
     (left_out : List (Option SequenceKey)) (old : AreLeftOut m p marks n left_out) where
@@ -29,9 +30,9 @@ module _ (m : List Instance) (p : ComponentParts) (marks : List Bool) (n : ℕ)
         let same : Some f ≡ Some e = sym to ∙ ap (slice_get m) now ∙ at in cc same
 
     -- a node with a greater key than another one of its component changes nothing
-    pub left_out_kept : ComesAfter (sequence_key_of e) (key_for p left_out n)
+    pub AreLeftOut-kept : ComesAfter (sequence_key_of e) (key_for p left_out n)
         → AreLeftOut m p marks (n + 1) left_out
-    left_out_kept h = by (key_for p left_out n) refl h where
+    AreLeftOut-kept h = by (key_for p left_out n) refl h where
       by : (o : Option SequenceKey) → key_for p left_out n ≡ o → ComesAfter (sequence_key_of e) o
           → AreLeftOut m p marks (n + 1) left_out
       by None is h = absurd h
@@ -45,8 +46,8 @@ module _ (m : List Instance) (p : ComponentParts) (marks : List Bool) (n : ℕ)
                 t,
                 ap (key_for p left_out) same ∙ is,
                 λ lower.
-                    below_irrefl sequence_key_cmp_total t
-                    (below_trans sequence_key_cmp_total t (sequence_key_of e) t h
+                    is_lt-irrefl sequence_key_cmp-total t
+                    (is_lt-trans sequence_key_cmp-total t (sequence_key_of e) t h
                     (subst (λ f. is_lt (sequence_key_cmp (sequence_key_of f) t) ≡ true)
                     (same_instance j f same at_f) lower)),
               )
@@ -54,11 +55,11 @@ module _ (m : List Instance) (p : ComponentParts) (marks : List Bool) (n : ℕ)
       }
 
     -- any other node that is not listed has the least key of its component
-    pub left_out_step : component_of p n < length left_out → ¬ IsTrue (is_marked marks n)
+    pub AreLeftOut-step : component_of p n < length left_out → ¬ IsTrue (is_marked marks n)
         → ¬ ComesAfter (sequence_key_of e) (key_for p left_out n)
         → AreLeftOut m p marks (n + 1)
         (set left_out (component_of p n) (Some (sequence_key_of e)))
-    left_out_step in' unmarked none = record {
+    AreLeftOut-step in' unmarked none = record {
       whole = length-set left_out own (Some (sequence_key_of e)) ∙ old.whole;
       from = λ k t h. elim (cases k) [
         | inl here ↦
@@ -78,7 +79,8 @@ module _ (m : List Instance) (p : ComponentParts) (marks : List Bool) (n : ℕ)
                     ap (λ c. get_or left_out c None) (sym here.0) ∙ was.1 in
                     let not_after : ¬ (is_lt (sequence_key_cmp was.0 (sequence_key_of e)) ≡ true)
                     = λ after. none (subst (ComesAfter (sequence_key_of e)) (sym own_is) after) in
-                    was.2 (before_later (sequence_key_of f) (sequence_key_of e) was.0 lower
+                    was.2 (sequence_key_cmp-before_later (sequence_key_of f) (sequence_key_of e)
+                    was.0 lower
                     not_after),
               )
               | inr there ↦ (was.0, there.1 ∙ was.1, was.2)
@@ -89,7 +91,7 @@ module _ (m : List Instance) (p : ComponentParts) (marks : List Bool) (n : ℕ)
               | inl here ↦ (
                 sequence_key_of e,
                 here.1,
-                λ lower. below_irrefl sequence_key_cmp_total (sequence_key_of e)
+                λ lower. is_lt-irrefl sequence_key_cmp-total (sequence_key_of e)
                     (subst (λ f. is_lt (sequence_key_cmp (sequence_key_of f) (sequence_key_of e))
                     ≡ true) (same_instance j f same at_f) lower),
               )
@@ -106,4 +108,4 @@ module _ (m : List Instance) (p : ComponentParts) (marks : List Bool) (n : ℕ)
           ≡ Some (sequence_key_of e)))
           ⊎ ((component_of p k ≢ own)
           × (key_for p (set left_out own (Some (sequence_key_of e))) k ≡ key_for p left_out k))
-      cases = value_after_set None p left_out n (Some (sequence_key_of e)) in'
+      cases = get_or-set_component None p left_out n (Some (sequence_key_of e)) in'

@@ -9,15 +9,17 @@ use Rattle.epx_types.proofs.Common.{IsLawfulPrefix, Reaches, IsReady, IsRising-s
 use Rattle.epx_types.proofs.Common.{IsReady-reached, Contains-slice_get}
 use Rattle.epx_types.specs.declared.id.Id.{Id}
 use Rattle.epx_graph.proofs.Common.{DependencyGraph, edges_of, IsGraphOf, NodeReaches}
-use Rattle.epx_graph.proofs.Common.{reached_within, committed_count, node_committed, node_instance}
-use Rattle.epx_graph.proofs.Common.{node_of_committed, node_reaches}
+use Rattle.epx_graph.proofs.Common.{IsNodePath-within, committed-count, IsCommitted-iff_node}
+use Rattle.epx_graph.proofs.Common.{slice_get-instance}
+use Rattle.epx_graph.proofs.Common.{slice_get-if_committed, NodeReaches-iff}
 use Rattle.epx_ranking.specs.inner.Ends.{AreEnds, AreRaised, IsEndBelow}
 use Rattle.epx_ranking.specs.inner.NodeLists.{AreListed, AreListedReady}
 use Rattle.epx_ranking.specs.PrefixFaults.{IsTooEarlyAt, IsAfterGapAt, BeginsInOrder}
 use Rattle.epx_ranking.specs.PrefixFaults.{IsOutOfSequenceAt, IsPrefixFault}
 use Rattle.epx_ranking.specs.OrderFaults.{IsOvertakenAt}
-use Rattle.epx_components.specs.Partitions.{ComponentParts, IsPartitionOf, component_of, number_for}
-use Rattle.epx_components.specs.ReadyMarks.{is_marked}
+use Rattle.epx_components.specs.between.Partitions.{ComponentParts, IsPartitionOf, component_of}
+use Rattle.epx_components.specs.between.Partitions.{number_for}
+use Rattle.epx_components.specs.between.ReadyMarks.{is_marked}
 use Rattle.epx_ranking.specs.inner.SequenceKeys.{IsNodeEarlyAt, IsNodeOvertakenAt, AreNodesInOrder}
 use Rattle.epx_ranking.specs.inner.SequenceKeys.{IsNodeAfterGapAt, IsNodeOutOfSequenceAt}
 use Rattle.epx_ranking.specs.inner.SequenceKeys.{IsNodeFault, AreLeftOut, ComesAfter, key_for}
@@ -26,11 +28,11 @@ use Rattle.epx_ranking.specs.declared.check.sequence_key.SequenceKey.{SequenceKe
 use Rattle.epx_ranking.specs.declared.order_fault.OrderFault.{OrderFault}
 use Rattle.epx_ranking.specs.declared.order_fault.OrderFault.TheVariants.{Memory, Stranger, Repeat}
 use Rattle.epx_ranking.specs.declared.order_fault.OrderFault.TheVariants.{Missing, Early, Sequence}
-use Rattle.epx_ranking.proofs.PrefixLemmas.{prefix_from_order}
-use Rattle.epx_ranking.proofs.ListedNodeLemmas.{listed_from_mark, mark_from_listed}
-use Rattle.epx_ranking.proofs.SequenceKeyLemmas.{least_before}
-use Rattle.epx_components.proofs.NodePathLemmas.{reach_falls, reaches_on}
-use Rattle.epx_components.proofs.ReadyRankLemmas.{node_of_place}
+use Rattle.epx_ranking.proofs.PrefixLemmas.{IsLawfulPrefix-from_order}
+use Rattle.epx_ranking.proofs.ListedNodeLemmas.{Contains-from_mark, is_marked-from_listed}
+use Rattle.epx_ranking.proofs.SequenceKeyLemmas.{sequence_key_cmp-least_before}
+use Rattle.epx_components.proofs.NodePathLemmas.{NodeReaches-falls, NodeReaches-trans}
+use Rattle.epx_components.proofs.ReadyRankLemmas.{slice_get-node}
 
 module _ (m : List Instance) (g : DependencyGraph) (is : IsGraphOf m g) (p : ComponentParts)
     (part : IsPartitionOf g p) (ids : List Id) (nodes : List ℕ) (marks : List Bool)
@@ -47,7 +49,7 @@ module _ (m : List Instance) (g : DependencyGraph) (is : IsGraphOf m g) (p : Com
   node_of i x at = listed.each i x (slice_get_within ids i x at) at
 
   committed : (i : ℕ) (x : Id) → slice_get ids i ≡ Some x → get_or nodes i 0 < g.committed
-  committed i x at = (node_committed m g is (get_or nodes i 0) x (node_of i x at)).1
+  committed i x at = (IsCommitted-iff_node m g is (get_or nodes i 0) x (node_of i x at)).1
       (ready_at i x at).committed
 
   node_in : (i : ℕ) (x : Id) → slice_get ids i ≡ Some x → get_or nodes i 0 < length p.component
@@ -61,24 +63,25 @@ module _ (m : List Instance) (g : DependencyGraph) (is : IsGraphOf m g) (p : Com
   reaches : (i j : ℕ) (x y : Id) → slice_get ids i ≡ Some x → slice_get ids j ≡ Some y
       → NodeReaches (edges_of g) (get_or nodes i 0) (get_or nodes j 0) → Reaches m x y
   reaches i j x y at to =
-      (node_reaches m g is (get_or nodes i 0) (get_or nodes j 0) x y (node_of i x at)
+      (NodeReaches-iff m g is (get_or nodes i 0) (get_or nodes j 0) x y (node_of i x at)
       (node_of j y to)).0
 
   reaches_back : (i j : ℕ) (x y : Id) → slice_get ids i ≡ Some x → slice_get ids j ≡ Some y
       → Reaches m x y → NodeReaches (edges_of g) (get_or nodes i 0) (get_or nodes j 0)
   reaches_back i j x y at to =
-      (node_reaches m g is (get_or nodes i 0) (get_or nodes j 0) x y (node_of i x at)
+      (NodeReaches-iff m g is (get_or nodes i 0) (get_or nodes j 0) x y (node_of i x at)
       (node_of j y to)).1
 
   falls : (k j : ℕ) → NodeReaches (edges_of g) k j → component_of p j ≤ component_of p k
-  falls k j there = reach_falls (edges_of g) p.component part.is.falls k j there
+  falls k j there = NodeReaches-falls (edges_of g) p.component part.is.falls k j there
 
   -- ---- early
 
   -- the node of an instance that is listed is marked
   unlisted : (k : ℕ) (x : Id) → slice_get g.ids k ≡ Some x → ¬ IsTrue (is_marked marks k)
       → ¬ Contains ids x
-  unlisted k x at unmarked h = unmarked (mark_from_listed m g is ids nodes marks listed k x at h)
+  unlisted k x at unmarked h =
+      unmarked (is_marked-from_listed m g is ids nodes marks listed k x at h)
 
   -- the place of an instance whose node is marked
   place_of_marked : (k : ℕ) (x : Id) → slice_get g.ids k ≡ Some x → IsTrue (is_marked marks k)
@@ -92,11 +95,11 @@ module _ (m : List Instance) (g : DependencyGraph) (is : IsGraphOf m g) (p : Com
 
   node_below : (k : ℕ) → k < length m → k < length p.component
   node_below k l =
-      omega (arith, l, committed_count m g is, part.each_node, is.graph.committed_nodes)
+      omega (arith, l, committed-count m g is, part.each_node, is.graph.committed_nodes)
 
   id_of : (k : ℕ) (e : Instance) → slice_get m k ≡ Some e → slice_get g.ids k ≡ Some e.id
-  id_of k e at = node_of_place m g is k e at
-      (omega (arith, slice_get_within m k e at, committed_count m g is))
+  id_of k e at = slice_get-node m g is k e at
+      (omega (arith, slice_get_within m k e at, committed-count m g is))
 
   module _ (left_out : List (Option SequenceKey))
       (left : AreLeftOut m p marks (length m) left_out) (ends raised below : List ℕ)
@@ -116,12 +119,12 @@ module _ (m : List Instance) (g : DependencyGraph) (is : IsGraphOf m g) (p : Com
           id = x;
           reached = y;
           here = at;
-          reaches = (node_reaches m g is k q x y (node_of i x at) at_q).0
-              (reaches_on (edges_of g) k j q there on);
+          reaches = (NodeReaches-iff m g is k q x y (node_of i x at) at_q).0
+              (NodeReaches-trans (edges_of g) k j q there on);
           outside = λ back. apart
               (omega (
                 arith,
-                falls q k ((node_reaches m g is q k y x at_q (node_of i x at)).1 back),
+                falls q k ((NodeReaches-iff m g is q k y x at_q (node_of i x at)).1 back),
                 falls k j there,
                 same,
               ));
@@ -159,9 +162,9 @@ module _ (m : List Instance) (g : DependencyGraph) (is : IsGraphOf m g) (p : Com
         (λ earlier lower found. unlisted out.0 out.1.id at_q out.3
         (Contains-slice_get ids earlier out.1.id found))
 
-    pub early_from_node : (i : ℕ) → i < length nodes → IsNodeEarlyAt p below nodes i
+    pub IsTooEarlyAt-from_node : (i : ℕ) → i < length nodes → IsNodeEarlyAt p below nodes i
         → IsTooEarlyAt m ids i
-    early_from_node i l ahead =
+    IsTooEarlyAt-from_node i l ahead =
         let x = id_at i l in
         let k = get_or nodes i 0 in
         let k_in = slice_get_within g.ids k x.0 (node_of i x.0 x.1) in
@@ -172,7 +175,7 @@ module _ (m : List Instance) (g : DependencyGraph) (is : IsGraphOf m g) (p : Com
               (omega (
                 arith,
                 part.each_node,
-                reached_within g is.graph k there.0 j k_in there.1,
+                IsNodePath-within g is.graph k there.0 j k_in there.1,
               )) there apart (omega (arith, end, ahead)) (key_for p left_out j) refl
         ]
 
@@ -208,39 +211,39 @@ module _ (m : List Instance) (g : DependencyGraph) (is : IsGraphOf m g) (p : Com
               let same : None ≡ Some found.0 = sym out ∙ found.1 in absurd (cc same)
         ]
 
-    pub node_early_from : (i : ℕ) → IsTooEarlyAt m ids i → IsNodeEarlyAt p below nodes i
-    node_early_from i early =
+    pub IsNodeEarlyAt-from_ids : (i : ℕ) → IsTooEarlyAt m ids i → IsNodeEarlyAt p below nodes i
+    IsNodeEarlyAt-from_ids i early =
         let x = early.id in
         let y = early.reached in
         let at = early.here in
         let k = get_or nodes i 0 in
-        let n = node_of_committed m g is y
+        let n = slice_get-if_committed m g is y
         (IsReady-reached m x y early.reaches (ready_at i x at)).committed in
-        let e = node_instance m g is n.0 y n.2 n.1 in
+        let e = slice_get-instance m g is n.0 y n.2 n.1 in
         let n_in = node_below n.0 (slice_get_within m n.0 e.0 e.1) in
         let apart : component_of p n.0 ≢ component_of p k =
         λ same. early.outside
-        ((node_reaches m g is n.0 k y x n.2 (node_of i x at)).0
+        ((NodeReaches-iff m g is n.0 k y x n.2 (node_of i x at)).0
         (part.is.joined n.0 k n_in (node_in i x at) same)) in
         let k_in = slice_get_within g.ids k x (node_of i x at) in
         let under = (are_below k k_in).all n.0
-        ((node_reaches m g is k n.0 x y (node_of i x at) n.2).1 early.reaches) apart in
+        ((NodeReaches-iff m g is k n.0 x y (node_of i x at) n.2).1 early.reaches) apart in
         let after = end_after i y n.0 (slice_get_within ids i x at) n.2 e.0 e.1 early.not_before
         (key_for p left_out n.0) refl in
         omega (arith, under, after)
 
   -- ---- overtaken
 
-  pub overtaken_from_node : (i : ℕ) → i < length nodes → IsNodeOvertakenAt m p nodes i
+  pub IsOvertakenAt-from_node : (i : ℕ) → i < length nodes → IsNodeOvertakenAt m p nodes i
       → IsOvertakenAt m ids i
-  overtaken_from_node i l (j, earlier, same, (d, e, at_d, at_e, lower)) =
+  IsOvertakenAt-from_node i l (j, earlier, same, (d, e, at_d, at_e, lower)) =
       let x = id_at i l in
       let y = id_at j (omega (arith, l, earlier)) in
       let at_x : slice_get ids i ≡ Some d.id =
-      x.1 ∙ sym (node_of i x.0 x.1) ∙ node_of_place m g is (get_or nodes i 0) d at_d
+      x.1 ∙ sym (node_of i x.0 x.1) ∙ slice_get-node m g is (get_or nodes i 0) d at_d
       (committed i x.0 x.1) in
       let at_y : slice_get ids j ≡ Some e.id =
-      y.1 ∙ sym (node_of j y.0 y.1) ∙ node_of_place m g is (get_or nodes j 0) e at_e
+      y.1 ∙ sym (node_of j y.0 y.1) ∙ slice_get-node m g is (get_or nodes j 0) e at_e
       (committed j y.0 y.1) in
       let there = part.is.joined (get_or nodes i 0) (get_or nodes j 0) (node_in i x.0 x.1)
       (node_in j y.0 y.1) (sym same) in
@@ -272,12 +275,12 @@ module _ (m : List Instance) (g : DependencyGraph) (is : IsGraphOf m g) (p : Com
       → d.id ≡ x → slice_get m (get_or nodes i 0) ≡ Some d
   instance_at i x d at in_d same =
       let rising = subst IsRising is.committed is.graph.committed_rise in
-      let f = node_instance m g is (get_or nodes i 0) x (node_of i x at) (committed i x at) in
+      let f = slice_get-instance m g is (get_or nodes i 0) x (node_of i x at) (committed i x at) in
       f.1 ∙ ap Some (IsRising-same m rising f.0 d (Contains-slice_get m (get_or nodes i 0) f.0 f.1)
       in_d (f.2 ∙ sym same))
 
-  pub node_overtaken_from : (i : ℕ) → IsOvertakenAt m ids i → IsNodeOvertakenAt m p nodes i
-  node_overtaken_from i overtaken =
+  pub IsNodeOvertakenAt-from_ids : (i : ℕ) → IsOvertakenAt m ids i → IsNodeOvertakenAt m p nodes i
+  IsNodeOvertakenAt-from_ids i overtaken =
       let x = overtaken.id in
       let y = overtaken.follower in
       let at = overtaken.here in
@@ -314,70 +317,72 @@ module _ (m : List Instance) (g : DependencyGraph) (is : IsGraphOf m g) (p : Com
       → k < g.committed → Contains m d → d.id ≡ x → slice_get m k ≡ Some d
   instance_of_node k x d at l in_d same =
       let rising = subst IsRising is.committed is.graph.committed_rise in
-      let f = node_instance m g is k x at l in
+      let f = slice_get-instance m g is k x at l in
       f.1 ∙ ap Some (IsRising-same m rising f.0 d (Contains-slice_get m k f.0 f.1) in_d
       (f.2 ∙ sym same))
 
   module _ (left_out : List (Option SequenceKey))
       (left : AreLeftOut m p marks (length m) left_out) where
-    pub gap_from_node : (i : ℕ) → i < length nodes → IsNodeAfterGapAt m p left_out nodes i
+    pub IsAfterGapAt-from_node : (i : ℕ) → i < length nodes → IsNodeAfterGapAt m p left_out nodes i
         → IsAfterGapAt m ids i
-    gap_from_node i l (e, at_e, after) = by (key_for p left_out (get_or nodes i 0)) refl after where
-      by : (o : Option SequenceKey) → key_for p left_out (get_or nodes i 0) ≡ o
-          → ComesAfter (sequence_key_of e) o → IsAfterGapAt m ids i
-      by None none h = absurd h
-      by (Some t) found h =
-          let k = get_or nodes i 0 in
-          let out = left.from k t found in
-          let q = out.0 in
-          let d = out.1 in
-          let x = id_at i l in
-          let at_k = id_of k e at_e in
-          let at_q = id_of q d out.5 in
-          let at_x : slice_get ids i ≡ Some e.id = x.1 ∙ sym (node_of i x.0 x.1) ∙ at_k in
-          let k_in = node_in i x.0 x.1 in
-          let q_in = node_below q out.2 in record {
-            id = e.id;
-            left_out = d.id;
-            here = at_x;
-            one_component = (
-              (node_reaches m g is q k d.id e.id at_q at_k).0
-                  (part.is.joined q k q_in k_in out.4),
-              (node_reaches m g is k q e.id d.id at_k at_q).0
-                  (part.is.joined k q k_in q_in (sym out.4)),
-            );
-            by_sequence = record {
-              first = d;
-              second = e;
-              first_in = Contains-slice_get m q d out.5;
-              first_is = refl;
-              second_in = Contains-slice_get m k e at_e;
-              second_is = refl;
-              lower = subst (λ t. is_lt (sequence_key_cmp t (sequence_key_of e)) ≡ true)
-                  (sym out.6) h;
-            };
-            absent = unlisted q d.id at_q out.3;
-          }
+    IsAfterGapAt-from_node i l (e, at_e, after) =
+        by (key_for p left_out (get_or nodes i 0)) refl after where
+          by : (o : Option SequenceKey) → key_for p left_out (get_or nodes i 0) ≡ o
+              → ComesAfter (sequence_key_of e) o → IsAfterGapAt m ids i
+          by None none h = absurd h
+          by (Some t) found h =
+              let k = get_or nodes i 0 in
+              let out = left.from k t found in
+              let q = out.0 in
+              let d = out.1 in
+              let x = id_at i l in
+              let at_k = id_of k e at_e in
+              let at_q = id_of q d out.5 in
+              let at_x : slice_get ids i ≡ Some e.id = x.1 ∙ sym (node_of i x.0 x.1) ∙ at_k in
+              let k_in = node_in i x.0 x.1 in
+              let q_in = node_below q out.2 in record {
+                id = e.id;
+                left_out = d.id;
+                here = at_x;
+                one_component = (
+                  (NodeReaches-iff m g is q k d.id e.id at_q at_k).0
+                      (part.is.joined q k q_in k_in out.4),
+                  (NodeReaches-iff m g is k q e.id d.id at_k at_q).0
+                      (part.is.joined k q k_in q_in (sym out.4)),
+                );
+                by_sequence = record {
+                  first = d;
+                  second = e;
+                  first_in = Contains-slice_get m q d out.5;
+                  first_is = refl;
+                  second_in = Contains-slice_get m k e at_e;
+                  second_is = refl;
+                  lower = subst (λ t. is_lt (sequence_key_cmp t (sequence_key_of e)) ≡ true)
+                      (sym out.6) h;
+                };
+                absent = unlisted q d.id at_q out.3;
+              }
 
-    pub node_gap_from : (i : ℕ) → IsAfterGapAt m ids i → IsNodeAfterGapAt m p left_out nodes i
-    node_gap_from i gap =
+    pub IsNodeAfterGapAt-from_ids : (i : ℕ) → IsAfterGapAt m ids i
+        → IsNodeAfterGapAt m p left_out nodes i
+    IsNodeAfterGapAt-from_ids i gap =
         let x = gap.id in
         let y = gap.left_out in
         let at = gap.here in
         let by = gap.by_sequence in
         let k = get_or nodes i 0 in
-        let n = node_of_committed m g is y
+        let n = slice_get-if_committed m g is y
         (IsReady-reached m x y gap.one_component.1 (ready_at i x at)).committed in
         let at_n = instance_of_node n.0 y by.first n.2 n.1 by.first_in by.first_is in
         let at_k = instance_at i x by.second at by.second_in by.second_is in
         let found = left.under n.0 by.first (slice_get_within m n.0 by.first at_n)
-        (λ h. gap.absent (listed_from_mark m g is ids nodes marks listed n.0 y n.2 h)) at_n in
+        (λ h. gap.absent (Contains-from_mark m g is ids nodes marks listed n.0 y n.2 h)) at_n in
         let same : component_of p n.0 ≡ component_of p k =
         omega (
           arith,
-          falls n.0 k ((node_reaches m g is n.0 k y x n.2 (node_of i x at)).1
+          falls n.0 k ((NodeReaches-iff m g is n.0 k y x n.2 (node_of i x at)).1
               gap.one_component.0),
-          falls k n.0 ((node_reaches m g is k n.0 x y (node_of i x at) n.2).1
+          falls k n.0 ((NodeReaches-iff m g is k n.0 x y (node_of i x at) n.2).1
               gap.one_component.1),
         ) in
         let here : key_for p left_out k ≡ Some found.0 =
@@ -388,19 +393,20 @@ module _ (m : List Instance) (g : DependencyGraph) (is : IsGraphOf m g) (p : Com
           by.second,
           at_k,
           subst (ComesAfter (sequence_key_of by.second)) (sym here)
-              (least_before (sequence_key_of by.first) (sequence_key_of by.second) found.0 lower
+              (sequence_key_cmp-least_before (sequence_key_of by.first) (sequence_key_of by.second)
+              found.0 lower
               found.2),
         )
 
-    pub sequence_from_node : (i : ℕ) → i < length nodes
+    pub IsOutOfSequenceAt-from_node : (i : ℕ) → i < length nodes
         → IsNodeOutOfSequenceAt m p left_out nodes i → IsOutOfSequenceAt m ids i
-    sequence_from_node i l (inl overtaken) = inl (overtaken_from_node i l overtaken)
-    sequence_from_node i l (inr gap) = inr (gap_from_node i l gap)
+    IsOutOfSequenceAt-from_node i l (inl overtaken) = inl (IsOvertakenAt-from_node i l overtaken)
+    IsOutOfSequenceAt-from_node i l (inr gap) = inr (IsAfterGapAt-from_node i l gap)
 
-    pub node_sequence_from : (i : ℕ) → IsOutOfSequenceAt m ids i
+    pub IsNodeOutOfSequenceAt-from_ids : (i : ℕ) → IsOutOfSequenceAt m ids i
         → IsNodeOutOfSequenceAt m p left_out nodes i
-    node_sequence_from i (inl overtaken) = inl (node_overtaken_from i overtaken)
-    node_sequence_from i (inr gap) = inr (node_gap_from i gap)
+    IsNodeOutOfSequenceAt-from_ids i (inl overtaken) = inl (IsNodeOvertakenAt-from_ids i overtaken)
+    IsNodeOutOfSequenceAt-from_ids i (inr gap) = inr (IsNodeAfterGapAt-from_ids i gap)
 
   -- ---- all places
 
@@ -411,34 +417,36 @@ module _ (m : List Instance) (g : DependencyGraph) (is : IsGraphOf m g) (p : Com
       (are_below : (k : ℕ) → k < length g.ids
       → IsEndBelow (edges_of g) p raised k (number_for p below k)) where
     early_to : (i : ℕ) → i < length nodes → IsNodeEarlyAt p below nodes i → IsTooEarlyAt m ids i
-    early_to = early_from_node left_out left ends raised below are_ends are_raised are_below
+    early_to = IsTooEarlyAt-from_node left_out left ends raised below are_ends are_raised are_below
 
     early_back : (i : ℕ) → IsTooEarlyAt m ids i → IsNodeEarlyAt p below nodes i
-    early_back = node_early_from left_out left ends raised below are_ends are_raised are_below
+    early_back =
+        IsNodeEarlyAt-from_ids left_out left ends raised below are_ends are_raised are_below
 
-    pub order_from_nodes : (n : ℕ) → AreNodesInOrder m p left_out below nodes n
+    pub BeginsInOrder-from_nodes : (n : ℕ) → AreNodesInOrder m p left_out below nodes n
         → BeginsInOrder m ids n
-    order_from_nodes n none i l = (
+    BeginsInOrder-from_nodes n none i l = (
       λ early. (none i l).0 (early_back i early),
-      λ wrong. (none i l).1 (node_sequence_from left_out left i wrong),
+      λ wrong. (none i l).1 (IsNodeOutOfSequenceAt-from_ids left_out left i wrong),
     )
 
-    pub prefix_from_nodes : AreNodesInOrder m p left_out below nodes (length nodes)
+    pub IsLawfulPrefix-from_nodes : AreNodesInOrder m p left_out below nodes (length nodes)
         → IsLawfulPrefix m ids
-    prefix_from_nodes none = prefix_from_order m
+    IsLawfulPrefix-from_nodes none = IsLawfulPrefix-from_order m
         (subst IsRising is.committed is.graph.committed_rise) ids ready.once
-        (subst (BeginsInOrder m ids) listed.whole (order_from_nodes (length nodes) none))
+        (subst (BeginsInOrder m ids) listed.whole (BeginsInOrder-from_nodes (length nodes) none))
 
-    pub fault_from_place : (f : OrderFault) → IsNodeFault m p left_out below nodes f
+    pub IsPrefixFault-from_node : (f : OrderFault) → IsNodeFault m p left_out below nodes f
         → IsPrefixFault m ids f
-    fault_from_place Memory h = tt
-    fault_from_place (Stranger i) h = absurd h
-    fault_from_place (Repeat i) h = absurd h
-    fault_from_place (Missing x) h = absurd h
-    fault_from_place (Early i) h = (ready.once, early_to i h.0 h.1, order_from_nodes i h.2)
-    fault_from_place (Sequence i) h = (
+    IsPrefixFault-from_node Memory h = tt
+    IsPrefixFault-from_node (Stranger i) h = absurd h
+    IsPrefixFault-from_node (Repeat i) h = absurd h
+    IsPrefixFault-from_node (Missing x) h = absurd h
+    IsPrefixFault-from_node (Early i) h =
+        (ready.once, early_to i h.0 h.1, BeginsInOrder-from_nodes i h.2)
+    IsPrefixFault-from_node (Sequence i) h = (
       ready.once,
-      sequence_from_node left_out left i h.0 h.1,
+      IsOutOfSequenceAt-from_node left_out left i h.0 h.1,
       (λ early. h.2 (early_back i early)),
-      order_from_nodes i h.3,
+      BeginsInOrder-from_nodes i h.3,
     )

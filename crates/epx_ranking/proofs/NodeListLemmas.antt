@@ -5,18 +5,18 @@ use Rattle.epx_types.proofs.Common.{cases_eq, cases_lt, length_push, length-set,
 use Rattle.epx_types.proofs.Common.{get_or_append_left, get_or-set_same, get_or-set_other}
 use Rattle.epx_types.proofs.Common.{slice_get_within, slice_get-get_or, Instance, IsReady}
 use Rattle.epx_types.specs.declared.id.Id.{Id}
-use Rattle.epx_graph.proofs.Common.{DependencyGraph, IsGraph, node_is_unique}
+use Rattle.epx_graph.proofs.Common.{DependencyGraph, IsGraph, ids-is_unique}
 use Rattle.epx_ranking.specs.inner.NodeLists.{AreListed}
 use Rattle.epx_ranking.specs.OrderFaults.{ReadyOnce}
-use Rattle.epx_components.specs.ReadyMarks.{is_marked}
+use Rattle.epx_components.specs.between.ReadyMarks.{is_marked}
 
 module _ (g : DependencyGraph) (is : IsGraph g) (ids : List Id) (n : ℕ) (nodes : List ℕ)
     (marks : List Bool) (old : AreListed g ids n nodes marks) (x : Id)
     (at : slice_get ids n ≡ Some x) (k : ℕ) (to : slice_get g.ids k ≡ Some x) where
   -- its node is marked exactly if it is listed at an earlier position
-  pub earlier_from_mark : IsTrue (is_marked marks k)
+  pub slice_get-from_mark : IsTrue (is_marked marks k)
       → (i : ℕ) × (i < n) × (slice_get ids i ≡ Some x)
-  earlier_from_mark h =
+  slice_get-from_mark h =
       let i = (old.marked k).0 h in
       let l = slice_get_within ids n x at in
       let there = slice_get-get_or ids i.0 x (omega (arith, i.1)) in
@@ -25,12 +25,13 @@ module _ (g : DependencyGraph) (is : IsGraph g) (ids : List Id) (n : ℕ) (nodes
       sym to ∙ ap (slice_get g.ids) (sym i.2) ∙ node in
       (i.0, i.1, there ∙ sym same)
 
-  pub mark_from_earlier : (i : ℕ) → i < n → slice_get ids i ≡ Some x → IsTrue (is_marked marks k)
-  mark_from_earlier i l there =
-      (old.marked k).1 (i, l, node_is_unique g is (get_or nodes i 0) k x (old.each i x l there) to)
+  pub is_marked-from_earlier : (i : ℕ) → i < n → slice_get ids i ≡ Some x
+      → IsTrue (is_marked marks k)
+  is_marked-from_earlier i l there =
+      (old.marked k).1 (i, l, ids-is_unique g is (get_or nodes i 0) k x (old.each i x l there) to)
 
-  pub listed_step : AreListed g ids (n + 1) (nodes ++ k ∷ []) (set marks k true)
-  listed_step = record {
+  pub AreListed-step : AreListed g ids (n + 1) (nodes ++ k ∷ []) (set marks k true)
+  AreListed-step = record {
     whole = omega (arith, length_push nodes k, old.whole);
     each = λ i y l there. elim (cases_lt i n) [
       | inl past ↦ ap (slice_get g.ids) (kept i past) ∙ old.each i y past there
@@ -74,9 +75,9 @@ module _ (g : DependencyGraph) (is : IsGraph g) (ids : List Id) (n : ℕ) (nodes
       ]
     ]
 
-  pub ready_once_step : (m : List Instance) → IsReady m x → ¬ IsTrue (is_marked marks k)
+  pub ReadyOnce-step : (m : List Instance) → IsReady m x → ¬ IsTrue (is_marked marks k)
       → ReadyOnce m ids n → ReadyOnce m ids (n + 1)
-  ready_once_step m ready unmarked sound i y l there = elim (cases_lt i n) [
+  ReadyOnce-step m ready unmarked sound i y l there = elim (cases_lt i n) [
     | inl past ↦ sound i y past there
     | inr now ↦
         let same : i ≡ n = omega arith in
@@ -84,6 +85,6 @@ module _ (g : DependencyGraph) (is : IsGraph g) (ids : List Id) (n : ℕ) (nodes
         let is_x : x ≡ y = cc one in (
           subst (IsReady m) is_x ready,
           λ j before earlier.
-              unmarked (mark_from_earlier j (omega (arith, before)) (earlier ∙ sym one)),
+              unmarked (is_marked-from_earlier j (omega (arith, before)) (earlier ∙ sym one)),
         )
   ]

@@ -4,8 +4,9 @@ use Rattle.std.proofs.Common.{Option, Some, None, Contains, refl, sym, ap, ◌�
 use Rattle.std.proofs.Common.{is_lt, nat_cmp, arith}
 use Rattle.epx_types.proofs.Common.{ordering_then, cases_lt, cases_Bool, slice_get_within, IsRising}
 use Rattle.epx_types.proofs.Common.{id_cmp, ids_of, Instance, SequenceBefore, IsLawful, Reaches}
-use Rattle.epx_types.proofs.Common.{IsReady, InOneComponent, some_or_none, least_or_none}
-use Rattle.epx_types.proofs.Common.{ready_or_waits, both_cases, not_cases, Reaches-cases}
+use Rattle.epx_types.proofs.Common.{IsReady, InOneComponent, Contains-some_or_none}
+use Rattle.epx_types.proofs.Common.{IsLeastOf-or_none}
+use Rattle.epx_types.proofs.Common.{IsReady-or_waits, both-cases, negation-cases, Reaches-cases}
 use Rattle.epx_types.proofs.Common.{InOneComponent-cases, Id-cases, Contains-Id_cases}
 use Rattle.epx_types.specs.declared.id.Id.{Id}
 use Rattle.epx_ranking.specs.OrderFaults.{IsStrangerAt, IsRepeatAt, IsEarlyAt, IsOvertakenAt}
@@ -14,41 +15,41 @@ use Rattle.epx_ranking.specs.OrderFaults.{IsOrderFault}
 use Rattle.epx_ranking.specs.declared.order_fault.OrderFault.{OrderFault}
 use Rattle.epx_ranking.specs.declared.order_fault.OrderFault.TheVariants.{Memory, Stranger, Repeat}
 use Rattle.epx_ranking.specs.declared.order_fault.OrderFault.TheVariants.{Missing, Early, Sequence}
-use Rattle.epx_ranking.proofs.LawfulOrderLemmas.{lawful_from_order}
+use Rattle.epx_ranking.proofs.LawfulOrderLemmas.{IsLawful-from_order}
 
 -- ---- decidable facts
 
 abbrev pub Decided : Type 0 → Type 0
 Decided A = A ⊎ (¬ A)
 
-pub less_cases : (i j : ℕ) → Decided (i < j)
-less_cases i j = elim (cases_lt i j) [ inl l ↦ inl l | inr k ↦ inr (λ l. omega (arith, k, l)) ]
+pub Decided-less : (i j : ℕ) → Decided (i < j)
+Decided-less i j = elim (cases_lt i j) [ inl l ↦ inl l | inr k ↦ inr (λ l. omega (arith, k, l)) ]
 
 true_cases : (b : Bool) → Decided (b ≡ true)
 true_cases b = elim (cases_Bool b) [ inl t ↦ inl t | inr f ↦ inr (λ t. cc (t, f)) ]
 
-pub either_cases : {A B : Type 0} → Decided A → Decided B → Decided (A ⊎ B)
-either_cases (inl a) b = inl (inl a)
-either_cases (inr no_a) (inl b) = inl (inr b)
-either_cases (inr no_a) (inr no_b) = inr (λ h. elim h [ inl a ↦ no_a a | inr b ↦ no_b b ])
+pub Decided-either : {A B : Type 0} → Decided A → Decided B → Decided (A ⊎ B)
+Decided-either (inl a) b = inl (inl a)
+Decided-either (inr no_a) (inl b) = inl (inr b)
+Decided-either (inr no_a) (inr no_b) = inr (λ h. elim h [ inl a ↦ no_a a | inr b ↦ no_b b ])
 
-pub decided_as : {A B : Type 0} → Decided A → (A → B) → (B → A) → Decided B
-decided_as (inl a) there back = inl (there a)
-decided_as (inr none) there back = inr (λ b. none (back b))
+pub Decided-equivalent : {A B : Type 0} → Decided A → (A → B) → (B → A) → Decided B
+Decided-equivalent (inl a) there back = inl (there a)
+Decided-equivalent (inr none) there back = inr (λ b. none (back b))
 
-pub element_cases : {X : Type 0} (P : X → Type 0) → ((x : X) → Decided (P x)) → (xs : List X)
+pub Decided-element : {X : Type 0} (P : X → Type 0) → ((x : X) → Decided (P x)) → (xs : List X)
     → Decided ((x : X) × Contains xs x × P x)
-element_cases P decide xs = elim (some_or_none P decide xs)
+Decided-element P decide xs = elim (Contains-some_or_none P decide xs)
     [ inl found ↦ inl found | inr none ↦ inr (λ h. none h.0 h.1 h.2) ]
 
 -- the least number below n that has the fact, or none has it
 abbrev pub LeastOrNone : (ℕ → Type 0) → ℕ → Type 0
 LeastOrNone P n = ((k : ℕ) × (k < n) × P k × ((j : ℕ) → j < k → ¬ P j)) ⊎ ((j : ℕ) → j < n → ¬ P j)
 
-pub least_place : (P : ℕ → Type 0) → ((k : ℕ) → Decided (P k)) → (n : ℕ) → LeastOrNone P n
-least_place P decide zero = inr (λ j l. absurd (omega (arith, l)))
-least_place P decide (suc n) =
-    elim (least_place P decide n) [
+pub LeastOrNone-holds : (P : ℕ → Type 0) → ((k : ℕ) → Decided (P k)) → (n : ℕ) → LeastOrNone P n
+LeastOrNone-holds P decide zero = inr (λ j l. absurd (omega (arith, l)))
+LeastOrNone-holds P decide (suc n) =
+    elim (LeastOrNone-holds P decide n) [
       | inl least ↦ inl (least.0, omega (arith, least.1), least.2, least.3)
       | inr none ↦ elim (decide n) [
         | inl here ↦ inl (n, omega arith, here, none)
@@ -65,28 +66,30 @@ module _ (ids : List Id) where
   abbrev pub HasAt : (Id → Type 0) → ℕ → Type 0
   HasAt P k = (x : Id) × (slice_get ids k ≡ Some x) × P x
 
-  pub at_cases : (P : Id → Type 0) → ((x : Id) → Decided (P x)) → (k : ℕ) → Decided (HasAt P k)
-  at_cases P decide k = by (slice_get ids k) refl where
+  pub Decided-has_at : (P : Id → Type 0) → ((x : Id) → Decided (P x)) → (k : ℕ)
+      → Decided (HasAt P k)
+  Decided-has_at P decide k = by (slice_get ids k) refl where
     by : (o : Option Id) → slice_get ids k ≡ o → Decided (HasAt P k)
     by None e = inr (λ h. let at = h.1 in cc (e, at))
-    by (Some x) e = decided_as (decide x) (λ p. (x, e, p))
+    by (Some x) e = Decided-equivalent (decide x) (λ p. (x, e, p))
         (λ h. let at = h.1 in let same : h.0 ≡ x = cc (e, at) in subst P same h.2)
 
   -- so does the Id at some place for which R holds
-  pub place_cases : (R : ℕ → Type 0) (P : Id → Type 0) → ((k : ℕ) → Decided (R k))
+  pub Decided-place : (R : ℕ → Type 0) (P : Id → Type 0) → ((k : ℕ) → Decided (R k))
       → ((x : Id) → Decided (P x)) → Decided ((k : ℕ) × R k × HasAt P k)
-  place_cases R P among decide =
-      elim (least_place (λ k. R k × HasAt P k) (λ k. both_cases (among k) (at_cases P decide k))
+  Decided-place R P among decide =
+      elim (LeastOrNone-holds (λ k. R k × HasAt P k)
+      (λ k. both-cases (among k) (Decided-has_at P decide k))
       (length ids)) [
         | inl found ↦ inl (found.0, found.2.0, found.2.1)
         | inr none ↦ inr (λ h. none h.0 (slice_get_within ids h.0 h.2.0 h.2.1) (h.1, h.2))
       ]
 
 module _ (m : List Instance) (ids : List Id) where
-  pub ready_cases : (x : Id) → Decided (IsReady m x)
-  ready_cases x =
+  pub Decided-ready : (x : Id) → Decided (IsReady m x)
+  Decided-ready x =
       elim (Contains-Id_cases (ids_of m) x) [
-        | inl committed ↦ elim (ready_or_waits m x committed) [
+        | inl committed ↦ elim (IsReady-or_waits m x committed) [
           | inl ready ↦ inl ready
           | inr waits ↦ inr (λ ready. waits.1.missing (ready.complete waits.0 waits.1.reached))
         ]
@@ -97,13 +100,13 @@ module _ (m : List Instance) (ids : List Id) where
   abbrev Follows : Id → Id → Instance → Instance → Type 0
   Follows x y d e = (e.id ≡ y) × (is_lt (ordering_then (nat_cmp d.seq e.seq) (id_cmp x y)) ≡ true)
 
-  pub sequence_cases : (x y : Id) → Decided (SequenceBefore m x y)
-  sequence_cases x y =
-      decided_as
-      (element_cases (λ (d : Instance). (d.id ≡ x)
+  pub Decided-sequence : (x y : Id) → Decided (SequenceBefore m x y)
+  Decided-sequence x y =
+      Decided-equivalent
+      (Decided-element (λ (d : Instance). (d.id ≡ x)
       × ((e : Instance) × Contains m e × Follows x y d e))
-      (λ d. both_cases (Id-cases d.id x)
-      (element_cases (Follows x y d) (λ e. both_cases (Id-cases e.id y) (true_cases _)) m)) m)
+      (λ d. both-cases (Id-cases d.id x)
+      (Decided-element (Follows x y d) (λ e. both-cases (Id-cases e.id y) (true_cases _)) m)) m)
       (λ h. record {
         first = h.0;
         second = h.2.1.0;
@@ -117,15 +120,17 @@ module _ (m : List Instance) (ids : List Id) where
 
   stranger_cases : (k : ℕ) → Decided (IsStrangerAt m ids k)
   stranger_cases k =
-      decided_as (at_cases ids (λ x. ¬ IsReady m x) (λ x. not_cases (ready_cases x)) k)
+      Decided-equivalent
+      (Decided-has_at ids (λ x. ¬ IsReady m x) (λ x. negation-cases (Decided-ready x)) k)
       (λ h. record { id = h.0; here = h.1; waits = h.2 })
       (λ h. (h.id, h.here, h.waits))
 
   repeat_cases : (k : ℕ) → Decided (IsRepeatAt m ids k)
   repeat_cases k =
-      decided_as (at_cases ids (λ x. IsReady m x × ((i : ℕ) × (i < k) × HasAt ids (λ y. x ≡ y) i))
-      (λ x. both_cases (ready_cases x)
-      (place_cases ids (λ i. i < k) (λ y. x ≡ y) (λ i. less_cases i k) (Id-cases x))) k)
+      Decided-equivalent
+      (Decided-has_at ids (λ x. IsReady m x × ((i : ℕ) × (i < k) × HasAt ids (λ y. x ≡ y) i))
+      (λ x. both-cases (Decided-ready x)
+      (Decided-place ids (λ i. i < k) (λ y. x ≡ y) (λ i. Decided-less i k) (Id-cases x))) k)
       (λ h. record {
         id = h.0;
         here = h.1;
@@ -138,11 +143,11 @@ module _ (m : List Instance) (ids : List Id) where
 
   early_cases : (k : ℕ) → Decided (IsEarlyAt m ids k)
   early_cases k =
-      decided_as
-      (at_cases ids (λ x. (j : ℕ) × (k < j)
+      Decided-equivalent
+      (Decided-has_at ids (λ x. (j : ℕ) × (k < j)
       × HasAt ids (λ y. Reaches m x y × ¬ Reaches m y x) j)
-      (λ x. place_cases ids (λ j. k < j) (λ y. Reaches m x y × ¬ Reaches m y x) (less_cases k)
-      (λ y. both_cases (Reaches-cases m x y) (not_cases (Reaches-cases m y x)))) k)
+      (λ x. Decided-place ids (λ j. k < j) (λ y. Reaches m x y × ¬ Reaches m y x) (Decided-less k)
+      (λ y. both-cases (Reaches-cases m x y) (negation-cases (Reaches-cases m y x)))) k)
       (λ h. record {
         id = h.0;
         reached = h.2.2.0;
@@ -155,14 +160,14 @@ module _ (m : List Instance) (ids : List Id) where
       })
       (λ h. (h.id, h.here, (h.later, h.is_later, (h.reached, h.there, (h.reaches, h.outside)))))
 
-  pub overtaken_cases : (k : ℕ) → Decided (IsOvertakenAt m ids k)
-  overtaken_cases k =
-      decided_as
-      (at_cases ids (λ x. (j : ℕ) × (j < k)
+  pub Decided-overtaken : (k : ℕ) → Decided (IsOvertakenAt m ids k)
+  Decided-overtaken k =
+      Decided-equivalent
+      (Decided-has_at ids (λ x. (j : ℕ) × (j < k)
       × HasAt ids (λ y. InOneComponent m x y × SequenceBefore m x y) j)
-      (λ x. place_cases ids (λ j. j < k) (λ y. InOneComponent m x y × SequenceBefore m x y)
-      (λ j. less_cases j k)
-      (λ y. both_cases (InOneComponent-cases m x y) (sequence_cases x y))) k)
+      (λ x. Decided-place ids (λ j. j < k) (λ y. InOneComponent m x y × SequenceBefore m x y)
+      (λ j. Decided-less j k)
+      (λ y. both-cases (InOneComponent-cases m x y) (Decided-sequence x y))) k)
       (λ h. record {
         id = h.0;
         follower = h.2.2.0;
@@ -187,7 +192,7 @@ module _ (m : List Instance) (ids : List Id) where
   once_below : (n : ℕ) → ((k : ℕ) → k < n → ¬ (IsStrangerAt m ids k ⊎ IsRepeatAt m ids k))
       → ReadyOnce m ids n
   once_below n none i x l at =
-      elim (ready_cases x) [
+      elim (Decided-ready x) [
         | inl ready ↦ (
           ready,
           λ j lower there. none i l
@@ -205,8 +210,8 @@ module _ (m : List Instance) (ids : List Id) where
 
   missing_or_whole : ReadyOnce m ids (length ids) → HasFault ⊎ HasAllReady m ids
   missing_or_whole once =
-      elim (least_or_none (λ x. IsReady m x × ¬ Contains ids x)
-      (λ x. both_cases (ready_cases x) (not_cases (Contains-Id_cases ids x))) (ids_of m)) [
+      elim (IsLeastOf-or_none (λ x. IsReady m x × ¬ Contains ids x)
+      (λ x. both-cases (Decided-ready x) (negation-cases (Contains-Id_cases ids x))) (ids_of m)) [
         | inl least ↦ inl (
           Missing least.0,
           (λ same. cc same),
@@ -224,8 +229,8 @@ module _ (m : List Instance) (ids : List Id) where
 
   fault_or_order : IsListOfReady m ids → HasFault ⊎ InOrder m ids (length ids)
   fault_or_order listed =
-      elim (least_place (λ k. IsEarlyAt m ids k ⊎ IsOvertakenAt m ids k)
-      (λ k. either_cases (early_cases k) (overtaken_cases k)) (length ids)) [
+      elim (LeastOrNone-holds (λ k. IsEarlyAt m ids k ⊎ IsOvertakenAt m ids k)
+      (λ k. Decided-either (early_cases k) (Decided-overtaken k)) (length ids)) [
         | inl least ↦
             let before : InOrder m ids least.0 =
             λ i l. (
@@ -251,31 +256,31 @@ module _ (m : List Instance) (ids : List Id) where
   abbrev pub HasWrongPlace : Type 0
   HasWrongPlace = (k : ℕ) × (IsStrangerAt m ids k ⊎ IsRepeatAt m ids k) × ReadyOnce m ids k
 
-  pub wrong_or_once : HasWrongPlace ⊎ ReadyOnce m ids (length ids)
-  wrong_or_once =
-      elim (least_place (λ k. IsStrangerAt m ids k ⊎ IsRepeatAt m ids k)
-      (λ k. either_cases (stranger_cases k) (repeat_cases k)) (length ids)) [
+  pub HasWrongPlace-or_once : HasWrongPlace ⊎ ReadyOnce m ids (length ids)
+  HasWrongPlace-or_once =
+      elim (LeastOrNone-holds (λ k. IsStrangerAt m ids k ⊎ IsRepeatAt m ids k)
+      (λ k. Decided-either (stranger_cases k) (repeat_cases k)) (length ids)) [
         | inl least ↦ inl (least.0, least.2, once_below least.0 least.3)
         | inr none ↦ inr (once_below (length ids) none)
       ]
 
   fault_or_once : HasFault ⊎ ReadyOnce m ids (length ids)
   fault_or_once =
-      elim wrong_or_once [
+      elim HasWrongPlace-or_once [
         | inl (k, inl stranger, once) ↦ inl (Stranger k, (λ same. cc same), (stranger, once))
         | inl (k, inr again, once) ↦ inl (Repeat k, (λ same. cc same), (again, once))
         | inr once ↦ inr once
       ]
 
-  pub lawful_or_fault : IsRising (ids_of m) → IsLawful m ids ⊎ HasFault
-  lawful_or_fault rising =
+  pub IsLawful-or_fault : IsRising (ids_of m) → IsLawful m ids ⊎ HasFault
+  IsLawful-or_fault rising =
       elim fault_or_once [
         | inl fault ↦ inr fault
         | inr once ↦ elim (missing_or_whole once) [
           | inl fault ↦ inr fault
           | inr whole ↦ elim (fault_or_order (once, whole)) [
             | inl fault ↦ inr fault
-            | inr order ↦ inl (lawful_from_order m rising ids (once, whole) order)
+            | inr order ↦ inl (IsLawful-from_order m rising ids (once, whole) order)
           ]
         ]
       ]

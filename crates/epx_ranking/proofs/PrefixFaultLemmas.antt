@@ -3,7 +3,7 @@ use Rattle.std.proofs.Common.{◌≡◌, ◌≢◌, ◌⊎◌, inl, inr, ℕ, �
 use Rattle.std.proofs.Common.{sym, ap, ◌∙◌, subst, arith}
 use Rattle.epx_types.proofs.Common.{cases_lt, slice_get_within, IsRising, ids_of, InOneComponent}
 use Rattle.epx_types.proofs.Common.{Instance, IsLawfulPrefix, SequenceBefore, Reaches}
-use Rattle.epx_types.proofs.Common.{IsCommitted-from_Contains, not_cases, Reaches-cases}
+use Rattle.epx_types.proofs.Common.{IsCommitted-from_Contains, negation-cases, Reaches-cases}
 use Rattle.epx_types.proofs.Common.{InOneComponent-cases, IsReady-reached, Id-cases}
 use Rattle.epx_types.proofs.Common.{Contains-Id_cases}
 use Rattle.epx_types.specs.declared.id.Id.{Id}
@@ -13,12 +13,15 @@ use Rattle.epx_ranking.specs.OrderFaults.{IsStrangerAt, ReadyOnce}
 use Rattle.epx_ranking.specs.declared.order_fault.OrderFault.{OrderFault}
 use Rattle.epx_ranking.specs.declared.order_fault.OrderFault.TheVariants.{Memory, Stranger, Repeat}
 use Rattle.epx_ranking.specs.declared.order_fault.OrderFault.TheVariants.{Missing, Early, Sequence}
-use Rattle.epx_ranking.proofs.PrefixLemmas.{prefix_from_order}
-use Rattle.epx_ranking.proofs.OrderFaultLemmas.{Decided, HasAt, less_cases, either_cases}
-use Rattle.epx_ranking.proofs.OrderFaultLemmas.{decided_as}
-use Rattle.epx_ranking.proofs.OrderFaultLemmas.{element_cases, least_place, at_cases, place_cases}
-use Rattle.epx_ranking.proofs.OrderFaultLemmas.{sequence_cases, overtaken_cases, wrong_or_once}
-use Rattle.epx_ranking.proofs.UniqueFaultLemmas.{one_place, not_whole, not_both}
+use Rattle.epx_ranking.proofs.PrefixLemmas.{IsLawfulPrefix-from_order}
+use Rattle.epx_ranking.proofs.OrderFaultLemmas.{Decided, HasAt, Decided-less, Decided-either}
+use Rattle.epx_ranking.proofs.OrderFaultLemmas.{Decided-equivalent}
+use Rattle.epx_ranking.proofs.OrderFaultLemmas.{Decided-element, LeastOrNone-holds, Decided-has_at}
+use Rattle.epx_ranking.proofs.OrderFaultLemmas.{Decided-place}
+use Rattle.epx_ranking.proofs.OrderFaultLemmas.{Decided-sequence, Decided-overtaken}
+use Rattle.epx_ranking.proofs.OrderFaultLemmas.{HasWrongPlace-or_once}
+use Rattle.epx_ranking.proofs.UniqueFaultLemmas.{IsStrangerOrRepeatAt-is_unique}
+use Rattle.epx_ranking.proofs.UniqueFaultLemmas.{ReadyOnce-no_wrong_place, IsRepeatAt-not_stranger}
 
 -- ---- one fault
 
@@ -41,45 +44,53 @@ module _ (m : List Instance) (ids : List Id) where
     ]
   ]
 
-  pub fault_is_unique : (f g : OrderFault) → f ≢ Memory → g ≢ Memory → IsPrefixFault m ids f
+  pub IsPrefixFault-is_unique : (f g : OrderFault) → f ≢ Memory → g ≢ Memory → IsPrefixFault m ids f
       → IsPrefixFault m ids g → f ≡ g
-  fault_is_unique Memory g nf ng a b = absurd (nf refl)
-  fault_is_unique (Missing x) g nf ng a b = absurd a
-  fault_is_unique (Stranger i) Memory nf ng a b = absurd (ng refl)
-  fault_is_unique (Stranger i) (Stranger j) nf ng a b =
-      ap Stranger (one_place m ids i j (inl a.0) a.1 (inl b.0) b.1)
-  fault_is_unique (Stranger i) (Repeat j) nf ng a b =
-      absurd (not_both m ids j (subst (IsStrangerAt m ids)
-      (one_place m ids i j (inl a.0) a.1 (inr b.0) b.1) a.0) b.0)
-  fault_is_unique (Stranger i) (Missing y) nf ng a b = absurd b
-  fault_is_unique (Stranger i) (Early j) nf ng a b = absurd (not_whole m ids i (inl a.0) b.0)
-  fault_is_unique (Stranger i) (Sequence j) nf ng a b = absurd (not_whole m ids i (inl a.0) b.0)
-  fault_is_unique (Repeat i) Memory nf ng a b = absurd (ng refl)
-  fault_is_unique (Repeat i) (Stranger j) nf ng a b =
-      absurd (not_both m ids i (subst (IsStrangerAt m ids)
-      (one_place m ids j i (inl b.0) b.1 (inr a.0) a.1) b.0) a.0)
-  fault_is_unique (Repeat i) (Repeat j) nf ng a b =
-      ap Repeat (one_place m ids i j (inr a.0) a.1 (inr b.0) b.1)
-  fault_is_unique (Repeat i) (Missing y) nf ng a b = absurd b
-  fault_is_unique (Repeat i) (Early j) nf ng a b = absurd (not_whole m ids i (inr a.0) b.0)
-  fault_is_unique (Repeat i) (Sequence j) nf ng a b = absurd (not_whole m ids i (inr a.0) b.0)
-  fault_is_unique (Early i) Memory nf ng a b = absurd (ng refl)
-  fault_is_unique (Early i) (Stranger j) nf ng a b = absurd (not_whole m ids j (inl b.0) a.0)
-  fault_is_unique (Early i) (Repeat j) nf ng a b = absurd (not_whole m ids j (inr b.0) a.0)
-  fault_is_unique (Early i) (Missing y) nf ng a b = absurd b
-  fault_is_unique (Early i) (Early j) nf ng a b =
+  IsPrefixFault-is_unique Memory g nf ng a b = absurd (nf refl)
+  IsPrefixFault-is_unique (Missing x) g nf ng a b = absurd a
+  IsPrefixFault-is_unique (Stranger i) Memory nf ng a b = absurd (ng refl)
+  IsPrefixFault-is_unique (Stranger i) (Stranger j) nf ng a b =
+      ap Stranger (IsStrangerOrRepeatAt-is_unique m ids i j (inl a.0) a.1 (inl b.0) b.1)
+  IsPrefixFault-is_unique (Stranger i) (Repeat j) nf ng a b =
+      absurd (IsRepeatAt-not_stranger m ids j (subst (IsStrangerAt m ids)
+      (IsStrangerOrRepeatAt-is_unique m ids i j (inl a.0) a.1 (inr b.0) b.1) a.0) b.0)
+  IsPrefixFault-is_unique (Stranger i) (Missing y) nf ng a b = absurd b
+  IsPrefixFault-is_unique (Stranger i) (Early j) nf ng a b =
+      absurd (ReadyOnce-no_wrong_place m ids i (inl a.0) b.0)
+  IsPrefixFault-is_unique (Stranger i) (Sequence j) nf ng a b =
+      absurd (ReadyOnce-no_wrong_place m ids i (inl a.0) b.0)
+  IsPrefixFault-is_unique (Repeat i) Memory nf ng a b = absurd (ng refl)
+  IsPrefixFault-is_unique (Repeat i) (Stranger j) nf ng a b =
+      absurd (IsRepeatAt-not_stranger m ids i (subst (IsStrangerAt m ids)
+      (IsStrangerOrRepeatAt-is_unique m ids j i (inl b.0) b.1 (inr a.0) a.1) b.0) a.0)
+  IsPrefixFault-is_unique (Repeat i) (Repeat j) nf ng a b =
+      ap Repeat (IsStrangerOrRepeatAt-is_unique m ids i j (inr a.0) a.1 (inr b.0) b.1)
+  IsPrefixFault-is_unique (Repeat i) (Missing y) nf ng a b = absurd b
+  IsPrefixFault-is_unique (Repeat i) (Early j) nf ng a b =
+      absurd (ReadyOnce-no_wrong_place m ids i (inr a.0) b.0)
+  IsPrefixFault-is_unique (Repeat i) (Sequence j) nf ng a b =
+      absurd (ReadyOnce-no_wrong_place m ids i (inr a.0) b.0)
+  IsPrefixFault-is_unique (Early i) Memory nf ng a b = absurd (ng refl)
+  IsPrefixFault-is_unique (Early i) (Stranger j) nf ng a b =
+      absurd (ReadyOnce-no_wrong_place m ids j (inl b.0) a.0)
+  IsPrefixFault-is_unique (Early i) (Repeat j) nf ng a b =
+      absurd (ReadyOnce-no_wrong_place m ids j (inr b.0) a.0)
+  IsPrefixFault-is_unique (Early i) (Missing y) nf ng a b = absurd b
+  IsPrefixFault-is_unique (Early i) (Early j) nf ng a b =
       ap Early (one_wrong_place i j (inl a.1) a.2 (inl b.1) b.2)
-  fault_is_unique (Early i) (Sequence j) nf ng a b =
+  IsPrefixFault-is_unique (Early i) (Sequence j) nf ng a b =
       absurd (b.2 (subst (IsTooEarlyAt m ids)
       (one_wrong_place i j (inl a.1) a.2 (inr b.1) b.3) a.1))
-  fault_is_unique (Sequence i) Memory nf ng a b = absurd (ng refl)
-  fault_is_unique (Sequence i) (Stranger j) nf ng a b = absurd (not_whole m ids j (inl b.0) a.0)
-  fault_is_unique (Sequence i) (Repeat j) nf ng a b = absurd (not_whole m ids j (inr b.0) a.0)
-  fault_is_unique (Sequence i) (Missing y) nf ng a b = absurd b
-  fault_is_unique (Sequence i) (Early j) nf ng a b =
+  IsPrefixFault-is_unique (Sequence i) Memory nf ng a b = absurd (ng refl)
+  IsPrefixFault-is_unique (Sequence i) (Stranger j) nf ng a b =
+      absurd (ReadyOnce-no_wrong_place m ids j (inl b.0) a.0)
+  IsPrefixFault-is_unique (Sequence i) (Repeat j) nf ng a b =
+      absurd (ReadyOnce-no_wrong_place m ids j (inr b.0) a.0)
+  IsPrefixFault-is_unique (Sequence i) (Missing y) nf ng a b = absurd b
+  IsPrefixFault-is_unique (Sequence i) (Early j) nf ng a b =
       absurd (a.2 (subst (IsTooEarlyAt m ids)
       (one_wrong_place j i (inl b.1) b.2 (inr a.1) a.3) b.1))
-  fault_is_unique (Sequence i) (Sequence j) nf ng a b =
+  IsPrefixFault-is_unique (Sequence i) (Sequence j) nf ng a b =
       ap Sequence (one_wrong_place i j (inr a.1) a.3 (inr b.1) b.3)
 
 -- ---- some fault, or none
@@ -100,11 +111,12 @@ module _ (m : List Instance) (ids : List Id) where
 
   too_early_cases : ReadyOnce m ids (length ids) → (k : ℕ) → Decided (IsTooEarlyAt m ids k)
   too_early_cases once k =
-      decided_as
-      (at_cases ids (λ x. (y : Id) × Contains (ids_of m) y × IsReachedLater k x y)
-      (λ x. element_cases (IsReachedLater k x)
-      (λ y. three_cases (Reaches-cases m x y) (not_cases (Reaches-cases m y x))
-      (not_cases (place_cases ids (λ j. j < k) (λ z. y ≡ z) (λ j. less_cases j k) (Id-cases y))))
+      Decided-equivalent
+      (Decided-has_at ids (λ x. (y : Id) × Contains (ids_of m) y × IsReachedLater k x y)
+      (λ x. Decided-element (IsReachedLater k x)
+      (λ y. three_cases (Reaches-cases m x y) (negation-cases (Reaches-cases m y x))
+      (negation-cases
+      (Decided-place ids (λ j. j < k) (λ z. y ≡ z) (λ j. Decided-less j k) (Id-cases y))))
       (ids_of m)) k)
       (λ h. record {
         id = h.0;
@@ -137,11 +149,11 @@ module _ (m : List Instance) (ids : List Id) where
 
   gap_cases : (k : ℕ) → Decided (IsAfterGapAt m ids k)
   gap_cases k =
-      decided_as
-      (at_cases ids (λ y. (x : Id) × Contains (ids_of m) x × IsGapBefore y x)
-      (λ y. element_cases (IsGapBefore y)
-      (λ x. three_cases (InOneComponent-cases m x y) (sequence_cases m ids x y)
-      (not_cases (Contains-Id_cases ids x))) (ids_of m)) k)
+      Decided-equivalent
+      (Decided-has_at ids (λ y. (x : Id) × Contains (ids_of m) x × IsGapBefore y x)
+      (λ y. Decided-element (IsGapBefore y)
+      (λ x. three_cases (InOneComponent-cases m x y) (Decided-sequence m ids x y)
+      (negation-cases (Contains-Id_cases ids x))) (ids_of m)) k)
       (λ h. record {
         id = h.0;
         left_out = h.2.0;
@@ -162,7 +174,7 @@ module _ (m : List Instance) (ids : List Id) where
       ))
 
   sequence_wrong_cases : (k : ℕ) → Decided (IsOutOfSequenceAt m ids k)
-  sequence_wrong_cases k = either_cases (overtaken_cases m ids k) (gap_cases k)
+  sequence_wrong_cases k = Decided-either (Decided-overtaken m ids k) (gap_cases k)
 
   abbrev pub HasPrefixFault : Type 0
   HasPrefixFault = (fault : OrderFault) × (fault ≢ Memory) × IsPrefixFault m ids fault
@@ -170,8 +182,8 @@ module _ (m : List Instance) (ids : List Id) where
   wrong_or_order : ReadyOnce m ids (length ids)
       → HasPrefixFault ⊎ BeginsInOrder m ids (length ids)
   wrong_or_order once =
-      elim (least_place (IsWrongAt m ids)
-      (λ k. either_cases (too_early_cases once k) (sequence_wrong_cases k)) (length ids)) [
+      elim (LeastOrNone-holds (IsWrongAt m ids)
+      (λ k. Decided-either (too_early_cases once k) (sequence_wrong_cases k)) (length ids)) [
         | inl least ↦
             let before : BeginsInOrder m ids least.0 =
             λ i l. (
@@ -193,13 +205,13 @@ module _ (m : List Instance) (ids : List Id) where
             (λ i l. ((λ early. none i l (inl early)), (λ wrong. none i l (inr wrong))))
       ]
 
-  pub prefix_or_fault : IsRising (ids_of m) → IsLawfulPrefix m ids ⊎ HasPrefixFault
-  prefix_or_fault rising =
-      elim (wrong_or_once m ids) [
+  pub IsLawfulPrefix-or_fault : IsRising (ids_of m) → IsLawfulPrefix m ids ⊎ HasPrefixFault
+  IsLawfulPrefix-or_fault rising =
+      elim (HasWrongPlace-or_once m ids) [
         | inl (k, inl stranger, once) ↦ inr (Stranger k, (λ same. cc same), (stranger, once))
         | inl (k, inr again, once) ↦ inr (Repeat k, (λ same. cc same), (again, once))
         | inr once ↦ elim (wrong_or_order once) [
           | inl fault ↦ inr fault
-          | inr order ↦ inl (prefix_from_order m rising ids once order)
+          | inr order ↦ inl (IsLawfulPrefix-from_order m rising ids once order)
         ]
       ]

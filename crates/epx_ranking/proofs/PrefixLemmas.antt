@@ -14,7 +14,8 @@ use Rattle.epx_types.proofs.Common.{slice_get-append_left, AllPairs-append, AllP
 use Rattle.epx_types.proofs.Common.{AllPairs-slice_get, Contains-slice_get, slice_get-from_Contains}
 use Rattle.epx_types.proofs.Common.{Contains-filter, Contains-from_filter, Contains-head}
 use Rattle.epx_types.proofs.Common.{IsExecutionOrder-IsLawful, Before-differ, Before-not_both}
-use Rattle.epx_types.proofs.Common.{same_position, not_in_part, passes_rest, execution_order_exists}
+use Rattle.epx_types.proofs.Common.{slice_get-is_unique, remaining_ids-apart, is_among-passes_rest}
+use Rattle.epx_types.proofs.Common.{IsExecutionOrder-exists}
 use Rattle.epx_types.specs.declared.id.Id.{Id}
 use Rattle.epx_ranking.specs.PrefixFaults.{IsTooEarlyAt, IsOutOfSequenceAt}
 use Rattle.epx_ranking.specs.PrefixFaults.{BeginsInOrder, IsPrefixFault}
@@ -23,7 +24,7 @@ use Rattle.epx_ranking.specs.OrderFaults.{IsOrderFault}
 use Rattle.epx_ranking.specs.declared.order_fault.OrderFault.{OrderFault}
 use Rattle.epx_ranking.specs.declared.order_fault.OrderFault.TheVariants.{Memory, Stranger, Repeat}
 use Rattle.epx_ranking.specs.declared.order_fault.OrderFault.TheVariants.{Missing, Early, Sequence}
-use Rattle.epx_ranking.proofs.LawfulOrderLemmas.{not_before_itself}
+use Rattle.epx_ranking.proofs.LawfulOrderLemmas.{SequenceBefore-irrefl}
 
 -- ---- from places to a lawful order
 
@@ -98,7 +99,7 @@ module _ (m : List Instance) (rising : IsRising (ids_of m)) (ids : List Id)
               let position : j.0 ≡ i.0 = omega arith in
               let same : Some y ≡ Some x = sym j.1 ∙ ap (slice_get ids) position ∙ i.1 in
               let is_x : y ≡ x = cc same in
-              absurd (not_before_itself m rising ids x (subst (SequenceBefore m x) is_x lower))
+              absurd (SequenceBefore-irrefl m rising ids x (subst (SequenceBefore m x) is_x lower))
         ]
       ]
 
@@ -126,13 +127,13 @@ module _ (m : List Instance) (rising : IsRising (ids_of m)) (ids : List Id)
     in_whole x h = Contains-from_filter (λ y. not (is_among ids y)) whole x h
 
     out : (x : Id) → Contains others x → ¬ Contains ids x
-    out x h = not_in_part ids whole x h
+    out x h = remaining_ids-apart ids whole x h
 
     rest_before : (x y : Id) → Contains others x → ¬ Contains ids y → Before whole y x
         → Before others y x
     rest_before x y h none before =
         Before-filter (λ z. not (is_among ids z)) whole y x before
-        (passes_rest ids whole y none) (passes_rest ids whole x (out x h))
+        (is_among-passes_rest ids whole y none) (is_among-passes_rest ids whole x (out x h))
 
     after_reached : (x y : Id) → Contains (ids ++ others) x → Reaches m x y → ¬ Reaches m y x
         → Before (ids ++ others) y x
@@ -174,15 +175,15 @@ module _ (m : List Instance) (rising : IsRising (ids_of m)) (ids : List Id)
         | inl listed ↦ Contains-append_left ids others x listed
         | inr none ↦ Contains-append_right ids others x
             (Contains-filter (λ y. not (is_among ids y)) whole x (lawful.whole x h)
-            (passes_rest ids whole x none))
+            (is_among-passes_rest ids whole x none))
       ];
       after_reached = after_reached;
       by_sequence = by_sequence;
     }
 
-  pub prefix_from_order : IsLawfulPrefix m ids
-  prefix_from_order =
-      let order = execution_order_exists m rising in
+  pub IsLawfulPrefix-from_order : IsLawfulPrefix m ids
+  IsLawfulPrefix-from_order =
+      let order = IsExecutionOrder-exists m rising in
       let whole = ranked_ids order.0 in
       (remaining_ids ids whole, extended whole (IsExecutionOrder-IsLawful m order.0 order.1))
 
@@ -238,8 +239,8 @@ module _ (m : List Instance) (ids : List Id) (whole : HasAllReady m ids) where
         (gap.absent (whole gap.left_out
         (IsReady-reached m gap.id gap.left_out gap.one_component.1 (ready_at i gap.id gap.here))))
 
-    pub order_from_prefix : (n : ℕ) → BeginsInOrder m ids n → InOrder m ids n
-    order_from_prefix n order i l = (
+    pub InOrder-from_prefix : (n : ℕ) → BeginsInOrder m ids n → InOrder m ids n
+    InOrder-from_prefix n order i l = (
       (λ early. (order i l).0 (too_early_from_early i early)),
       (λ overtaken. (order i l).1 (inl overtaken)),
     )
@@ -251,28 +252,28 @@ module _ (m : List Instance) (ids : List Id) (whole : HasAllReady m ids) where
     )
 
   -- it has the same fault as a prefix and as an order
-  pub order_fault_from : (f : OrderFault) → IsPrefixFault m ids f → IsOrderFault m ids f
-  order_fault_from Memory h = tt
-  order_fault_from (Stranger i) h = h
-  order_fault_from (Repeat i) h = h
-  order_fault_from (Missing x) h = absurd h
-  order_fault_from (Early i) h =
-      ((h.0, whole), early_from_too_early h.0 i h.1, order_from_prefix h.0 i h.2)
-  order_fault_from (Sequence i) h = (
+  pub IsOrderFault-from_prefix : (f : OrderFault) → IsPrefixFault m ids f → IsOrderFault m ids f
+  IsOrderFault-from_prefix Memory h = tt
+  IsOrderFault-from_prefix (Stranger i) h = h
+  IsOrderFault-from_prefix (Repeat i) h = h
+  IsOrderFault-from_prefix (Missing x) h = absurd h
+  IsOrderFault-from_prefix (Early i) h =
+      ((h.0, whole), early_from_too_early h.0 i h.1, InOrder-from_prefix h.0 i h.2)
+  IsOrderFault-from_prefix (Sequence i) h = (
     (h.0, whole),
     overtaken_from_sequence h.0 i h.1,
     (λ early. h.2 (too_early_from_early h.0 i early)),
-    order_from_prefix h.0 i h.3,
+    InOrder-from_prefix h.0 i h.3,
   )
 
-  pub prefix_fault_from : (f : OrderFault) → IsOrderFault m ids f → IsPrefixFault m ids f
-  prefix_fault_from Memory h = tt
-  prefix_fault_from (Stranger i) h = h
-  prefix_fault_from (Repeat i) h = h
-  prefix_fault_from (Missing x) h = absurd (h.2 (whole x h.1))
-  prefix_fault_from (Early i) h =
+  pub IsPrefixFault-from_order : (f : OrderFault) → IsOrderFault m ids f → IsPrefixFault m ids f
+  IsPrefixFault-from_order Memory h = tt
+  IsPrefixFault-from_order (Stranger i) h = h
+  IsPrefixFault-from_order (Repeat i) h = h
+  IsPrefixFault-from_order (Missing x) h = absurd (h.2 (whole x h.1))
+  IsPrefixFault-from_order (Early i) h =
       (h.0.0, too_early_from_early h.0.0 i h.1, prefix_order_from h.0.0 i h.2)
-  prefix_fault_from (Sequence i) h = (
+  IsPrefixFault-from_order (Sequence i) h = (
     h.0.0,
     inl h.1,
     (λ early. h.2 (early_from_too_early h.0.0 i early)),
@@ -280,8 +281,8 @@ module _ (m : List Instance) (ids : List Id) (whole : HasAllReady m ids) where
   )
 
   -- it is a lawful order if it is a prefix of one
-  pub lawful_from_prefix : IsLawfulPrefix m ids → IsLawful m ids
-  lawful_from_prefix prefix = by prefix.0 prefix.1 where
+  pub IsLawful-from_prefix : IsLawfulPrefix m ids → IsLawful m ids
+  IsLawful-from_prefix prefix = by prefix.0 prefix.1 where
     by : (rest : List Id) → IsLawful m (ids ++ rest) → IsLawful m ids
     by [] lawful = subst (IsLawful m) (append-nil ids) lawful
     by (x ∷ rest) lawful =
@@ -291,9 +292,9 @@ module _ (m : List Instance) (ids : List Id) (whole : HasAllReady m ids) where
         (Before-across ids (x ∷ rest) x x (whole x (lawful.only x last)) (Contains-head x rest))
         refl)
 
-pub prefix_from_lawful : (m : List Instance) (ids : List Id) → IsLawful m ids
+pub IsLawfulPrefix-from_lawful : (m : List Instance) (ids : List Id) → IsLawful m ids
     → IsLawfulPrefix m ids
-prefix_from_lawful m ids lawful = ([], subst (IsLawful m) (sym (append-nil ids)) lawful)
+IsLawfulPrefix-from_lawful m ids lawful = ([], subst (IsLawful m) (sym (append-nil ids)) lawful)
 
 -- ---- a prefix of a lawful order has no fault
 
@@ -309,7 +310,8 @@ module _ (m : List Instance) (ids rest : List Id) (lawful : IsLawful m (ids ++ r
   listed_before : (i : ℕ) (x y : Id) → slice_get ids i ≡ Some x → Before (ids ++ rest) y x
       → (j : ℕ) × (j < i) × (slice_get ids j ≡ Some y)
   listed_before i x y at (a, b, l, at_a, at_b) =
-      let same : b ≡ i = same_position (ids ++ rest) lawful.once b i x at_b (in_order i x at) in
+      let same : b ≡ i =
+      slice_get-is_unique (ids ++ rest) lawful.once b i x at_b (in_order i x at) in
       let within = slice_get_within ids i x at in
       let there = slice_get-get_or ids a x (omega (arith, l, same, within)) in
       (a, omega (arith, l, same), there ∙ sym (in_order a (get_or ids a x) there) ∙ at_a)
@@ -356,6 +358,6 @@ module _ (m : List Instance) (ids rest : List Id) (lawful : IsLawful m (ids ++ r
   no_fault (Early i) nf h = not_too_early i h.1
   no_fault (Sequence i) nf h = not_out_of_sequence i h.1
 
-pub prefix_has_no_fault : (m : List Instance) (ids : List Id) (f : OrderFault) → f ≢ Memory
+pub IsPrefixFault-not_lawful : (m : List Instance) (ids : List Id) (f : OrderFault) → f ≢ Memory
     → IsLawfulPrefix m ids → ¬ IsPrefixFault m ids f
-prefix_has_no_fault m ids f nf prefix = no_fault m ids prefix.0 prefix.1 f nf
+IsPrefixFault-not_lawful m ids f nf prefix = no_fault m ids prefix.0 prefix.1 f nf

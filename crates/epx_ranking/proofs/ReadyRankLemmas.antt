@@ -5,9 +5,9 @@ use Rattle.epx_types.proofs.Common.{cases_lt, Contains-append_left, Contains-get
 use Rattle.epx_types.proofs.Common.{Contains-push_cases, all_pairs_push, IsRanked, Instance}
 use Rattle.epx_types.proofs.Common.{IsReady, Contains-nil}
 use Rattle.epx_types.specs.declared.id.Id.{Id}
-use Rattle.epx_graph.proofs.Common.{DependencyGraph, IsGraph, IsGraphOf, node_is_unique}
-use Rattle.epx_graph.proofs.Common.{node_of_committed}
-use Rattle.epx_components.specs.Ranks.{ranked}
+use Rattle.epx_graph.proofs.Common.{DependencyGraph, IsGraph, IsGraphOf, ids-is_unique}
+use Rattle.epx_graph.proofs.Common.{slice_get-if_committed}
+use Rattle.epx_components.specs.between.Ranks.{ranked}
 use Rattle.epx_ranking.specs.inner.ReadyRanks.{AreReadyRanks}
 use Rattle.epx_components.specs.declared.rank.Rank.{Rank}
 
@@ -21,8 +21,8 @@ pub record AreGathered (m : List Instance) (g : DependencyGraph) (n : ℕ) (rank
   pub once : AllPairs (λ a b. a.id ≢ b.id) ranks
 
 module _ (m : List Instance) (g : DependencyGraph) where
-  pub ready_ranks_none : AreGathered m g 0 []
-  ready_ranks_none = record {
+  pub AreGathered-none : AreGathered m g 0 []
+  AreGathered-none = record {
     is_rank = λ r h. absurd (Contains-nil r h);
     node = λ r h. absurd (Contains-nil r h);
     whole = λ k x l. absurd (omega arith);
@@ -30,10 +30,10 @@ module _ (m : List Instance) (g : DependencyGraph) where
   }
 
   -- a node whose instance is not ready adds no rank
-  pub ready_ranks_past : (n : ℕ) (ranks : List Rank)
+  pub AreGathered-skip : (n : ℕ) (ranks : List Rank)
       → ((x : Id) → slice_get g.ids n ≡ Some x → ¬ IsReady m x) → AreGathered m g n ranks
       → AreGathered m g (n + 1) ranks
-  ready_ranks_past n ranks waits old = record {
+  AreGathered-skip n ranks waits old = record {
     is_rank = old.is_rank;
     node = λ r h. let k = old.node r h in (k.0, omega (arith, k.1), k.2);
     whole = λ k x l at ready.
@@ -47,10 +47,10 @@ module _ (m : List Instance) (g : DependencyGraph) where
   }
 
   -- a node whose instance is ready adds its rank at the end
-  pub ready_ranks_push : IsGraph g → (n : ℕ) (ranks : List Rank) (r : Rank)
+  pub AreGathered-push : IsGraph g → (n : ℕ) (ranks : List Rank) (r : Rank)
       → slice_get g.ids n ≡ Some r.id → IsRanked m (ranked r) → AreGathered m g n ranks
       → AreGathered m g (n + 1) (ranks ++ r ∷ [])
-  ready_ranks_push is n ranks r at ranks_r old = record {
+  AreGathered-push is n ranks r at ranks_r old = record {
     is_rank = λ a h.
         elim (Contains-push_cases ranks r a h) [
           | inl before ↦ old.is_rank a before
@@ -72,15 +72,15 @@ module _ (m : List Instance) (g : DependencyGraph) where
         ];
     once = all_pairs_push (λ a b. a.id ≢ b.id) ranks r old.once (λ i d l same.
         let k = old.node (get_or ranks i d) (Contains-get_or ranks i d l) in
-        omega (arith, k.1, node_is_unique g is k.0 n r.id (k.2 ∙ ap Some same) at));
+        omega (arith, k.1, ids-is_unique g is k.0 n r.id (k.2 ∙ ap Some same) at));
   }
 
   -- the ranks of all committed nodes are those of all ready instances
-  pub ready_ranks_all : IsGraphOf m g → (ranks : List Rank) → AreGathered m g g.committed ranks
+  pub AreReadyRanks-all : IsGraphOf m g → (ranks : List Rank) → AreGathered m g g.committed ranks
       → AreReadyRanks m ranks
-  ready_ranks_all is ranks all = record {
+  AreReadyRanks-all is ranks all = record {
     is_rank = all.is_rank;
-    whole = λ x ready. let k = node_of_committed m g is x ready.committed in
+    whole = λ x ready. let k = slice_get-if_committed m g is x ready.committed in
         all.whole k.0 x k.1 k.2 ready;
     once = all.once;
   }

@@ -2,17 +2,18 @@
 use Rattle.std.proofs.Common.{◌≡◌, ◌≢◌, ℕ, ◌+◌, ◌<◌, ◌⊎◌, inl, inr, List, length, get_or, set}
 use Rattle.std.proofs.Common.{slice_get, Option, Some, None, true, refl, sym, subst, ◌∙◌, ap, arith}
 use Rattle.std.proofs.Common.{is_lt}
-use Rattle.epx_types.proofs.Common.{nat_cmp_total, cases_lt, length-set, Instance, below_irrefl}
-use Rattle.epx_types.proofs.Common.{below_trans, below_cases, id_cmp_total, id_cmp-IsAntisymmetric}
-use Rattle.epx_types.proofs.Common.{first_is_equal, second_is_equal}
+use Rattle.epx_types.proofs.Common.{nat_cmp_total, cases_lt, length-set, Instance, is_lt-irrefl}
+use Rattle.epx_types.proofs.Common.{is_lt-trans, is_lt-cases, id_cmp-IsTotalOrder}
+use Rattle.epx_types.proofs.Common.{id_cmp-IsAntisymmetric}
+use Rattle.epx_types.proofs.Common.{ordering_then-first_equal, ordering_then-second_equal}
 use Rattle.std.specs.Cmp.{IsTotalOrder, on_total, then_total}
 use Rattle.std.specs.FinMap.{IsAntisymmetric, nat_cmp-IsAntisymmetric}
 use Rattle.epx_ranking.specs.declared.check.sequence_key.SequenceKey.{SequenceKey}
-use Rattle.epx_components.specs.Partitions.{ComponentParts, component_of}
+use Rattle.epx_components.specs.between.Partitions.{ComponentParts, component_of}
 use Rattle.epx_ranking.specs.inner.SequenceKeys.{sequence_key_of, sequence_key_cmp, ComesBefore}
 use Rattle.epx_ranking.specs.inner.SequenceKeys.{IsNodeEarlyAt, IsNodeOvertakenAt, AreNodesInOrder}
 use Rattle.epx_ranking.specs.inner.SequenceKeys.{IsNodeOutOfSequenceAt}
-use Rattle.epx_components.proofs.PartitionLemmas.{value_after_set}
+use Rattle.epx_components.proofs.PartitionLemmas.{get_or-set_component}
 
 abbrev pub latest_in : ComponentParts → List (Option SequenceKey) → ℕ → Option SequenceKey
 latest_in p latest k = get_or latest (component_of p k) None
@@ -28,34 +29,34 @@ pub record AreLatest (m : List Instance) (p : ComponentParts) (nodes : List ℕ)
       → (t : SequenceKey) × (latest_in p latest (get_or nodes j 0) ≡ Some t)
       × ¬ (is_lt (sequence_key_cmp t (sequence_key_of e)) ≡ true)
 
-pub sequence_key_cmp_total : IsTotalOrder sequence_key_cmp
-sequence_key_cmp_total = then_total (on_total (λ (t : SequenceKey). t.seq) nat_cmp_total)
-    (on_total (λ (t : SequenceKey). t.id) id_cmp_total)
+pub sequence_key_cmp-total : IsTotalOrder sequence_key_cmp
+sequence_key_cmp-total = then_total (on_total (λ (t : SequenceKey). t.seq) nat_cmp_total)
+    (on_total (λ (t : SequenceKey). t.id) id_cmp-IsTotalOrder)
 
 sequence_key_cmp-IsAntisymmetric : IsAntisymmetric sequence_key_cmp
 sequence_key_cmp-IsAntisymmetric a b e =
-    let seq = nat_cmp-IsAntisymmetric a.seq b.seq (first_is_equal _ _ e) in
-    let id = id_cmp-IsAntisymmetric a.id b.id (second_is_equal _ _ e) in
+    let seq = nat_cmp-IsAntisymmetric a.seq b.seq (ordering_then-first_equal _ _ e) in
+    let id = id_cmp-IsAntisymmetric a.id b.id (ordering_then-second_equal _ _ e) in
     λ i. record { seq = seq i; id = id i }
 
 -- a key less than another is less than each that is not less than the other
-pub before_later : (a b c : SequenceKey) → is_lt (sequence_key_cmp a b) ≡ true
+pub sequence_key_cmp-before_later : (a b c : SequenceKey) → is_lt (sequence_key_cmp a b) ≡ true
     → ¬ (is_lt (sequence_key_cmp c b) ≡ true) → is_lt (sequence_key_cmp a c) ≡ true
-before_later a b c lower not =
-    elim (below_cases sequence_key_cmp_total sequence_key_cmp-IsAntisymmetric c b) [
+sequence_key_cmp-before_later a b c lower not =
+    elim (is_lt-cases sequence_key_cmp-total sequence_key_cmp-IsAntisymmetric c b) [
       | inl l ↦ absurd (not l)
       | inr (inl same) ↦ subst (λ t. is_lt (sequence_key_cmp a t) ≡ true) (sym same) lower
-      | inr (inr l) ↦ below_trans sequence_key_cmp_total a b c lower l
+      | inr (inr l) ↦ is_lt-trans sequence_key_cmp-total a b c lower l
     ]
 
 -- a key that is not greater than the lesser of two is less than the greater
-pub least_before : (a b c : SequenceKey) → is_lt (sequence_key_cmp a b) ≡ true
+pub sequence_key_cmp-least_before : (a b c : SequenceKey) → is_lt (sequence_key_cmp a b) ≡ true
     → ¬ (is_lt (sequence_key_cmp a c) ≡ true) → is_lt (sequence_key_cmp c b) ≡ true
-least_before a b c lower not =
-    elim (below_cases sequence_key_cmp_total sequence_key_cmp-IsAntisymmetric a c) [
+sequence_key_cmp-least_before a b c lower not =
+    elim (is_lt-cases sequence_key_cmp-total sequence_key_cmp-IsAntisymmetric a c) [
       | inl l ↦ absurd (not l)
       | inr (inl same) ↦ subst (λ t. is_lt (sequence_key_cmp t b) ≡ true) same lower
-      | inr (inr l) ↦ below_trans sequence_key_cmp_total c a b l lower
+      | inr (inr l) ↦ is_lt-trans sequence_key_cmp-total c a b l lower
     ]
 
 module _ (m : List Instance) (p : ComponentParts) (nodes : List ℕ) (n : ℕ)
@@ -64,9 +65,9 @@ module _ (m : List Instance) (p : ComponentParts) (nodes : List ℕ) (n : ℕ)
   same_instance : (f : Instance) → slice_get m (get_or nodes n 0) ≡ Some f → f ≡ e
   same_instance f to = let same : Some f ≡ Some e = sym to ∙ at in cc same
 
-  pub overtaken_from_latest : ComesBefore (sequence_key_of e)
+  pub IsNodeOvertakenAt-from_latest : ComesBefore (sequence_key_of e)
       (latest_in p latest (get_or nodes n 0)) → IsNodeOvertakenAt m p nodes n
-  overtaken_from_latest h = by (latest_in p latest (get_or nodes n 0)) refl h where
+  IsNodeOvertakenAt-from_latest h = by (latest_in p latest (get_or nodes n 0)) refl h where
     by : (o : Option SequenceKey) → latest_in p latest (get_or nodes n 0) ≡ o
         → ComesBefore (sequence_key_of e) o → IsNodeOvertakenAt m p nodes n
     by None is h = absurd h
@@ -84,22 +85,22 @@ module _ (m : List Instance) (p : ComponentParts) (nodes : List ℕ) (n : ℕ)
           ),
         )
 
-  pub overtaken_to_latest : IsNodeOvertakenAt m p nodes n
+  pub ComesBefore-from_overtaken : IsNodeOvertakenAt m p nodes n
       → ComesBefore (sequence_key_of e) (latest_in p latest (get_or nodes n 0))
-  overtaken_to_latest (j, l, same, (d, f, at_d, at_f, lower)) =
+  ComesBefore-from_overtaken (j, l, same, (d, f, at_d, at_f, lower)) =
       let found = old.over j f l at_f in
       let here : latest_in p latest (get_or nodes n 0) ≡ Some found.0 =
       ap (λ c. get_or latest c None) (sym same) ∙ found.1 in
       let own = subst (λ d. is_lt (sequence_key_cmp (sequence_key_of d) (sequence_key_of f))
       ≡ true) (same_instance d at_d) lower in
       subst (ComesBefore (sequence_key_of e)) (sym here)
-      (before_later (sequence_key_of e) (sequence_key_of f) found.0 own found.2)
+      (sequence_key_cmp-before_later (sequence_key_of e) (sequence_key_of f) found.0 own found.2)
 
-  pub latest_step : component_of p (get_or nodes n 0) < length latest
+  pub AreLatest-step : component_of p (get_or nodes n 0) < length latest
       → ¬ ComesBefore (sequence_key_of e) (latest_in p latest (get_or nodes n 0))
       → AreLatest m p nodes (n + 1)
       (set latest (component_of p (get_or nodes n 0)) (Some (sequence_key_of e)))
-  latest_step in' none = record {
+  AreLatest-step in' none = record {
     whole = length-set latest own (Some (sequence_key_of e)) ∙ old.whole;
     from = λ k t h. elim (cases k) [
       | inl here ↦
@@ -120,7 +121,8 @@ module _ (m : List Instance) (p : ComponentParts) (nodes : List ℕ) (n : ℕ)
                   let latest_is : latest_in p latest (get_or nodes n 0) ≡ Some was.0 =
                   ap (λ c. get_or latest c None) (sym here.0) ∙ was.1 in
                   none (subst (ComesBefore (sequence_key_of e)) (sym latest_is)
-                  (before_later (sequence_key_of e) (sequence_key_of f) was.0 lower was.2)),
+                  (sequence_key_cmp-before_later (sequence_key_of e) (sequence_key_of f) was.0 lower
+                  was.2)),
             )
             | inr there ↦ (was.0, there.1 ∙ was.1, was.2)
           ]
@@ -132,7 +134,7 @@ module _ (m : List Instance) (p : ComponentParts) (nodes : List ℕ) (n : ℕ)
             | inl here ↦ (
               sequence_key_of e,
               here.1,
-              λ lower. below_irrefl sequence_key_cmp_total (sequence_key_of e)
+              λ lower. is_lt-irrefl sequence_key_cmp-total (sequence_key_of e)
                   (subst (λ f. is_lt (sequence_key_cmp (sequence_key_of e) (sequence_key_of f))
                   ≡ true) one lower),
             )
@@ -148,14 +150,14 @@ module _ (m : List Instance) (p : ComponentParts) (nodes : List ℕ) (n : ℕ)
         × (latest_in p (set latest own (Some (sequence_key_of e))) k ≡ Some (sequence_key_of e)))
         ⊎ ((component_of p k ≢ own)
         × (latest_in p (set latest own (Some (sequence_key_of e))) k ≡ latest_in p latest k))
-    cases = value_after_set None p latest (get_or nodes n 0) (Some (sequence_key_of e)) in'
+    cases = get_or-set_component None p latest (get_or nodes n 0) (Some (sequence_key_of e)) in'
 
 -- one more position
-pub nodes_in_order_step : (m : List Instance) (p : ComponentParts)
+pub AreNodesInOrder-step : (m : List Instance) (p : ComponentParts)
     (left_out : List (Option SequenceKey)) (below nodes : List ℕ) (n : ℕ)
     → ¬ IsNodeEarlyAt p below nodes n → ¬ IsNodeOutOfSequenceAt m p left_out nodes n
     → AreNodesInOrder m p left_out below nodes n → AreNodesInOrder m p left_out below nodes (n + 1)
-nodes_in_order_step m p left_out below nodes n ahead wrong old i l = elim (cases_lt i n) [
+AreNodesInOrder-step m p left_out below nodes n ahead wrong old i l = elim (cases_lt i n) [
   | inl past ↦ old i past
   | inr now ↦
       let same : n ≡ i = omega arith in

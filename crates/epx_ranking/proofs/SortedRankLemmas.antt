@@ -6,16 +6,16 @@ use Rattle.epx_types.proofs.Common.{ordering_reverse, ordering_then, false≢tru
 use Rattle.epx_types.proofs.Common.{sorted_far, Contains-permutation, IsPermutation-sym}
 use Rattle.epx_types.proofs.Common.{slice_get_within, get_or_from_slice_get, IsPermutation-map}
 use Rattle.epx_types.proofs.Common.{IsDistinct-IsPermutation, AllPairs-from_IsDistinct}
-use Rattle.epx_types.proofs.Common.{IsDistinct-from_AllPairs, ids_decide, ids_flip}
+use Rattle.epx_types.proofs.Common.{IsDistinct-from_AllPairs, id_eq-Decides, id_eq-sym}
 use Rattle.epx_types.proofs.Common.{AllPairs-slice_get, Ranked, rank_cmp, RanksBelow, IsRanked}
-use Rattle.epx_types.proofs.Common.{IsExecutionOrder, id_cmp, Instance, second_is_equal}
-use Rattle.epx_types.proofs.Common.{id_cmp-IsAntisymmetric, rank_cmp_total, Contains-map}
+use Rattle.epx_types.proofs.Common.{IsExecutionOrder, id_cmp, Instance, ordering_then-second_equal}
+use Rattle.epx_types.proofs.Common.{id_cmp-IsAntisymmetric, rank_cmp-IsTotalOrder, Contains-map}
 use Rattle.epx_types.proofs.Common.{Contains-from_map, slice_get-from_map, AllPairs-from_slice_get}
 use Rattle.epx_types.specs.declared.id.Id.{Id}
 use Rattle.std.specs.List.Sorted.{IsSortedBy}
 use Rattle.epx_types.specs.contracts.id.IdPartialEq.TheImpl as id_eq
 use Rattle.epx_types.proofs.lists.ListPositionLemmas.{slice_get-map}
-use Rattle.epx_components.specs.Ranks.{ranked, ranked_all}
+use Rattle.epx_components.specs.between.Ranks.{ranked, ranked_all}
 use Rattle.epx_ranking.specs.inner.ReadyRanks.{AreReadyRanks}
 use Rattle.epx_components.specs.declared.rank.Rank.{Rank}
 
@@ -35,10 +35,10 @@ names_apart old new moved once =
     let b = slice_get-from_map (λ (r : Rank). r.id) old j y to in
     subst₂ (λ (v w : Id). v ≢ w) a.2 b.2
     (AllPairs-slice_get (λ (r s : Rank). r.id ≢ s.id) old once i j a.0 b.0 l a.1 b.1)) in
-    AllPairs-from_IsDistinct {eq = same_id} ids_decide (names new)
-    (IsDistinct-IsPermutation same_id ids_flip (names old) (names new)
+    AllPairs-from_IsDistinct {eq = same_id} id_eq-Decides (names new)
+    (IsDistinct-IsPermutation same_id id_eq-sym (names old) (names new)
     (IsPermutation-map (λ (r : Rank). r.id) old new moved)
-    (IsDistinct-from_AllPairs {eq = same_id} ids_decide (names old) before))
+    (IsDistinct-from_AllPairs {eq = same_id} id_eq-Decides (names old) before))
 
 abbrev lower : Rank → Rank → Bool
 lower a b = is_lt (rank_cmp (ranked a) (ranked b))
@@ -50,9 +50,9 @@ tied_ids a b e =
     let by_seq = ordering_then (nat_cmp a.seq b.seq) by_id in
     let by_leader = ordering_then (id_cmp a.leader b.leader) by_seq in
     id_cmp-IsAntisymmetric a.id b.id
-    (second_is_equal (nat_cmp a.seq b.seq) by_id
-    (second_is_equal (id_cmp a.leader b.leader) by_seq
-    (second_is_equal (nat_cmp a.depth b.depth) by_leader e)))
+    (ordering_then-second_equal (nat_cmp a.seq b.seq) by_id
+    (ordering_then-second_equal (id_cmp a.leader b.leader) by_seq
+    (ordering_then-second_equal (nat_cmp a.depth b.depth) by_leader e)))
 
 module _ (new : List Rank) (apart : AllPairs (λ x y. x ≢ y) (names new))
     (sorted : IsSortedBy lower new) where
@@ -68,8 +68,9 @@ module _ (new : List Rank) (apart : AllPairs (λ x y. x ≢ y) (names new))
             (slice_get-map (λ (r : Rank). r.id) new j b to) (tied_ids a b e))
         | Greater ↦ λ e.
             let back : lower b a ≡ true =
-            ap is_lt (rank_cmp_total.antisymm (ranked b) (ranked a) ∙ ap ordering_reverse e) in
-            let far = sorted_far lower (ranks_by rank_cmp_total ranked) new sorted i j a
+            ap is_lt
+            (rank_cmp-IsTotalOrder.antisymm (ranked b) (ranked a) ∙ ap ordering_reverse e) in
+            let far = sorted_far lower (ranks_by rank_cmp-IsTotalOrder ranked) new sorted i j a
             (omega arith) (slice_get_within new j b to) in
             absurd (false≢true (sym far ∙ ap₂ lower (get_or_from_slice_get new j b a to)
             (get_or_from_slice_get new i a a at) ∙ back))
@@ -81,9 +82,9 @@ module _ (new : List Rank) (apart : AllPairs (λ x y. x ≢ y) (names new))
       let b = slice_get-from_map ranked new j y to in
       subst₂ RanksBelow a.2 b.2 (later i j a.0 b.0 l a.1 b.1))
 
-pub order_from_sort : (m : List Instance) (old new : List Rank) → AreReadyRanks m old
+pub IsExecutionOrder-from_sort : (m : List Instance) (old new : List Rank) → AreReadyRanks m old
     → IsPermutation old new → IsSortedBy lower new → IsExecutionOrder m (ranked_all new)
-order_from_sort m old new ready moved sorted = record {
+IsExecutionOrder-from_sort m old new ready moved sorted = record {
   ranked = λ r h.
       let a = Contains-from_map ranked new r h in
       subst (IsRanked m) a.2

@@ -6,7 +6,7 @@ ghost use Rattle.epx_types.specs.LawfulOrders.{IsLawful};
 ghost use Rattle.epx_graph.specs.GraphOf.{IsGraphOf};
 ghost use Rattle.epx_ranking.specs.PrefixFaults.{IsPrefixFault};
 ghost use Rattle.epx_ranking.specs.OrderFaults.{IsOrderFault};
-ghost use Rattle.epx_components.specs.Partitions.{parts, IsPartitionOf};
+ghost use Rattle.epx_components.specs.between.Partitions.{parts, IsPartitionOf};
 ghost use Rattle.epx_ranking.specs.inner.NodeLists.{AreListedReady};
 ghost use Rattle.epx_ranking.specs.inner.SequenceKeys.{AreNodesInOrder, IsNodeFault};
 

@@ -8,14 +8,14 @@ use Rattle.std.proofs.lemmas.Slice.Zip.{length-zip}
 use Rattle.epx_claims.specs.inner.PieceItems.{items_of_piece}
 
 -- a store with few keys has few pairs
-pub few_pairs : {A : Type 0} (shown : A → List ℕ × ℤ) (xs : List A) (m : Contents) (n : ℕ)
+pub length-pairs_within : {A : Type 0} (shown : A → List ℕ × ℤ) (xs : List A) (m : Contents) (n : ℕ)
     → map shown xs ≡ contents.entries m → contents.len m ≤ n → length xs ≤ n
-few_pairs shown xs m n are few =
+length-pairs_within shown xs m n are few =
     omega (arith, few, len-entries m, ap length are, length-map xs shown)
 
-pub as_many_pairs : {X Y : Type 0} (xs : List X) (ys : List Y) → length ys ≡ length xs
+pub length-zip_same : {X Y : Type 0} (xs : List X) (ys : List Y) → length ys ≡ length xs
     → length (zip xs ys) ≡ length xs
-as_many_pairs xs ys same = omega (arith, length-zip xs ys, same)
+length-zip_same xs ys same = omega (arith, length-zip xs ys, same)
 
 zip-take : {X Y : Type 0} (n : ℕ) (xs : List X) (ys : List Y)
     → zip (take n xs) (take n ys) ≡ take n (zip xs ys)
@@ -39,12 +39,12 @@ zip-range start end xs ys same =
     ∙ ap (take (end - start)) (zip-drop start xs ys same)
 
 -- a piece of the pairs has the pairs of the pieces
-pub pairs_of_piece : {X Y : Type 0} (cut piece : ℕ) (xs : List X) (ys : List Y)
+pub zip-items_of_piece : {X Y : Type 0} (cut piece : ℕ) (xs : List X) (ys : List Y)
     → length ys ≡ length xs
     → zip (items_of_piece cut xs piece)
     (slice_range ys (piece_start cut piece) (piece_end cut (length xs) piece))
     ≡ items_of_piece cut (zip xs ys) piece
-pairs_of_piece cut piece xs ys same =
+zip-items_of_piece cut piece xs ys same =
     zip-range (piece_start cut piece) (piece_end cut (length xs) piece) xs ys same
     ∙ ap (λ n. slice_range (zip xs ys) (piece_start cut piece) (piece_end cut n piece))
-    (sym (as_many_pairs xs ys same))
+    (sym (length-zip_same xs ys same))

@@ -39,7 +39,7 @@ pub record IsReplaying (text : List ℕ) (ids : List Id) (commands : List (List 
       ≡ text ++ lines_of ids (execute commands before).replies
 
 -- the next batch is executed, and the one before is written
-pub replay_goes_on : (text : List ℕ) (ids : List Id) (commands : List (List Op)) (c : Contents)
+pub IsReplaying-next : (text : List ℕ) (ids : List Id) (commands : List (List Op)) (c : Contents)
     (so_far : List ℕ) (batch : List Id) (replies : List Reply) (here : Contents)
     (now later unread : List Id) (first rest undone : List (List Op)) (longer : List ℕ)
     (next : Contents) (answers : List Reply)
@@ -48,7 +48,7 @@ pub replay_goes_on : (text : List ℕ) (ids : List Id) (commands : List (List Op
     → longer ≡ so_far ++ lines_of batch replies
     → next ≡ (execute first here).final → answers ≡ (execute first here).replies
     → IsReplaying text ids commands c longer now answers next later rest
-replay_goes_on text ids commands c so_far batch replies here now later unread first rest undone
+IsReplaying-next text ids commands c so_far batch replies here now later unread first rest undone
     longer next answers same cut_ids cut_commands whole is_longer is_next are_answers = record {
       as_many = many;
       left = omega (arith, h.left, same, length-append now later, length-append first rest);
@@ -74,10 +74,10 @@ replay_goes_on text ids commands c so_far batch replies here now later unread fi
         ∙ lines_of-append now later answers (execute rest next).replies (sym many)
 
 -- ranges of lists of one length
-pub as_many_in_range : {X Y : Type 0} (xs : List X) (ys : List Y) (start end : ℕ)
+pub length-same_range : {X Y : Type 0} (xs : List X) (ys : List Y) (start end : ℕ)
     → length xs ≡ length ys
     → length (slice_range xs start end) ≡ length (slice_range ys start end)
-as_many_in_range xs ys start end same =
+length-same_range xs ys start end same =
     length-take (end - start) (drop start xs)
     ∙ ap (min (end - start)) (length-drop start xs ∙ ap (λ n. n - start) same
     ∙ sym (length-drop start ys))

@@ -1,1 +1,1 @@
-pub mod Replays
+pub mod between

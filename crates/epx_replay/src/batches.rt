@@ -3,7 +3,7 @@ ghost use Rattle.std.specs.Prelude.{◌≡◌, ◌<◌, ◌≤◌, ◌^◌, ◌+
 ghost use Rattle.std.specs.Thread.{IsSync};
 ghost use Rattle.epx_report.specs.ReportLines.{reply_line};
 ghost use Rattle.epx_types.specs.CommittedMap.{commands_in};
-ghost use Rattle.epx_replay.specs.Replays.{Executes, Replays};
+ghost use Rattle.epx_replay.specs.between.Replays.{Executes, Replays};
 
 use crate::commands::all_commands;
 use crate::reply_parts::reply_parts;

@@ -8,8 +8,8 @@ module _ (AreGood : List (List ℕ) → Type 0)
     (shorter : (n : ℕ) (lines : List (List ℕ)) → AreGood lines → AreGood (take n lines))
     (lines : List (List ℕ)) where
   -- if all lines are good, none is bad
-  pub none_bad : (line : ℕ) → AreGood lines → ¬ IsFirstNotGood AreGood lines line
-  none_bad line good bad = bad.bad_with (shorter line lines good)
+  pub IsFirstNotGood-if_good : (line : ℕ) → AreGood lines → ¬ IsFirstNotGood AreGood lines line
+  IsFirstNotGood-if_good line good bad = bad.bad_with (shorter line lines good)
 
   good_until : (line other : ℕ) → line < other → IsFirstNotGood AreGood lines other
       → AreGood (take line lines)
@@ -18,9 +18,9 @@ module _ (AreGood : List (List ℕ) → Type 0)
       subst AreGood (take-take line (other - 1) lines among)
       (shorter line (take (other - 1) lines) bad.good_before)
 
-  pub one_bad : (line other : ℕ) → IsFirstNotGood AreGood lines line
+  pub IsFirstNotGood-is_unique : (line other : ℕ) → IsFirstNotGood AreGood lines line
       → IsFirstNotGood AreGood lines other → line ≡ other
-  one_bad line other p q =
+  IsFirstNotGood-is_unique line other p q =
       elim (cases line other) [
         | inl below ↦ absurd (p.bad_with (good_until line other below q))
         | inr rest ↦ elim rest [

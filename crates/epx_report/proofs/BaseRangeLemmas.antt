@@ -13,20 +13,23 @@ use Rattle.epx_lines.specs.OperationList.{key_of}
 use Rattle.epx_lines.specs.Meaning.{json_of}
 use Rattle.epx_report.specs.declared.from_value.Counts.{Counts}
 use Rattle.epx_report.specs.declared.from_value.BaseLine.{BaseLine}
-use Rattle.epx_report.specs.declared.from_value.BaseLine.TheVariants.{Header, Done, Reply, Waiting, Store}
+use Rattle.epx_report.specs.declared.from_value.BaseLine.TheVariants.{Header, Done, Reply, Waiting}
+use Rattle.epx_report.specs.declared.from_value.BaseLine.TheVariants.{Store}
 use Rattle.epx_report.specs.Forms.{id_from, counts_of, header_of, id_line_of, short_line_of}
 use Rattle.epx_report.specs.Forms.{form_of_list, form_of, base_line_of}
 use Rattle.epx_report.specs.inner.Progress.{Progress, nothing_seen, after, after_with}
 use Rattle.epx_report.specs.Bases.{IsBase}
-use Rattle.epx_report.specs.inner.BaseReadings.{after_line, or_line_number, reading, put_pairs}
+use Rattle.epx_report.specs.between.PutPairs.{put_pairs}
+use Rattle.epx_report.specs.inner.BaseReadings.{after_line, or_line_number, reading}
 use Rattle.epx_report.specs.ReportReadings.{FitsNumbers}
-use Rattle.epx_report.proofs.BaseLemmas.{reading_of_base}
+use Rattle.epx_report.proofs.BaseLemmas.{IsReadBase-from_IsBase}
 use Rattle.epx_report.proofs.RisingListLemmas.{Contains-insert_cases}
-use Rattle.epx_report.proofs.JsonStringLemmas.{by_branch, IfSome-branch, IfSome-map}
+use Rattle.epx_report.proofs.JsonStringLemmas.{cond-both, IfSome-branch, IfSome-map}
 use Rattle.epx_report.proofs.JsonStringLemmas.{IfSome-and_then, IfSome-trivial}
 use Rattle.epx_report.proofs.JsonValueLemmas.{FitsData}
-use Rattle.epx_report.proofs.LineRangeLemmas.{IsStoreKey, signed_fits, key_of_fits, elements_fit}
-use Rattle.epx_report.proofs.LineRangeLemmas.{id_of_pair_fits, json_of_fits}
+use Rattle.epx_report.proofs.LineRangeLemmas.{IsStoreKey, IfSome-signed, IfSome-key_of}
+use Rattle.epx_report.proofs.LineRangeLemmas.{IfSome-elements}
+use Rattle.epx_report.proofs.LineRangeLemmas.{IfSome-id_of_pair, IfSome-json_of}
 
 -- ---- what a line says
 
@@ -47,7 +50,7 @@ header_of_fits n e o w p c =
 id_line_of_fits : (n r i a b : Data) → IfSome (id_line_of n r i a b) FitsLine
 unfolding id_line_of
 id_line_of_fits n r i a b =
-    let id = id_of_pair_fits (r ∷ i ∷ []) in
+    let id = IfSome-id_of_pair (r ∷ i ∷ []) in
     let replied = IfSome-map FitsNumbers FitsLine Reply (id_from r i) id (λ x fits. fits) in
     let waiting = IfSome-map FitsNumbers FitsLine Waiting (id_from r i) id (λ x fits. tt) in
     search (rules, IfSome-branch FitsLine, replied, waiting)
@@ -56,11 +59,11 @@ short_line_of_fits : (n a b : Data) → FitsData a → FitsData b
     → IfSome (short_line_of n a b) FitsLine
 unfolding short_line_of
 short_line_of_fits n a b p q =
-    let done = IfSome-map FitsNumbers FitsLine Done (id_from a b) (id_of_pair_fits (a ∷ b ∷ []))
+    let done = IfSome-map FitsNumbers FitsLine Done (id_from a b) (IfSome-id_of_pair (a ∷ b ∷ []))
     (λ x fits. fits) in
     let stored = IfSome-and_then IsStoreKey FitsLine (λ k. option_map (Store k) (signed b))
-    (key_of a) (key_of_fits a p)
-    (λ k key. IfSome-map (FitsSigned w64) FitsLine (Store k) (signed b) (signed_fits b q)
+    (key_of a) (IfSome-key_of a p)
+    (λ k key. IfSome-map (FitsSigned w64) FitsLine (Store k) (signed b) (IfSome-signed b q)
     (λ v fits. (key, fits))) in
     search (rules, IfSome-branch FitsLine, done, stored)
 
@@ -75,13 +78,13 @@ form_of_fits : (d : Data) → FitsData d → IfSome (form_of d) FitsLine
 unfolding form_of
 form_of_fits d h =
     IfSome-and_then (AllByRecursion FitsData) FitsLine form_of_list (elements d)
-    (elements_fit d h) form_of_list_fits
+    (IfSome-elements d h) form_of_list_fits
 
 base_line_of_fits : (bytes : List ℕ) → IfSome (base_line_of bytes) FitsLine
 unfolding base_line_of
 base_line_of_fits bytes =
     let said = IfSome-and_then FitsData FitsLine form_of (json_of bytes)
-    (json_of_fits bytes) form_of_fits in
+    (IfSome-json_of bytes) form_of_fits in
     search (rules, IfSome-branch FitsLine, said)
 
 -- ---- what the lines so far say
@@ -139,7 +142,7 @@ or_bad_fits n (Some s) more h rest = rest s h
 
 reading_fits : (s : Progress) (n : ℕ) (ls : List (List ℕ)) → FitsState s
     → IfOk (reading s n ls) FitsState
-reading_fits s n [] h = search (rules, by_branch (λ (r : Result Progress ℕ). IfOk r FitsState), h)
+reading_fits s n [] h = search (rules, cond-both (λ (r : Result Progress ℕ). IfOk r FitsState), h)
 reading_fits s n (l ∷ ls) h =
     or_bad_fits n (after_line s l) (λ t. reading t (n + 1) ls)
     (IfSome-and_then FitsLine FitsState (after s) (base_line_of l) (base_line_of_fits l)
@@ -153,29 +156,29 @@ abbrev pub FitsContents : Contents → Type 0
 FitsContents c =
     (k : List ℕ) (v : ℤ) → contents.get c k ≡ Some v → IsStoreKey k × FitsSigned w64 v
 
-pub empty_fits : FitsContents contents.empty
-empty_fits k v e = let none = contents.get-empty {X = ℤ} key_cmp k in absurd (cc (none, e))
+pub FitsContents-empty : FitsContents contents.empty
+FitsContents-empty k v e = let none = contents.get-empty {X = ℤ} key_cmp k in absurd (cc (none, e))
 
-pub assign_fits : (c : Contents) (k : List ℕ) (o : Option ℤ) → FitsContents c
+pub FitsContents-assign : (c : Contents) (k : List ℕ) (o : Option ℤ) → FitsContents c
     → ((v : ℤ) → o ≡ Some v → IsStoreKey k × FitsSigned w64 v) → FitsContents (assign c k o)
-assign_fits c k o h put q v e =
+FitsContents-assign c k o h put q v e =
     elim (get-assign_cases c k o q) [
       | inl here ↦ subst (λ (q : List ℕ). IsStoreKey q × FitsSigned w64 v) (sym here.0)
           (put v (sym here.1 ∙ e))
       | inr other ↦ h q v (sym other.1 ∙ e)
     ]
 
-pub insert_fits : (c : Contents) (k : List ℕ) (v : ℤ) → FitsContents c → IsStoreKey k
+pub FitsContents-insert : (c : Contents) (k : List ℕ) (v : ℤ) → FitsContents c → IsStoreKey k
     → FitsSigned w64 v → FitsContents (contents.insert c k v)
-insert_fits c k v h key fits =
-    assign_fits c k (Some v) h
+FitsContents-insert c k v h key fits =
+    FitsContents-assign c k (Some v) h
     (λ w e. let same : v ≡ w = cc e in (key, subst (FitsSigned w64) same fits))
 
 put_pairs_fit : (ps : List (List ℕ × ℤ)) (c : Contents) → AllByRecursion IsStored ps
     → FitsContents c → FitsContents (put_pairs ps c)
 put_pairs_fit [] c h k = k
 put_pairs_fit (p ∷ ps) c h k =
-    put_pairs_fit ps (contents.insert c p.0 p.1) h.1 (insert_fits c p.0 p.1 k h.0.0 h.0.1)
+    put_pairs_fit ps (contents.insert c p.0 p.1) h.1 (FitsContents-insert c p.0 p.1 k h.0.0 h.0.1)
 
 -- ---- a base
 
@@ -185,14 +188,15 @@ pub record FitsBase (ids : List Id) (c : Contents) : Type 0 where
   pub stored : FitsContents c
 
 -- the instances and the store of a base are within their limits
-pub base_fits : (bytes : List ℕ) (done : List Id) (stored : Contents) → IsBase bytes done stored
+pub FitsBase-from_IsBase : (bytes : List ℕ) (done : List Id) (stored : Contents)
+    → IsBase bytes done stored
     → FitsBase done stored
-base_fits bytes done stored is =
-    let h = reading_of_base bytes done stored is in
+FitsBase-from_IsBase bytes done stored is =
+    let h = IsReadBase-from_IsBase bytes done stored is in
     let seen : FitsState h.seen =
     subst (λ (r : Result Progress ℕ). IfOk r FitsState) h.read
     (reading_fits nothing_seen 1 (lines_of bytes) nothing_fits) in
-    let all = put_pairs_fit h.seen.stored contents.empty seen.stored empty_fits in
+    let all = put_pairs_fit h.seen.stored contents.empty seen.stored FitsContents-empty in
     record {
       done = λ x c. seen.done x (subst (λ (ids : List Id). Contains ids x) h.done_is c);
       stored = subst FitsContents (sym h.stored_is) all;

@@ -8,7 +8,7 @@ use Rattle.epx_report.specs.Bases.{Say}
 use Rattle.epx_report.specs.Forms.{base_line_of}
 use Rattle.epx_report.specs.inner.Progress.{Progress, after, is_complete}
 use Rattle.epx_report.specs.inner.BaseReadings.{after_line, after_all, or_line_number, reading}
-use Rattle.epx_report.proofs.SaidLineLemmas.{first_some, same_somes}
+use Rattle.epx_report.proofs.SaidLineLemmas.{map-Some_cons, map-Some_is_injective}
 
 -- ---- lines and what they say
 
@@ -19,17 +19,17 @@ say_more l ls x said e h = ap₂ (λ o os. o ∷ os) e h
 say_less : (l : List ℕ) (ls : List (List ℕ)) (said : List BaseLine) → Say (l ∷ ls) said
     → (x : BaseLine) × (rest : List BaseLine) × (base_line_of l ≡ Some x) × Say ls rest
     × (said ≡ x ∷ rest)
-say_less l ls said h = first_some (base_line_of l) (map base_line_of ls) said h
+say_less l ls said h = map-Some_cons (base_line_of l) (map base_line_of ls) said h
 
-pub say_first : (n : ℕ) (ls : List (List ℕ)) (said : List BaseLine) → Say ls said
+pub Say-take : (n : ℕ) (ls : List (List ℕ)) (said : List BaseLine) → Say ls said
     → Say (take n ls) (take n said)
-say_first n ls said h =
+Say-take n ls said h =
     sym (take-map base_line_of n ls) ∙ ap (take n) h ∙ take-map Some n said
 
 -- lines say one thing
-pub say_one : (ls : List (List ℕ)) (said other : List BaseLine) → Say ls said → Say ls other
+pub Say-is_unique : (ls : List (List ℕ)) (said other : List BaseLine) → Say ls said → Say ls other
     → said ≡ other
-say_one ls said other p q = same_somes said other (sym p ∙ q)
+Say-is_unique ls said other p q = map-Some_is_injective said other (sym p ∙ q)
 
 -- ---- reading all lines
 
@@ -45,12 +45,12 @@ goes s l ls t e = next (after s l) refl
     next (Some u) some = (u, some, rw some at e)
 
 -- the first of allowed lines are allowed
-pub goes_first : (s : Progress) (ls more : List BaseLine) (t : Progress)
+pub after_all-front : (s : Progress) (ls more : List BaseLine) (t : Progress)
     → after_all s (ls ++ more) ≡ Some t → (u : Progress) × (after_all s ls ≡ Some u)
-goes_first s [] more t e = (s, refl)
-goes_first s (l ∷ ls) more t e =
+after_all-front s [] more t e = (s, refl)
+after_all-front s (l ∷ ls) more t e =
     let step = goes s l (ls ++ more) t e in
-    let rest = goes_first step.0 ls more t step.2 in
+    let rest = after_all-front step.0 ls more t step.2 in
     (rest.0, rw step.1 rest.1)
 
 -- the lines are allowed from s on
@@ -182,10 +182,10 @@ reads_end s n false e = subst (Reads s n []) (sym (reading-early s n e)) (
   inr (refl, record { said = []; end = s; are_said = refl; reached = refl; few = e }),
 )
 
-pub reads_all : (s : Progress) (n : ℕ) (ls : List (List ℕ)) → Reads s n ls (reading s n ls)
-reads_all s n [] = reads_end s n (is_complete s) refl
-reads_all s n (l ∷ ls) = reads_on s n l ls (base_line_of l) (after_line s l) refl refl
-    (λ t. reads_all t (n + 1) ls)
+pub Reads-reading : (s : Progress) (n : ℕ) (ls : List (List ℕ)) → Reads s n ls (reading s n ls)
+Reads-reading s n [] = reads_end s n (is_complete s) refl
+Reads-reading s n (l ∷ ls) = reads_on s n l ls (base_line_of l) (after_line s l) refl refl
+    (λ t. Reads-reading t (n + 1) ls)
 
 -- all lines of a base are read
 pub reading-all : (s : Progress) (n : ℕ) (ls : List (List ℕ)) (said : List BaseLine) (t : Progress)

@@ -5,44 +5,46 @@ use Rattle.std.proofs.Common.{AllPairs, Option, Some, None, option_map, refl, sy
 use Rattle.std.proofs.Common.{arith, append-nil, append_assoc, is_lt, if◌then◌else◌}
 use Rattle.epx_types.proofs.Common.{nat_tests, nil_from_length, length_push, Contains-append_left}
 use Rattle.epx_types.proofs.Common.{Contains-push_cases, Contains-push, insert_key, is_sorted}
-use Rattle.epx_types.proofs.Common.{below_all, id_cmp, key_cmp, is_among, first_of, second_of}
-use Rattle.epx_types.proofs.Common.{less_from_is_lt, Contains-nil, Contains-cons_cases}
-use Rattle.epx_types.proofs.Common.{AllPairs-append, AllPairs-from_parts, same_ids, IsRising-push}
-use Rattle.epx_types.proofs.Common.{is_among_cases}
+use Rattle.epx_types.proofs.Common.{below_all, id_cmp, key_cmp, is_among, and-first, and-second}
+use Rattle.epx_types.proofs.Common.{Less-from_is_lt, Contains-nil, Contains-cons_cases}
+use Rattle.epx_types.proofs.Common.{AllPairs-append, AllPairs-from_parts, IsRising-is_unique}
+use Rattle.epx_types.proofs.Common.{IsRising-push}
+use Rattle.epx_types.proofs.Common.{is_among-cases}
 use Rattle.epx_types.specs.declared.id.Id.{Id}
 use Rattle.epx_lines.proofs.EntryLemmas.{IsRising-insert}
-use Rattle.epx_store.proofs.RisingEntryLemmas.{both_of, below_all_trans}
+use Rattle.epx_store.proofs.RisingEntryLemmas.{T-both, below_all-trans}
 use Rattle.epx_report.specs.declared.from_value.Counts.{Counts}
 use Rattle.epx_report.specs.declared.from_value.BaseLine.{BaseLine}
 use Rattle.epx_report.specs.declared.from_value.BaseLine.TheVariants as line
 use Rattle.epx_report.specs.Bases.{BaseParts, lines_in_order, AreDistinctIds, AreDoneIn}
 use Rattle.epx_report.specs.inner.Progress.{Progress, nothing_seen, after, last, is_after_last}
 use Rattle.epx_report.specs.inner.BaseReadings.{after_all}
-use Rattle.epx_report.proofs.IdSetLemmas.{above_each}
-use Rattle.epx_report.proofs.LineOrderLemmas.{done_more, replies_more, waiting_more, stored_more}
+use Rattle.epx_report.proofs.IdSetLemmas.{Below-if_after_last}
+use Rattle.epx_report.proofs.LineOrderLemmas.{lines-done, lines-replies, lines-waiting}
+use Rattle.epx_report.proofs.LineOrderLemmas.{lines-stored}
 use Rattle.epx_report.proofs.RisingListLemmas.{Contains-insert_itself, Contains-insert_other}
 use Rattle.epx_report.proofs.RisingListLemmas.{Contains-insert_cases, last-cons}
 use Rattle.epx_report.proofs.WholeBaseLemmas.{state}
 
 -- ---- tests
 
-pub allowed : {S : Type 0} (b : Bool) (x t : S) → (if b then Some x else None) ≡ Some t
+pub Some-from_if : {S : Type 0} (b : Bool) (x t : S) → (if b then Some x else None) ≡ Some t
     → (b ≡ true) × (x ≡ t)
-allowed true x t e = (refl, cc e)
-allowed false x t e = absurd (cc e)
+Some-from_if true x t e = (refl, cc e)
+Some-from_if false x t e = absurd (cc e)
 
-pub both : (a b : Bool) → (a && b) ≡ true → (a ≡ true) × (b ≡ true)
-both true b e = (refl, e)
-both false b e = absurd (cc e)
+pub and-both : (a b : Bool) → (a && b) ≡ true → (a ≡ true) × (b ≡ true)
+and-both true b e = (refl, e)
+and-both false b e = absurd (cc e)
 
-pub equal : (m n : ℕ) → (m == n) ≡ true → m ≡ n
-equal m n e = grind (arith, nat_tests)
+pub eq-from_true : (m n : ℕ) → (m == n) ≡ true → m ≡ n
+eq-from_true m n e = grind (arith, nat_tests)
 
 lower : (m n : ℕ) → nat_lt m n ≡ true → m < n
 lower m n e = grind (arith, nat_tests)
 
 is_new : (done : List Id) (x : Id) → not (is_among done x) ≡ true → ¬ Contains done x
-is_new done x e = elim (is_among_cases done x)
+is_new done x e = elim (is_among-cases done x)
     [ inl found ↦ absurd (cc (ap not found.0, e)) | inr missed ↦ missed.1 ]
 
 -- ---- lists with one more at the end
@@ -58,24 +60,24 @@ once_push xs x once new =
       | inr none ↦ Contains-nil z none
     ])
 
-pub sorted_push : (es : List (List ℕ × ℤ)) (e : List ℕ × ℤ) → T (is_sorted key_cmp es)
+pub is_sorted-push : (es : List (List ℕ × ℤ)) (e : List ℕ × ℤ) → T (is_sorted key_cmp es)
     → is_after_last key_cmp (option_map (λ p. p.0) (last es)) e.0 ≡ true
     → T (is_sorted key_cmp (es ++ e ∷ []))
-sorted_push [] e rises above = tt
-sorted_push (d ∷ []) e rises above =
-    both_of _ _ (both_of _ _ (subst T (sym above) tt) tt) tt
-sorted_push (d ∷ c ∷ es) e rises above =
+is_sorted-push [] e rises above = tt
+is_sorted-push (d ∷ []) e rises above =
+    T-both _ _ (T-both _ _ (subst T (sym above) tt) tt) tt
+is_sorted-push (d ∷ c ∷ es) e rises above =
     let later = ap (λ o. is_after_last key_cmp (option_map (λ p. p.0) o) e.0)
     (sym (last-cons d c es)) ∙ above in
-    let rest = sorted_push (c ∷ es) e
-    (second_of (below_all key_cmp d.0 (c ∷ es)) (is_sorted key_cmp (c ∷ es)) rises) later in
+    let rest = is_sorted-push (c ∷ es) e
+    (and-second (below_all key_cmp d.0 (c ∷ es)) (is_sorted key_cmp (c ∷ es)) rises) later in
     let next : T (is_lt (key_cmp d.0 c.0)) =
-    first_of (is_lt (key_cmp d.0 c.0)) (below_all key_cmp d.0 es)
-    (first_of (below_all key_cmp d.0 (c ∷ es)) (is_sorted key_cmp (c ∷ es)) rises) in
-    both_of _ _
-    (both_of _ _ next (below_all_trans d.0 c.0 (es ++ e ∷ [])
-    (less_from_is_lt (key_cmp d.0 c.0) next)
-    (first_of (below_all key_cmp c.0 (es ++ e ∷ [])) (is_sorted key_cmp (es ++ e ∷ [])) rest)))
+    and-first (is_lt (key_cmp d.0 c.0)) (below_all key_cmp d.0 es)
+    (and-first (below_all key_cmp d.0 (c ∷ es)) (is_sorted key_cmp (c ∷ es)) rises) in
+    T-both _ _
+    (T-both _ _ next (below_all-trans d.0 c.0 (es ++ e ∷ [])
+    (Less-from_is_lt (key_cmp d.0 c.0) next)
+    (and-first (below_all key_cmp c.0 (es ++ e ∷ [])) (is_sorted key_cmp (es ++ e ∷ [])) rest)))
     rest
 
 -- ---- the first lines of a base
@@ -139,7 +141,7 @@ module _ (p : BaseParts) (done : List Id) (h : IsBegun p)
   module _ (x : Id) (no_reply : p.replied ≡ []) (none_waits : p.waiting ≡ [])
       (none_stored : p.stored ≡ []) (above : is_after_last id_cmp (last done) x ≡ true) where
     all_done : done ≡ p.done
-    all_done = same_ids done p.done those.rising h.distinct.done_rise
+    all_done = IsRising-is_unique done p.done those.rising h.distinct.done_rise
         (λ y k. elim ((those.each y).0 k) [
           | inl was ↦ was
           | inr replied ↦ absurd (no_element p.replied y no_reply replied)
@@ -152,7 +154,7 @@ module _ (p : BaseParts) (done : List Id) (h : IsBegun p)
     begun-done = record {
       distinct = record {
         done_rise = IsRising-push p.done x h.distinct.done_rise
-            (λ y k. above_each p.done x y h.distinct.done_rise past k);
+            (λ y k. Below-if_after_last p.done x y h.distinct.done_rise past k);
         replied_once = h.distinct.replied_once;
         replied_new = λ y k. absurd (no_element p.replied y no_reply k);
         waiting_rise = h.distinct.waiting_rise;
@@ -183,7 +185,7 @@ module _ (p : BaseParts) (done : List Id) (h : IsBegun p)
           ])
           (inl (Contains-push p.done x));
       state_is = refl;
-      lines_are = done_more p.counts p.done (x ∷ []) p.replied p.waiting p.stored no_reply
+      lines_are = lines-done p.counts p.done (x ∷ []) p.replied p.waiting p.stored no_reply
           none_waits none_stored;
     }
 
@@ -233,7 +235,7 @@ module _ (p : BaseParts) (done : List Id) (h : IsBegun p)
           (inr (Contains-push p.replied x));
       state_is = ap (λ n. state p.counts (insert_key id_cmp done x) n p.waiting p.stored)
           (length_push p.replied x);
-      lines_are = replies_more p.counts p.done p.replied (x ∷ []) p.waiting p.stored none_waits
+      lines_are = lines-replies p.counts p.done p.replied (x ∷ []) p.waiting p.stored none_waits
           none_stored;
     }
 
@@ -252,7 +254,7 @@ module _ (p : BaseParts) (done : List Id) (h : IsBegun p)
         replied_once = h.distinct.replied_once;
         replied_new = h.distinct.replied_new;
         waiting_rise = IsRising-push p.waiting x h.distinct.waiting_rise
-            (λ y k. above_each p.waiting x y h.distinct.waiting_rise above k);
+            (λ y k. Below-if_after_last p.waiting x y h.distinct.waiting_rise above k);
         waiting_left = λ y k. elim (Contains-push_cases p.waiting x y k) [
           | inl was ↦ h.distinct.waiting_left y was
           | inr same ↦ subst (λ z. (¬ Contains p.done z) × (¬ Contains p.replied z)) same
@@ -274,7 +276,7 @@ module _ (p : BaseParts) (done : List Id) (h : IsBegun p)
       begun = begun-waiting;
       are_done = those;
       state_is = refl;
-      lines_are = waiting_more p.counts p.done p.replied p.waiting (x ∷ []) p.stored
+      lines_are = lines-waiting p.counts p.done p.replied p.waiting (x ∷ []) p.stored
           none_stored_yet;
     }
 
@@ -289,7 +291,7 @@ module _ (p : BaseParts) (done : List Id) (h : IsBegun p)
       done = done;
       begun = record {
         distinct = h.distinct;
-        stored_rise = sorted_push p.stored e h.stored_rise above;
+        stored_rise = is_sorted-push p.stored e h.stored_rise above;
         few_replies = h.few_replies;
         few_waiting = h.few_waiting;
         waiting_later = inr all;
@@ -297,7 +299,7 @@ module _ (p : BaseParts) (done : List Id) (h : IsBegun p)
       };
       are_done = those;
       state_is = refl;
-      lines_are = stored_more p.counts p.done p.replied p.waiting p.stored (e ∷ []);
+      lines_are = lines-stored p.counts p.done p.replied p.waiting p.stored (e ∷ []);
     }
 
   -- ---- any line that is allowed
@@ -307,36 +309,37 @@ module _ (p : BaseParts) (done : List Id) (h : IsBegun p)
   unfolding after
   after_line (line.Header d) t e = absurd (cc e)
   after_line (line.Done x) t e =
-      let goes = allowed _ (state p.counts (insert_key id_cmp done x) (length p.replied) p.waiting
+      let goes =
+      Some-from_if _ (state p.counts (insert_key id_cmp done x) (length p.replied) p.waiting
       p.stored) t e in
-      let rest = both _ _ goes.0 in
-      let more = both _ _ rest.0 in
-      let first = both _ _ more.0 in
+      let rest = and-both _ _ goes.0 in
+      let more = and-both _ _ rest.0 in
+      let first = and-both _ _ more.0 in
       subst (λ s. IsAfter s (lines_in_order p ++ line.Done x ∷ [])) goes.1
-      (after-done x (nil_from_length p.replied (equal _ _ first.0))
-      (nil_from_length p.waiting (equal _ _ first.1))
-      (nil_from_length p.stored (equal _ _ more.1)) rest.1)
+      (after-done x (nil_from_length p.replied (eq-from_true _ _ first.0))
+      (nil_from_length p.waiting (eq-from_true _ _ first.1))
+      (nil_from_length p.stored (eq-from_true _ _ more.1)) rest.1)
   after_line (line.Reply x) t e =
-      let goes = allowed _ (state p.counts (insert_key id_cmp done x) (length p.replied + 1)
+      let goes = Some-from_if _ (state p.counts (insert_key id_cmp done x) (length p.replied + 1)
       p.waiting p.stored) t e in
-      let tests = both _ _ goes.0 in
+      let tests = and-both _ _ goes.0 in
       subst (λ s. IsAfter s (lines_in_order p ++ line.Reply x ∷ [])) goes.1
       (after-reply x (lower _ _ tests.0) (is_new done x tests.1))
   after_line (line.Waiting x) t e =
-      let goes = allowed _ (state p.counts done (length p.replied) (p.waiting ++ x ∷ [])
+      let goes = Some-from_if _ (state p.counts done (length p.replied) (p.waiting ++ x ∷ [])
       p.stored) t e in
-      let rest = both _ _ goes.0 in
-      let more = both _ _ rest.0 in
-      let first = both _ _ more.0 in
+      let rest = and-both _ _ goes.0 in
+      let more = and-both _ _ rest.0 in
+      let first = and-both _ _ more.0 in
       subst (λ s. IsAfter s (lines_in_order p ++ line.Waiting x ∷ [])) goes.1
-      (after-waiting x (equal _ _ first.0) (lower _ _ first.1) more.1 (is_new done x rest.1))
+      (after-waiting x (eq-from_true _ _ first.0) (lower _ _ first.1) more.1 (is_new done x rest.1))
   after_line (line.Store k v) t e =
-      let goes = allowed _ (state p.counts done (length p.replied) p.waiting
+      let goes = Some-from_if _ (state p.counts done (length p.replied) p.waiting
       (p.stored ++ (k, v) ∷ [])) t e in
-      let rest = both _ _ goes.0 in
-      let first = both _ _ rest.0 in
+      let rest = and-both _ _ goes.0 in
+      let first = and-both _ _ rest.0 in
       subst (λ s. IsAfter s (lines_in_order p ++ line.Store k v ∷ [])) goes.1
-      (after-store (k, v) (equal _ _ first.0) (equal _ _ first.1) rest.1)
+      (after-store (k, v) (eq-from_true _ _ first.0) (eq-from_true _ _ first.1) rest.1)
 
 -- ---- all lines
 
@@ -348,8 +351,8 @@ IsReached s ls = ((s ≡ nothing_seen) × (ls ≡ [])) ⊎ IsAfter s ls
 abbrev pub header_parts : Counts → BaseParts
 header_parts c = record { counts = c; done = []; replied = []; waiting = []; stored = [] }
 
-pub begun_header : (c : Counts) → IsBegun (header_parts c)
-begun_header c = record {
+pub IsBegun-header_parts : (c : Counts) → IsBegun (header_parts c)
+IsBegun-header_parts c = record {
   distinct = record {
     done_rise = tt;
     replied_once = λ i j d k l. absurd (omega arith);
@@ -369,7 +372,7 @@ unfolding after
 after_header (line.Header c) t e = record {
   parts = header_parts c;
   done = [];
-  begun = begun_header c;
+  begun = IsBegun-header_parts c;
   are_done = record {
     rising = tt;
     each = λ x. (λ h. inl h, λ h. elim h [ inl was ↦ was | inr new ↦ new ]);
@@ -391,14 +394,15 @@ reached_on s before l t (inr h) e =
     subst (λ ls. IsAfter t (ls ++ l ∷ [])) h.lines_are
     (after_line h.parts h.done h.begun h.are_done l t (ap (λ u. after u l) h.state_is ∙ e))
 
-pub reached_all : (s : Progress) (before ls : List BaseLine) (t : Progress) → IsReached s before
+pub IsReached-after_all : (s : Progress) (before ls : List BaseLine) (t : Progress)
+    → IsReached s before
     → after_all s ls ≡ Some t → IsReached t (before ++ ls)
-reached_all s before [] t h e =
+IsReached-after_all s before [] t h e =
     let same : s ≡ t = cc e in
     subst (λ u. IsReached u (before ++ [])) same
     (subst (IsReached s) (sym (append-nil before)) h)
-reached_all s before (l ∷ ls) t h e =
-    next (after s l) refl (λ u. reached_all u (before ++ l ∷ []) ls t)
+IsReached-after_all s before (l ∷ ls) t h e =
+    next (after s l) refl (λ u. IsReached-after_all u (before ++ l ∷ []) ls t)
   where
     next : (o : Option Progress) → after s l ≡ o
         → ((u : Progress) → IsReached u (before ++ l ∷ []) → after_all u ls ≡ Some t

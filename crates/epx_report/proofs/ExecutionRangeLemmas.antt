@@ -11,7 +11,8 @@ use Rattle.std.specs.FinMap as contents
 use Rattle.epx_report.specs.ReportReadings.{FitsOptional, FitsReply}
 use Rattle.epx_report.proofs.JsonStringLemmas.{IfSome-test, IfSome-branch}
 use Rattle.epx_report.proofs.LineRangeLemmas.{FitsOp, FitsCommand}
-use Rattle.epx_report.proofs.BaseRangeLemmas.{FitsContents, assign_fits, insert_fits}
+use Rattle.epx_report.proofs.BaseRangeLemmas.{FitsContents, FitsContents-assign}
+use Rattle.epx_report.proofs.BaseRangeLemmas.{FitsContents-insert}
 
 -- ---- one operation
 
@@ -35,12 +36,13 @@ operate_fits : (op : Op) (c : Contents) → FitsOp op → FitsContents c
     → IfSome (operate op c) FitsStep
 operate_fits (Get k) c s h =
     (h, ((is_value_or_null (contents.get c k) (λ v e. (h k v e).1), tt), omega arith))
-operate_fits (Put k v) c s h = (insert_fits c k v h s.0 s.1, (tt, omega arith))
-operate_fits (Del k) c s h = (assign_fits c k None h (λ v e. absurd (cc e)), (tt, omega arith))
+operate_fits (Put k v) c s h = (FitsContents-insert c k v h s.0 s.1, (tt, omega arith))
+operate_fits (Del k) c s h =
+    (FitsContents-assign c k None h (λ v e. absurd (cc e)), (tt, omega arith))
 operate_fits (Add k n) c s h =
     let sum = amount_at c k +ℤ n in
     IfSome-test FitsStep (fits_i64 sum) _ _
-    (λ e. (insert_fits c k sum h s (signed_from_test sum e), (tt, omega arith)))
+    (λ e. (FitsContents-insert c k sum h s (signed_from_test sum e), (tt, omega arith)))
     (λ _. tt)
 operate_fits (Is k v) c s h =
     IfSome-branch FitsStep (same_value (contents.get c k) v) _ _
@@ -49,7 +51,7 @@ operate_fits (Floor k least) c s h =
     IfSome-branch FitsStep (int_lt (amount_at c k) least) _ _
     tt (h, (tt, omega arith))
 operate_fits (Copy k j) c s h =
-    (assign_fits c j (contents.get c k) h (λ v e. (s, (h k v e).1)), (tt, omega arith))
+    (FitsContents-assign c j (contents.get c k) h (λ v e. (s, (h k v e).1)), (tt, omega arith))
 
 -- ---- one command
 
@@ -97,10 +99,10 @@ pub record FitsExecution (e : Execution) : Type 0 where
   pub final : FitsContents e.final
 
 -- commands that fit, executed on contents that fit
-pub execute_fits : (commands : List (List Op)) (c : Contents)
+pub FitsExecution-execute : (commands : List (List Op)) (c : Contents)
     → AllByRecursion FitsCommand commands → FitsContents c → FitsExecution (execute commands c)
-execute_fits [] c h k = record { replies = tt; final = k }
-execute_fits (ops ∷ rest) c h k =
+FitsExecution-execute [] c h k = record { replies = tt; final = k }
+FitsExecution-execute (ops ∷ rest) c h k =
     let first = command_fits ops c h.0 k in
-    let others = execute_fits rest (command_on ops c).after h.1 first.after in
+    let others = FitsExecution-execute rest (command_on ops c).after h.1 first.after in
     record { replies = (first.reply, others.replies); final = others.final }

@@ -5,7 +5,7 @@ use Rattle.std.proofs.Common.{ap, ◌∙◌, subst, arith, append-nil, append_as
 use Rattle.epx_types.proofs.Common.{Contains-append_cases, nat_cmp, ordering_then, nat_cmp_is}
 use Rattle.epx_types.proofs.Common.{nat_cmp_total, Below, IsRising, Contains-nil}
 use Rattle.epx_types.proofs.Common.{Contains-cons_cases, AllPairs-append, AllPairs-from_parts}
-use Rattle.epx_types.proofs.Common.{AllPairs-head, AllPairs-tail, id_cmp_total, below_irrefl}
+use Rattle.epx_types.proofs.Common.{AllPairs-head, AllPairs-tail, id_cmp-IsTotalOrder, is_lt-irrefl}
 use Rattle.epx_types.proofs.Common.{AllPairs-from_IsRising, BelowAll-from_each}
 use Rattle.epx_types.proofs.Common.{IsRising-from_AllPairs}
 use Rattle.epx_types.specs.declared.id.Id.{Id}
@@ -14,8 +14,8 @@ use Rattle.epx_report.specs.declared.from_value.BaseLine.{BaseLine}
 use Rattle.epx_report.specs.declared.from_value.BaseLine.TheVariants as line
 use Rattle.epx_report.specs.Bases.{BaseParts, lines_in_order, AreBaseParts}
 use Rattle.epx_report.proofs.BegunBaseLemmas.{IsBegun}
-use Rattle.epx_report.proofs.LineOrderLemmas.{replies_more, waiting_more}
-use Rattle.epx_report.proofs.RisingListLemmas.{is_true}
+use Rattle.epx_report.proofs.LineOrderLemmas.{lines-replies, lines-waiting}
+use Rattle.epx_report.proofs.RisingListLemmas.{T-true}
 
 -- ---- further Ids
 
@@ -71,7 +71,7 @@ once : (xs : List Id) → AllPairs Below xs → AllPairs (λ x y. x ≢ y) xs
 once [] h = λ i j d k l. absurd (omega arith)
 once (x ∷ xs) h =
     AllPairs-from_parts (λ y z. y ≢ z) x xs
-    (λ y k e. below_irrefl id_cmp_total x
+    (λ y k e. is_lt-irrefl id_cmp-IsTotalOrder x
     (subst (Below x) (sym e) (AllPairs-head Below x xs y h k)))
     (once xs (AllPairs-tail Below x xs h))
 
@@ -163,7 +163,7 @@ replies_follow p h =
       | inl few ↦ (
         with_replies p h few,
         map line.Reply (further p h few),
-        replies_more p.counts p.done p.replied (further p h few) p.waiting p.stored
+        lines-replies p.counts p.done p.replied (further p h few) p.waiting p.stored
             (none_waits p h few) (none_stored p h few),
         begun_with p h few,
         all_there p h few,
@@ -218,7 +218,7 @@ module _ (p : BaseParts) (h : IsBegun p) (all : length p.replied ≡ p.counts.ex
         )
       ];
     };
-    stored_rise = is_true _ h.stored_rise;
+    stored_rise = T-true _ h.stored_rise;
     replies_counted = all;
     waiting_counted = omega (
       arith,
@@ -229,11 +229,11 @@ module _ (p : BaseParts) (h : IsBegun p) (all : length p.replied ≡ p.counts.ex
   }
 
 -- all replies and all waiting lines are there
-pub whole_if_counted : (p : BaseParts) → IsBegun p → length p.replied ≡ p.counts.executed
+pub AreBaseParts-if_counted : (p : BaseParts) → IsBegun p → length p.replied ≡ p.counts.executed
     → length p.waiting ≡ p.counts.waiting → AreBaseParts p
-whole_if_counted p h all whole = record {
+AreBaseParts-if_counted p h all whole = record {
   distinct = h.distinct;
-  stored_rise = is_true _ h.stored_rise;
+  stored_rise = T-true _ h.stored_rise;
   replies_counted = all;
   waiting_counted = whole;
 }
@@ -246,7 +246,7 @@ waiting_follow p h all =
       | inl few ↦ (
         with_waiting p h all few,
         map line.Waiting (waiters p h all few),
-        waiting_more p.counts p.done p.replied p.waiting (waiters p h all few) p.stored
+        lines-waiting p.counts p.done p.replied p.waiting (waiters p h all few) p.stored
             (nothing_stored p h all few),
         whole_with p h all few,
       )
@@ -254,7 +254,7 @@ waiting_follow p h all =
         p,
         [],
         sym (append-nil (lines_in_order p)),
-        whole_if_counted p h all whole,
+        AreBaseParts-if_counted p h all whole,
       )
     ]
   where
@@ -262,10 +262,10 @@ waiting_follow p h all =
     cases m n l = grind arith
 
 -- further lines make the first lines of a base whole
-pub lines_follow : (p : BaseParts) → IsBegun p
+pub AreBaseParts-exists : (p : BaseParts) → IsBegun p
     → (q : BaseParts) × (more : List BaseLine) × (lines_in_order p ++ more ≡ lines_in_order q)
     × AreBaseParts q
-lines_follow p h =
+AreBaseParts-exists p h =
     let replies = replies_follow p h in
     let waiting = waiting_follow replies.0 replies.3 replies.4 in (
       waiting.0,

@@ -10,8 +10,10 @@ use Rattle.epx_types.proofs.Common.{Contains-append_cases, Contains-push, Contai
 use Rattle.epx_types.proofs.Common.{Contains-permutation, IsPermutation-sym, slice_get_within}
 use Rattle.epx_types.proofs.Common.{get_or_from_slice_get, id_cmp, Below, IsRising, is_among}
 use Rattle.epx_types.proofs.Common.{Contains-nil, Contains-head, Contains-cons, Contains-cons_cases}
-use Rattle.epx_types.proofs.Common.{id_cmp_total, id_cmp-IsAntisymmetric, below_irrefl, below_trans}
-use Rattle.epx_types.proofs.Common.{same_ids, IsRising-push, rising_from_strict, is_among_cases}
+use Rattle.epx_types.proofs.Common.{id_cmp-IsTotalOrder, id_cmp-IsAntisymmetric, is_lt-irrefl}
+use Rattle.epx_types.proofs.Common.{is_lt-trans}
+use Rattle.epx_types.proofs.Common.{IsRising-is_unique, IsRising-push, IsRising-from_strict}
+use Rattle.epx_types.proofs.Common.{is_among-cases}
 use Rattle.epx_types.specs.declared.id.Id.{Id}
 use Rattle.std.specs.List.{dedup}
 use Rattle.std.specs.List.Retain.{IsFiltered, DiffersFromLast}
@@ -55,16 +57,16 @@ Contains-with_cases rising (y ∷ late) x h =
       | inr rest ↦ inr (Contains-cons y late x rest)
     ]
 
-pub not_among : (xs : List Id) (x : Id) → ¬ Contains xs x → is_among xs x ≡ false
-not_among xs x h = elim (is_among_cases xs x)
+pub is_among-if_missing : (xs : List Id) (x : Id) → ¬ Contains xs x → is_among xs x ≡ false
+is_among-if_missing xs x h = elim (is_among-cases xs x)
     [ inl found ↦ absurd (h found.1) | inr missed ↦ missed.0 ]
 
 among : (xs : List Id) (x : Id) → Contains xs x → is_among xs x ≡ true
-among xs x h = elim (is_among_cases xs x)
+among xs x h = elim (is_among-cases xs x)
     [ inl found ↦ found.0 | inr missed ↦ absurd (missed.1 h) ]
 
 contained : (xs : List Id) (x : Id) → is_among xs x ≡ true → Contains xs x
-contained xs x e = elim (is_among_cases xs x)
+contained xs x e = elim (is_among-cases xs x)
     [ inl found ↦ found.1 | inr missed ↦ absurd (cc (e, missed.0)) ]
 
 -- ---- the last one
@@ -74,22 +76,23 @@ last-push [] x = refl
 last-push (y ∷ []) x = refl
 last-push (y ∷ z ∷ zs) x = last-cons y z (zs ++ x ∷ []) ∙ last-push (z ∷ zs) x
 
-pub above_each : (xs : List Id) (x y : Id) → IsRising xs → is_after_last id_cmp (last xs) x ≡ true
+pub Below-if_after_last : (xs : List Id) (x y : Id) → IsRising xs
+    → is_after_last id_cmp (last xs) x ≡ true
     → Contains xs y → Below y x
-above_each [] x y rising past h = absurd (Contains-nil y h)
-above_each (z ∷ []) x y rising past h =
+Below-if_after_last [] x y rising past h = absurd (Contains-nil y h)
+Below-if_after_last (z ∷ []) x y rising past h =
     elim (Contains-cons_cases z [] y h) [
       | inl same ↦ subst (λ w. Below w x) same past
       | inr none ↦ absurd (Contains-nil y none)
     ]
-above_each (z ∷ w ∷ ws) x y rising past h =
+Below-if_after_last (z ∷ w ∷ ws) x y rising past h =
     let further : is_after_last id_cmp (last (w ∷ ws)) x ≡ true =
     ap (λ o. is_after_last id_cmp o x) (sym (last-cons z w ws)) ∙ past in
     elim (Contains-cons_cases z (w ∷ ws) y h) [
       | inl same ↦ subst (λ v. Below v x) same
-          (below_trans id_cmp_total z w x rising.0.0
-          (above_each (w ∷ ws) x w rising.1 further (Contains-head w ws)))
-      | inr rest ↦ above_each (w ∷ ws) x y rising.1 further rest
+          (is_lt-trans id_cmp-IsTotalOrder z w x rising.0.0
+          (Below-if_after_last (w ∷ ws) x w rising.1 further (Contains-head w ws)))
+      | inr rest ↦ Below-if_after_last (w ∷ ws) x y rising.1 further rest
     ]
 
 -- no Id of a rising list is greater than all of them
@@ -97,7 +100,8 @@ within_not_above : (xs : List Id) (x : Id) → IsRising xs → Contains xs x
     → is_after_last id_cmp (last xs) x ≡ false
 within_not_above xs x rising h =
     elim (cases_Bool (is_after_last id_cmp (last xs) x)) [
-      | inl past ↦ absurd (below_irrefl id_cmp_total x (above_each xs x x rising past h))
+      | inl past ↦ absurd
+          (is_lt-irrefl id_cmp-IsTotalOrder x (Below-if_after_last xs x x rising past h))
       | inr level ↦ level
     ]
 
@@ -155,16 +159,17 @@ module _ (rising late : List Id) (h : AreRisingAndLate rising late) where
   -- ---- an Id greater than all others
 
   module _ (x : Id) (past : is_after_last id_cmp (last rising) x ≡ true) where
-    pub above_is_new : true ≡ not (is_among (with_late rising late) x)
-    above_is_new =
-        sym (ap not (not_among (with_late rising late) x
+    pub is_among-if_above : true ≡ not (is_among (with_late rising late) x)
+    is_among-if_above =
+        sym (ap not (is_among-if_missing (with_late rising late) x
         (λ k. let level = none_above_last x k in absurd (cc (past, level)))))
 
     rising_pushed : IsRising (rising ++ x ∷ [])
-    rising_pushed = IsRising-push rising x h.rises (λ y k. above_each rising x y h.rises past k)
+    rising_pushed =
+        IsRising-push rising x h.rises (λ y k. Below-if_after_last rising x y h.rises past k)
 
-    pub pushed : AreRisingAndLate (rising ++ x ∷ []) late
-    pushed = record {
+    pub AreRisingAndLate-push : AreRisingAndLate (rising ++ x ∷ []) late
+    AreRisingAndLate-push = record {
       rises = rising_pushed;
       not_past = λ y k. elim (cases_Bool (is_after_last id_cmp (last (rising ++ x ∷ [])) y)) [
         | inl up ↦
@@ -174,10 +179,11 @@ module _ (rising late : List Id) (h : AreRisingAndLate rising late) where
               | inl none ↦ let level = ap (λ xs. is_after_last id_cmp (last xs) y) (sym none)
                   ∙ h.not_past y k in absurd (cc level)
               | inr some ↦
-                  let first : Below some.0 x = above_each rising x some.0 h.rises past some.2 in
+                  let first : Below some.0 x =
+                  Below-if_after_last rising x some.0 h.rises past some.2 in
                   let level : is_lt (id_cmp some.0 y) ≡ false =
                   ap (λ o. is_after_last id_cmp o y) (sym some.1) ∙ h.not_past y k in
-                  let whole = below_trans id_cmp_total some.0 x y first above in
+                  let whole = is_lt-trans id_cmp-IsTotalOrder some.0 x y first above in
                   absurd (cc (level, whole))
             ]
         | inr level ↦ level
@@ -187,7 +193,8 @@ module _ (rising late : List Id) (h : AreRisingAndLate rising late) where
     pub with_late-pushed : with_late (rising ++ x ∷ []) late
         ≡ insert_key id_cmp (with_late rising late) x
     with_late-pushed =
-        same_ids (with_late (rising ++ x ∷ []) late) (insert_key id_cmp (with_late rising late) x)
+        IsRising-is_unique (with_late (rising ++ x ∷ []) late)
+        (insert_key id_cmp (with_late rising late) x)
         (IsRising-fold (rising ++ x ∷ []) late rising_pushed)
         (IsRising-insert x (with_late rising late) IsRising-with_late)
         (λ y k. elim (Contains-with_cases (rising ++ x ∷ []) late y k) [
@@ -213,30 +220,30 @@ module _ (rising late : List Id) (h : AreRisingAndLate rising late) where
   -- ---- an Id that is in the set
 
   module _ (x : Id) where
-    pub found_rising : is_among rising x ≡ true → is_among (with_late rising late) x ≡ true
-    found_rising e = among (with_late rising late) x
+    pub is_among-rising : is_among rising x ≡ true → is_among (with_late rising late) x ≡ true
+    is_among-rising e = among (with_late rising late) x
         (Contains-with_rising rising late x (contained rising x e))
 
-    pub found_late : is_among rising x ≡ false
+    pub is_among-late : is_among rising x ≡ false
         → is_among late x ≡ is_among (with_late rising late) x
-    found_late e =
+    is_among-late e =
         let missed : ¬ Contains rising x = λ k. let found = among rising x k in
         absurd (cc (e, found)) in
-        elim (is_among_cases late x) [
+        elim (is_among-cases late x) [
           | inl found ↦ found.0 ∙ sym
               (among (with_late rising late) x (Contains-with_late rising late x found.1))
           | inr none ↦ none.0 ∙ sym
-              (not_among (with_late rising late) x
+              (is_among-if_missing (with_late rising late) x
               (λ k. elim (Contains-with_cases rising late x k)
               [ inl front ↦ missed front | inr rest ↦ none.1 rest ]))
         ]
 
-    pub already_there : is_among rising x ≡ true
+    pub with_late-if_present : is_among rising x ≡ true
         → with_late rising late ≡ insert_key id_cmp (with_late rising late) x
-    already_there e =
+    with_late-if_present e =
         let k : Contains (with_late rising late) x =
         Contains-with_rising rising late x (contained rising x e) in
-        same_ids (with_late rising late) (insert_key id_cmp (with_late rising late) x)
+        IsRising-is_unique (with_late rising late) (insert_key id_cmp (with_late rising late) x)
         IsRising-with_late (IsRising-insert x (with_late rising late) IsRising-with_late)
         (λ y j. Contains-insert_other (with_late rising late) x y j)
         (λ y j. elim (Contains-insert_cases (with_late rising late) x y j)
@@ -244,9 +251,9 @@ module _ (rising late : List Id) (h : AreRisingAndLate rising late) where
 
     -- ---- an Id that is late
 
-    pub late_inserted : is_after_last id_cmp (last rising) x ≡ false
+    pub AreRisingAndLate-insert : is_after_last id_cmp (last rising) x ≡ false
         → AreRisingAndLate rising (insert_key id_cmp late x)
-    late_inserted level = record {
+    AreRisingAndLate-insert level = record {
       rises = h.rises;
       not_past = λ y k. elim (Contains-insert_cases late x y k) [
         | inl same ↦ subst (λ z. is_after_last id_cmp (last rising) z ≡ false) same level
@@ -257,7 +264,7 @@ module _ (rising late : List Id) (h : AreRisingAndLate rising late) where
     pub with_late-inserted : with_late rising (insert_key id_cmp late x)
         ≡ insert_key id_cmp (with_late rising late) x
     with_late-inserted =
-        same_ids (with_late rising (insert_key id_cmp late x))
+        IsRising-is_unique (with_late rising (insert_key id_cmp late x))
         (insert_key id_cmp (with_late rising late) x)
         (IsRising-fold rising (insert_key id_cmp late x) h.rises)
         (IsRising-insert x (with_late rising late) IsRising-with_late)
@@ -287,7 +294,7 @@ module _ (rising late : List Id) (h : AreRisingAndLate rising late) where
 pub is_some-among : (xs : List Id) (x : Id) (found : Option ℕ)
     → MatchOption found (¬ Contains xs x) (λ k. slice_get xs k ≡ Some x)
     → is_some found ≡ is_among xs x
-is_some-among xs x None h = sym (not_among xs x h)
+is_some-among xs x None h = sym (is_among-if_missing xs x h)
 is_some-among xs x (Some k) h =
     sym (among xs x (k, slice_get_within xs k x h, get_or_from_slice_get xs k x x h))
 
@@ -308,25 +315,26 @@ tie_nat a b =
     ] refl
 
 -- two Ids are equal exactly if their order is equal
-pub id_eq_by_cmp : (x y : Id) → ((x.replica == y.replica) && (x.number == y.number))
+pub eq_by_cmp-id : (x y : Id) → ((x.replica == y.replica) && (x.number == y.number))
     ≡ eq_by_cmp id_cmp x y
-id_eq_by_cmp x y = ap₂ (λ a b. a && b) (sym (tie_nat x.replica y.replica))
+eq_by_cmp-id x y = ap₂ (λ a b. a && b) (sym (tie_nat x.replica y.replica))
     (sym (tie_nat x.number y.number)) ∙ sym
     (tie_then (nat_cmp x.replica y.replica) (nat_cmp x.number y.number))
 
 -- the rising and the late Ids, sorted and without repeats
-pub into_vec_ids : (eq : Id → Id → Bool) (ties : (x y : Id) → eq x y ≡ eq_by_cmp id_cmp x y)
+pub with_late-from_sorted : (eq : Id → Id → Bool)
+    (ties : (x y : Id) → eq x y ≡ eq_by_cmp id_cmp x y)
     (rising late both sorted ids : List Id) → AreRisingAndLate rising late → both ≡ rising ++ late
     → IsPermutation both sorted → IsSorted id_cmp sorted
     → IsFiltered (DiffersFromLast eq) [] sorted ids → ids ≡ with_late rising late
-into_vec_ids eq ties rising late both sorted ids h is moved up kept =
+with_late-from_sorted eq ties rising late both sorted ids h is moved up kept =
     let left : ids ≡ dedup eq sorted = dedup_is eq sorted ids kept in
     let strict : IsRising (dedup eq sorted) =
-    rising_from_strict (dedup eq sorted)
-    (IsStrictlySortedBy-dedup id_cmp_total ties sorted up) in
+    IsRising-from_strict (dedup eq sorted)
+    (IsStrictlySortedBy-dedup id_cmp-IsTotalOrder ties sorted up) in
     let exact : (x y : Id) → eq x y ≡ true → x ≡ y =
     λ x y e. id_cmp-IsAntisymmetric x y (tie (id_cmp x y) (sym (ties x y) ∙ e)) in
-    left ∙ same_ids (dedup eq sorted) (with_late rising late) strict
+    left ∙ IsRising-is_unique (dedup eq sorted) (with_late rising late) strict
     (IsRising-fold rising late h.rises)
     (λ x k.
     let among = subst (λ xs. Contains xs x) is
@@ -342,7 +350,8 @@ into_vec_ids eq ties rising late both sorted ids h is moved up kept =
       | inl front ↦ Contains-append_left rising late x front
       | inr rest ↦ Contains-append_right rising late x rest
     ] in
-    Contains-dedup (subst IsEquivalence (sym (same_tests eq ties)) (eq_by_cmp_equiv id_cmp_total))
+    Contains-dedup
+    (subst IsEquivalence (sym (same_tests eq ties)) (eq_by_cmp_equiv id_cmp-IsTotalOrder))
     exact sorted x (Contains-permutation both sorted x moved
     (subst (λ xs. Contains xs x) (sym is) among)))
   where

@@ -24,30 +24,31 @@ use Rattle.json.specs.Lex.{if_allowed, place_token, punctuate, begins_colon, tok
 -- ---- tests and optional values
 
 -- a choice satisfies P if each branch does under its result of the test
-pub by_test : {A : Type 0} (P : A → Type 0) (b : Bool) (x y : A) → (b ≡ true → P x)
+pub cond-cases : {A : Type 0} (P : A → Type 0) (b : Bool) (x y : A) → (b ≡ true → P x)
     → (b ≡ false → P y) → P (cond b x y)
-by_test P true x y p q = p refl
-by_test P false x y p q = q refl
+cond-cases P true x y p q = p refl
+cond-cases P false x y p q = q refl
 
 -- a choice satisfies P if both branches do, whatever the test is
-pub by_branch : {A : Type 0} (P : A → Type 0) (b : Bool) (x y : A) → P x → P y → P (cond b x y)
-by_branch P true x y p q = p
-by_branch P false x y p q = q
+pub cond-both : {A : Type 0} (P : A → Type 0) (b : Bool) (x y : A) → P x → P y → P (cond b x y)
+cond-both P true x y p q = p
+cond-both P false x y p q = q
 
 -- a choice by an ordering satisfies P if all three branches do
-pub by_ordering : {A : Type 0} (P : A → Type 0) (o : Ordering) (x y z : A) → P x → P y → P z
+pub match_ordering-cases : {A : Type 0} (P : A → Type 0) (o : Ordering) (x y z : A) → P x → P y
+    → P z
     → P (match_ordering o x y z)
-by_ordering P Less x y z p q r = p
-by_ordering P Equal x y z p q r = q
-by_ordering P Greater x y z p q r = r
+match_ordering-cases P Less x y z p q r = p
+match_ordering-cases P Equal x y z p q r = q
+match_ordering-cases P Greater x y z p q r = r
 
 -- P holds for the value of a choice, if there is a value, where it holds for those of the branches
 module _ {A : Type 0} (P : A → Type 0) (b : Bool) (o p : Option A) where
   pub IfSome-test : (b ≡ true → IfSome o P) → (b ≡ false → IfSome p P) → IfSome (cond b o p) P
-  IfSome-test h k = by_test (λ (o : Option A). IfSome o P) b o p h k
+  IfSome-test h k = cond-cases (λ (o : Option A). IfSome o P) b o p h k
 
   pub IfSome-branch : IfSome o P → IfSome p P → IfSome (cond b o p) P
-  IfSome-branch h k = by_branch (λ (o : Option A). IfSome o P) b o p h k
+  IfSome-branch h k = cond-both (λ (o : Option A). IfSome o P) b o p h k
 
 -- f takes each value that satisfies P to one that satisfies Q
 module _ {A B : Type 0} (P : A → Type 0) (Q : B → Type 0) where
@@ -167,18 +168,18 @@ mutual
   plain_utf8 : (xs front : List ℕ) → IsUtf8 (front ++ xs) → IsUtf8After front (content plain xs)
   plain_utf8 [] front u = tt
   plain_utf8 (x ∷ xs) front u =
-      by_test (IsUtf8After front) (x == 34) _ _
+      cond-cases (IsUtf8After front) (x == 34) _ _
       (λ e.
       let same = eqb-true x 34 e in
       subst IsUtf8 (sym (append-nil front)) (before_ascii front x xs (omega arith) u))
-      (λ _. by_test (IsUtf8After front) (x == 92) _ _
+      (λ _. cond-cases (IsUtf8After front) (x == 92) _ _
       (λ e.
       let same = eqb-true x 92 e in
       let small : x < 128 = omega arith in
       let before = before_ascii front x xs small u in
       IfSome_then _ (backslash_utf8 xs (after_ascii front x xs small u))
       (λ s v. IsUtf8-append front s before v))
-      (λ _. by_branch (IsUtf8After front) (nat_lt x 32) _ _ tt
+      (λ _. cond-both (IsUtf8After front) (nat_lt x 32) _ _ tt
       (IfSome-map (λ s. IsUtf8 ((front ++ x ∷ []) ++ s)) (λ s. IsUtf8 (front ++ s)) _ _
       (plain_utf8 xs (front ++ x ∷ []) (subst IsUtf8 (sym (append_assoc front (x ∷ []) xs)) u))
       (λ s v. subst IsUtf8 (append_assoc front (x ∷ []) s) v))))
@@ -186,7 +187,7 @@ mutual
   backslash_utf8 : (xs : List ℕ) → IsUtf8 xs → IsUtf8After [] (content after_backslash xs)
   backslash_utf8 [] u = tt
   backslash_utf8 (x ∷ xs) u =
-      by_test (IsUtf8After []) (x == 117) _ _
+      cond-cases (IsUtf8After []) (x == 117) _ _
       (λ e. let same = eqb-true x 117 e in unit_utf8 xs (after_ascii [] x xs (omega arith) u))
       (λ _. IfSome-and_then (IsEscape x) (λ s. IsUtf8 s) _ _ (short_escape_fits x) (λ c e.
       prepend_utf8 (c ∷ []) _ (ascii_byte c e.0) (plain_utf8 xs [] (after_ascii [] x xs e.1 u))))
@@ -195,8 +196,8 @@ mutual
   unit_utf8 (a ∷ b ∷ c ∷ d ∷ xs) u =
       IfSome-and_then (IsUnit d) (λ s. IsUtf8 s) _ _ (code_unit_fits a b c d) (λ v e.
       let rest = after_ascii (a ∷ b ∷ c ∷ []) d xs e.1 u in
-      by_test (IsUtf8After []) (is_high_surrogate v) _ _ (λ high. low_utf8 v high xs rest)
-      (λ not_high. by_test (IsUtf8After []) (is_low_surrogate v) _ _ (λ _. tt)
+      cond-cases (IsUtf8After []) (is_high_surrogate v) _ _ (λ high. low_utf8 v high xs rest)
+      (λ not_high. cond-cases (IsUtf8After []) (is_low_surrogate v) _ _ (λ _. tt)
       (λ not_low. prepend_utf8 _ _ (encoded v (unit_scalar v e.0 not_high not_low))
       (plain_utf8 xs [] rest))))
   unit_utf8 xs u = tt
@@ -204,9 +205,9 @@ mutual
   low_utf8 : (h : ℕ) → is_high_surrogate h ≡ true → (xs : List ℕ) → IsUtf8 xs
       → IsUtf8After [] (content (after_high h) xs)
   low_utf8 h high (s ∷ v ∷ a ∷ b ∷ c ∷ d ∷ xs) u =
-      by_branch (IsUtf8After []) ((s == 92) && (v == 117)) _ _
+      cond-both (IsUtf8After []) ((s == 92) && (v == 117)) _ _
       (IfSome-and_then (IsUnit d) (λ s. IsUtf8 s) _ _ (code_unit_fits a b c d) (λ l e.
-      by_test (IsUtf8After []) (is_low_surrogate l) _ _
+      cond-cases (IsUtf8After []) (is_low_surrogate l) _ _
       (λ low.
       let rest = after_ascii (s ∷ v ∷ a ∷ b ∷ c ∷ []) d xs e.1 u in
       prepend_utf8 _ _ (encoded _ (pair_scalar h l high low)) (plain_utf8 xs [] rest))
@@ -232,14 +233,14 @@ string_token_fits (Some s) h = h
 
 number_fits : (t : List ℕ) (o : Option (List ℕ)) → FitsToken (number_before t o)
 number_fits t None = tt
-number_fits t (Some rest) = by_branch FitsToken (ends_word rest) _ _ tt tt
+number_fits t (Some rest) = cond-both FitsToken (ends_word rest) _ _ tt tt
 
 word_fits : (xs : List ℕ) → FitsToken (word xs)
 unfolding word
-word_fits xs = search (rules, by_branch FitsToken, number_fits)
+word_fits xs = search (rules, cond-both FitsToken, number_fits)
 
 operator_fits : (x : ℕ) → FitsLexeme (operator_lexeme x)
-operator_fits x = search (rules, by_branch FitsLexeme)
+operator_fits x = search (rules, cond-both FitsLexeme)
 
 -- if the byte before xs is a quote, xs is UTF-8
 abbrev AfterQuote : List ℕ → Class → Type 0
@@ -248,8 +249,8 @@ AfterQuote xs _ = ⊤
 
 after_quote : (x : ℕ) (xs : List ℕ) → (x ≡ 34 → IsUtf8 xs) → AfterQuote xs (class x)
 after_quote x xs after =
-    by_test (AfterQuote xs) (x == 34) _ _ (λ e. after (eqb-true x 34 e))
-    (λ _. search (rules, by_branch (AfterQuote xs)))
+    cond-cases (AfterQuote xs) (x == 34) _ _ (λ e. after (eqb-true x 34 e))
+    (λ _. search (rules, cond-both (AfterQuote xs)))
 
 byte_fits : (m : Mode) (c : Class) (x : ℕ) (xs : List ℕ) (k : Mode → List Lexeme)
     → AfterQuote xs c
@@ -305,5 +306,5 @@ punctuated_fit after_value [] h = tt
 punctuated_fit p ls h = (tt, tt)
 
 -- each string among the tokens of a UTF-8 text is UTF-8
-pub tokens_fit : (text : List ℕ) → IsUtf8 text → FitTokens (tokens text)
-tokens_fit text u = punctuated_fit fresh (lex between text) (lexemes_fit between text [] u)
+pub FitTokens-tokens : (text : List ℕ) → IsUtf8 text → FitTokens (tokens text)
+FitTokens-tokens text u = punctuated_fit fresh (lex between text) (lexemes_fit between text [] u)

@@ -17,8 +17,9 @@ use Rattle.serde_json.specs.Data.{no_items, item, Members, no_members, member, p
 use Rattle.serde_json.specs.Find.{as_i64}
 use Rattle.serde_json.specs.Read.{is_integer, float_of, number_from, number_of, of_json, of_items}
 use Rattle.serde_json.specs.Read.{of_members, max_depth, read}
-use Rattle.epx_report.proofs.JsonStringLemmas.{by_ordering, IfSome-test, IfSome-branch, IfSome-map}
-use Rattle.epx_report.proofs.JsonStringLemmas.{IfSome-and_then, FitTokens, tokens_fit}
+use Rattle.epx_report.proofs.JsonStringLemmas.{match_ordering-cases, IfSome-test, IfSome-branch}
+use Rattle.epx_report.proofs.JsonStringLemmas.{IfSome-map}
+use Rattle.epx_report.proofs.JsonStringLemmas.{IfSome-and_then, FitTokens, FitTokens-tokens}
 
 -- ---- values
 
@@ -47,7 +48,7 @@ put_fits : (k : List ℕ) (d : Data) (ms : Members) → FitsData d → FitMember
     → FitMembers (put k d ms)
 put_fits k d no_members p q = (p, tt)
 put_fits k d (member l e ms) p q =
-    by_ordering FitMembers (slice_cmp nat_cmp k l) _ _ _ (p, q) (p, q.1)
+    match_ordering-cases FitMembers (slice_cmp nat_cmp k l) _ _ _ (p, q) (p, q.1)
     (q.0, put_fits k d ms p q.1)
 
 -- ---- numbers
@@ -180,12 +181,12 @@ if_last_fits j [] h = h
 if_last_fits j (t ∷ ts) h = tt
 
 -- the value of a UTF-8 text fits
-pub read_fits : (text : List ℕ) → IsUtf8 text → IfSome (read text) FitsData
-read_fits text u =
+pub IfSome-read : (text : List ℕ) → IsUtf8 text → IfSome (read text) FitsData
+IfSome-read text u =
     let parsed = value max_depth (tokens text) in
     let last : json.Json × List Token → Option json.Json = λ r. json.if_last r.0 r.1 in
     IfSome-and_then JsonFits FitsData of_json (option_and_then last parsed)
     (IfSome-and_then (Read JsonFits) JsonFits last parsed
-    (value_fits max_depth (tokens text) (tokens_fit text u))
+    (value_fits max_depth (tokens text) (FitTokens-tokens text u))
     (λ r fits. if_last_fits r.0 r.1 fits.0))
     (λ j fits. fits)

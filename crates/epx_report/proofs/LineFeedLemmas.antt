@@ -13,9 +13,9 @@ use Rattle.epx_lines.specs.Lines.{prepend_to_first, lines_of}
 abbrev pub is_unbroken : List ℕ → Bool
 is_unbroken bytes = list_all (λ b. not (b == 10)) bytes
 
-pub both_unbroken : (xs ys : List ℕ) → is_unbroken xs ≡ true → is_unbroken ys ≡ true
+pub is_unbroken-append : (xs ys : List ℕ) → is_unbroken xs ≡ true → is_unbroken ys ≡ true
     → is_unbroken (xs ++ ys) ≡ true
-both_unbroken xs ys h k = rw (list_all-append (λ b. not (b == 10)) xs ys, h, k) refl
+is_unbroken-append xs ys h k = rw (list_all-append (λ b. not (b == 10)) xs ys, h, k) refl
 
 -- ---- the lines of a text
 
@@ -51,7 +51,7 @@ digit n l = let other : (48 + n == 10) ≡ false = grind (arith, nat_tests) in r
 
 digit_after : (n : ℕ) (ds : List ℕ) → 10 ≤ n → is_unbroken ds ≡ true
     → is_unbroken (ds ++ (48 + n % 10) ∷ []) ≡ true
-digit_after n ds l h = both_unbroken ds ((48 + n % 10) ∷ []) h (digit (n % 10) (omega arith))
+digit_after n ds l h = is_unbroken-append ds ((48 + n % 10) ∷ []) h (digit (n % 10) (omega arith))
 
 pub is_unbroken-decimal : (n : ℕ) → n < 2 ^ 64 → is_unbroken (decimal n) ≡ true
 is_unbroken-decimal = decimal_by_steps (λ n ds. is_unbroken ds ≡ true) digit digit_after
@@ -105,8 +105,8 @@ escape_either false x e = high_escape x (grind (arith, nat_tests))
 
 is_unbroken-escape : (s : List ℕ) → is_unbroken (escape s) ≡ true
 is_unbroken-escape [] = refl
-is_unbroken-escape (x ∷ s) = both_unbroken (escape_byte x) (escape s)
+is_unbroken-escape (x ∷ s) = is_unbroken-append (escape_byte x) (escape s)
     (escape_either (nat_lt x 93) x refl) (is_unbroken-escape s)
 
 pub is_unbroken-quoted : (s : List ℕ) → is_unbroken (quoted s) ≡ true
-is_unbroken-quoted s = both_unbroken (escape s) (34 ∷ []) (is_unbroken-escape s) refl
+is_unbroken-quoted s = is_unbroken-append (escape s) (34 ∷ []) (is_unbroken-escape s) refl

@@ -26,29 +26,29 @@ module _ (c : Counts) where
       append-nil (map says (xs ++ more)) ∙ map-append says xs more
       ∙ ap (λ ls. ls ++ map says more) (sym (append-nil (map says xs)))
 
-  pub done_more : (done more replied waiting : List Id) (stored : List (List ℕ × ℤ))
+  pub lines-done : (done more replied waiting : List Id) (stored : List (List ℕ × ℤ))
       → replied ≡ [] → waiting ≡ [] → stored ≡ []
       → lines (done ++ more) replied waiting stored
       ≡ lines done replied waiting stored ++ map line.Done more
-  done_more done more replied waiting stored none_replied none_waits none_stored =
+  lines-done done more replied waiting stored none_replied none_waits none_stored =
       rw (none_replied, none_waits, none_stored)
       (ap (λ ls. line.Header c ∷ ls) (pushed line.Done done more))
 
-  pub replies_more : (done replied more waiting : List Id) (stored : List (List ℕ × ℤ))
+  pub lines-replies : (done replied more waiting : List Id) (stored : List (List ℕ × ℤ))
       → waiting ≡ [] → stored ≡ []
       → lines done (replied ++ more) waiting stored
       ≡ lines done replied waiting stored ++ map line.Reply more
-  replies_more done replied more waiting stored none_waits none_stored =
+  lines-replies done replied more waiting stored none_waits none_stored =
       rw (none_waits, none_stored) (ap (λ ls. line.Header c ∷ ls)
       (ap (λ ls. map line.Done done ++ ls) (pushed line.Reply replied more)
       ∙ sym (append_assoc (map line.Done done) (map line.Reply replied ++ [])
       (map line.Reply more))))
 
-  pub waiting_more : (done replied waiting more : List Id) (stored : List (List ℕ × ℤ))
+  pub lines-waiting : (done replied waiting more : List Id) (stored : List (List ℕ × ℤ))
       → stored ≡ []
       → lines done replied (waiting ++ more) stored
       ≡ lines done replied waiting stored ++ map line.Waiting more
-  waiting_more done replied waiting more stored none_stored =
+  lines-waiting done replied waiting more stored none_stored =
       let ds = map line.Done done in
       let rs = map line.Reply replied in
       rw none_stored (ap (λ ls. line.Header c ∷ ls)
@@ -57,7 +57,7 @@ module _ (c : Counts) where
       (map line.Waiting more)))
       ∙ sym (append_assoc ds (rs ++ (map line.Waiting waiting ++ [])) (map line.Waiting more))))
 
-  pub stored_more : (done replied waiting : List Id) (stored more : List (List ℕ × ℤ))
+  pub lines-stored : (done replied waiting : List Id) (stored more : List (List ℕ × ℤ))
       → lines done replied waiting (stored ++ more)
       ≡ lines done replied waiting stored ++ map (λ e. line.Store e.0 e.1) more
-  stored_more done replied waiting stored more = simp (map-append, append_assoc)
+  lines-stored done replied waiting stored more = simp (map-append, append_assoc)

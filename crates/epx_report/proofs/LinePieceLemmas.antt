@@ -82,16 +82,16 @@ Say-append ls more said further p q =
     ∙ sym (map-append Some said further)
 
 module _ {P V : Type 0} (lines : P → List (List ℕ)) (said : V → List BaseLine) where
-  pub say_joined : (pieces : List P) (parts : List V) → length parts ≡ length pieces
+  pub Say-flat_map : (pieces : List P) (parts : List V) → length parts ≡ length pieces
       → ((i : ℕ) → i < length pieces → (part : V) × (slice_get parts i ≡ Some part)
       × ((piece : P) → slice_get pieces i ≡ Some piece → Say (lines piece) (said part)))
       → Say (flat_map lines pieces) (flat_map said parts)
-  say_joined [] [] len each = refl
-  say_joined [] (part ∷ parts) len each = absurd (omega (arith, len))
-  say_joined (piece ∷ pieces) [] len each = absurd (omega (arith, len))
-  say_joined (piece ∷ pieces) (part ∷ parts) len each =
+  Say-flat_map [] [] len each = refl
+  Say-flat_map [] (part ∷ parts) len each = absurd (omega (arith, len))
+  Say-flat_map (piece ∷ pieces) [] len each = absurd (omega (arith, len))
+  Say-flat_map (piece ∷ pieces) (part ∷ parts) len each =
       let first = each 0 (omega arith) in
       let same : first.0 ≡ part = cc (first.1) in
       Say-append (lines piece) (flat_map lines pieces) (said part) (flat_map said parts)
       (subst (λ v. Say (lines piece) (said v)) same (first.2 piece refl))
-      (say_joined pieces parts (omega (arith, len)) (λ i l. each (suc i) (omega arith)))
+      (Say-flat_map pieces parts (omega (arith, len)) (λ i l. each (suc i) (omega arith)))

@@ -27,9 +27,10 @@ use Rattle.epx_lines.specs.Meaning.{json_of, at_member, is_committed, need, mean
 use Rattle.epx_lines.specs.Meaning.{meaning_of_value, meaning_of}
 use Rattle.epx_report.specs.ReportReadings.{FitsNumbers}
 use Rattle.epx_report.proofs.IdSetLemmas.{Contains-with_cases}
-use Rattle.epx_report.proofs.JsonStringLemmas.{by_branch, by_ordering, IfSome-test, IfSome-branch}
+use Rattle.epx_report.proofs.JsonStringLemmas.{cond-both, match_ordering-cases, IfSome-test}
+use Rattle.epx_report.proofs.JsonStringLemmas.{IfSome-branch}
 use Rattle.epx_report.proofs.JsonStringLemmas.{IfSome-map, IfSome-and_then, IfSome-trivial}
-use Rattle.epx_report.proofs.JsonValueLemmas.{FitsNum, FitsData, FitItems, FitMembers, read_fits}
+use Rattle.epx_report.proofs.JsonValueLemmas.{FitsNum, FitsData, FitItems, FitMembers, IfSome-read}
 
 -- ---- the limits of an instance
 
@@ -57,22 +58,23 @@ pub record FitsInstance (e : Instance) : Type 0 where
   pub command : FitsCommand e.ops
 
 -- what holds for all elements holds for each
-pub of_all : {A : Type 0} (P : A → Type 0) (xs : List A) (x : A) → AllByRecursion P xs
+pub AllByRecursion-contains : {A : Type 0} (P : A → Type 0) (xs : List A) (x : A)
+    → AllByRecursion P xs
     → Contains xs x → P x
-of_all P xs x h c = All-contains P xs x (All-from_recursion P xs h) c
+AllByRecursion-contains P xs x h c = All-contains P xs x (All-from_recursion P xs h) c
 
 -- ---- the parts of a JSON value
 
-pub json_of_fits : (bytes : List ℕ) → IfSome (json_of bytes) FitsData
-json_of_fits bytes =
+pub IfSome-json_of : (bytes : List ℕ) → IfSome (json_of bytes) FitsData
+IfSome-json_of bytes =
     IfSome-test FitsData (is_utf8 bytes) _ _
-    (λ u. read_fits bytes (IsUtf8-from_is_utf8 bytes u)) (λ _. tt)
+    (λ u. IfSome-read bytes (IsUtf8-from_is_utf8 bytes u)) (λ _. tt)
 
 get_member_fits : (k : List ℕ) (ms : Members) → FitMembers ms → IfSome (get_member k ms) FitsData
 get_member_fits k no_members h = tt
 get_member_fits k (member l d ms) h =
     let later = get_member_fits k ms h.1 in
-    by_ordering (λ (o : Option Data). IfSome o FitsData)
+    match_ordering-cases (λ (o : Option Data). IfSome o FitsData)
     (slice_cmp nat_cmp k l) _ _ _ later h.0 later
 
 get_fits : (k : List ℕ) (d : Data) → FitsData d → IfSome (get k d) FitsData
@@ -92,8 +94,8 @@ as_number_fits : (d : Data) → FitsData d → IfSome (as_number d) FitsNum
 as_number_fits (number n) h = h
 as_number_fits d h = tt
 
-pub signed_fits : (d : Data) → FitsData d → IfSome (signed d) (FitsSigned w64)
-signed_fits d h =
+pub IfSome-signed : (d : Data) → FitsData d → IfSome (signed d) (FitsSigned w64)
+IfSome-signed d h =
     IfSome-and_then FitsNum (FitsSigned w64) as_i64 (as_number d) (as_number_fits d h)
     (λ n fits. fits)
 
@@ -104,9 +106,9 @@ whole_below bound d =
     (IfSome-trivial _)
     (λ n _. IfSome-test (λ m. m < bound) (nat_lt n bound) _ _ (λ e. ltb-true _ _ e) (λ _. tt))
 
-pub key_of_fits : (d : Data) → FitsData d → IfSome (key_of d) IsStoreKey
+pub IfSome-key_of : (d : Data) → FitsData d → IfSome (key_of d) IsStoreKey
 unfolding key_of
-key_of_fits d h =
+IfSome-key_of d h =
     IfSome-and_then IsUtf8 IsStoreKey key_from (as_str d) (as_str_fits d h)
     (λ s u. IfSome-test IsStoreKey (nat_lt 0 (length s) && nat_le (length s) 64) _ _
     (λ e. let p = and_parts _ _ e in ((ltb-true _ _ p.0, leb-true _ _ p.1), u))
@@ -116,9 +118,9 @@ list_of_fits : (ds : Items) → FitItems ds → AllByRecursion FitsData (list_of
 list_of_fits no_items h = tt
 list_of_fits (item d ds) h = (h.0, list_of_fits ds h.1)
 
-pub elements_fit : (d : Data) → FitsData d → IfSome (elements d) (AllByRecursion FitsData)
-elements_fit (array ds) h = list_of_fits ds h
-elements_fit d h = tt
+pub IfSome-elements : (d : Data) → FitsData d → IfSome (elements d) (AllByRecursion FitsData)
+IfSome-elements (array ds) h = list_of_fits ds h
+IfSome-elements d h = tt
 
 -- each element satisfies P, and there are at most n
 abbrev AtMost : {A : Type 0} → (A → Type 0) → ℕ → List A → Type 0
@@ -146,7 +148,7 @@ module _ {B : Type 0} (P : B → Type 0) (f : Data → Option B)
       IfSome-and_then (AtMost FitsData n) (AtMost P n) (every f)
       (option_and_then (at_most n) (elements d))
       (IfSome-and_then (AllByRecursion FitsData) (AtMost FitsData n) (at_most n) (elements d)
-      (elements_fit d h)
+      (IfSome-elements d h)
       (λ xs all. IfSome-test (AtMost FitsData n) (nat_le (length xs) n) _ _
       (λ e. (all, leb-true _ _ e))
       (λ _. tt)))
@@ -155,20 +157,20 @@ module _ {B : Type 0} (P : B → Type 0) (f : Data → Option B)
 
 -- ---- dependencies
 
-pub id_of_pair_fits : (ds : List Data) → IfSome (id_of_pair ds) FitsNumbers
-id_of_pair_fits (r ∷ i ∷ []) =
+pub IfSome-id_of_pair : (ds : List Data) → IfSome (id_of_pair ds) FitsNumbers
+IfSome-id_of_pair (r ∷ i ∷ []) =
     IfSome-and_then (λ n. n < 256) FitsNumbers _ (whole 256 r) (whole_below 256 r)
     (λ replica small.
     IfSome-map (λ n. n < 2 ^ 64) FitsNumbers
     (λ number. record { replica = replica; number = number }) (whole (2 ^ 64) i)
     (whole_below (2 ^ 64) i) (λ number large. (small, large)))
-id_of_pair_fits ds = tt
+IfSome-id_of_pair ds = tt
 
 id_of_fits : (d : Data) → FitsData d → IfSome (id_of d) FitsNumbers
 unfolding id_of
 id_of_fits d h =
     IfSome-and_then (AllByRecursion FitsData) FitsNumbers id_of_pair (elements d)
-    (elements_fit d h) (λ ds _. id_of_pair_fits ds)
+    (IfSome-elements d h) (λ ds _. IfSome-id_of_pair ds)
 
 -- each Id fits
 abbrev FitIds : List Id → Type 0
@@ -179,7 +181,8 @@ rising_others_fit : (self : Id) (ids : List Id) → AllByRecursion FitsNumbers i
 rising_others_fit self ids h x c =
     elim (Contains-with_cases [] (filter (is_other self) ids) x c) [
       | inl none ↦ absurd (Contains-nil x none)
-      | inr among ↦ of_all FitsNumbers ids x h (Contains-from_filter (is_other self) ids x among)
+      | inr among ↦ AllByRecursion-contains FitsNumbers ids x h
+          (Contains-from_filter (is_other self) ids x among)
     ]
 
 deps_of_fits : (self : Id) (d : Data) → FitsData d → IfSome (deps_of self d) FitIds
@@ -199,7 +202,7 @@ op_with_value_fits : (name k : List ℕ) (d : Data) → IsStoreKey k → FitsDat
     → IfSome (op_with_value name k d) FitsOp
 unfolding op_with_value
 op_with_value_fits name k d key h =
-    let value = signed_fits d h in
+    let value = IfSome-signed d h in
     let put = IfSome-map (FitsSigned w64) FitsOp (op.Put k) (signed d) value
     (λ v fits. (key, fits)) in
     let added = IfSome-map (FitsSigned w64) FitsOp (op.Add k) (signed d) value (λ v fits. key) in
@@ -207,7 +210,7 @@ op_with_value_fits name k d key h =
     (λ v _. tt) in
     let floored = IfSome-map (FitsSigned w64) FitsOp (op.Floor k) (signed d) value
     (λ v fits. tt) in
-    let copied = IfSome-map IsStoreKey FitsOp (op.Copy k) (key_of d) (key_of_fits d h)
+    let copied = IfSome-map IsStoreKey FitsOp (op.Copy k) (key_of d) (IfSome-key_of d h)
     (λ j fits. fits) in
     search (rules, IfSome-branch FitsOp, put, added, compared, floored, copied)
 
@@ -219,7 +222,7 @@ op_of_list_fits (n ∷ k ∷ []) h =
 op_of_list_fits (n ∷ k ∷ d ∷ []) h =
     IfSome-and_then (λ _. ⊤) FitsOp _ (as_str n) (IfSome-trivial _) (λ name _.
     IfSome-and_then IsStoreKey FitsOp (λ key. op_with_value name key d) (key_of k)
-    (key_of_fits k h.1.0)
+    (IfSome-key_of k h.1.0)
     (λ key fits. op_with_value_fits name key d fits h.1.1.0))
 op_of_list_fits ds h = tt
 
@@ -227,7 +230,7 @@ op_of_fits : (d : Data) → FitsData d → IfSome (op_of d) FitsOp
 unfolding op_of
 op_of_fits d h =
     IfSome-and_then (AllByRecursion FitsData) FitsOp op_of_list (elements d)
-    (elements_fit d h) op_of_list_fits
+    (IfSome-elements d h) op_of_list_fits
 
 ops_of_fits : (d : Data) → FitsData d → IfSome (ops_of d) FitsCommand
 unfolding ops_of
@@ -259,7 +262,7 @@ object_line_fits d h =
     (λ i large. need_fits (λ _. ⊤) _ (at_member (codes "seq") (whole (2 ^ 64)) d) _
     (IfSome-trivial _)
     (λ seq _. need_fits (λ _. ⊤) _ (is_committed (get (codes "status") d)) _ (IfSome-trivial _)
-    (λ committed _. by_branch IfEntry committed _ _
+    (λ committed _. cond-both IfEntry committed _ _
     (need_fits FitIds _ _ _
     (at_member_fits FitIds (codes "deps") (deps_of _) d h (deps_of_fits _))
     (λ deps fit. need_fits FitsCommand _ _ _
@@ -268,9 +271,9 @@ object_line_fits d h =
     tt))))
 
 -- the instance on a line fits
-pub line_fits : (bytes : List ℕ) → IfEntry (meaning_of bytes)
-line_fits bytes =
-    let said = need_fits FitsData NotJson (json_of bytes) meaning_of_value (json_of_fits bytes)
-    (λ d h. by_branch IfEntry (is_some (as_object d)) (meaning_of_object d) (Err NotObject)
+pub IfEntry-meaning_of : (bytes : List ℕ) → IfEntry (meaning_of bytes)
+IfEntry-meaning_of bytes =
+    let said = need_fits FitsData NotJson (json_of bytes) meaning_of_value (IfSome-json_of bytes)
+    (λ d h. cond-both IfEntry (is_some (as_object d)) (meaning_of_object d) (Err NotObject)
     (object_line_fits d h) tt) in
-    search (rules, by_branch IfEntry, said)
+    search (rules, cond-both IfEntry, said)

@@ -45,13 +45,13 @@ module _ (ds : List Data) (now : List Token) (before text whole : List ℕ) wher
       ∙ ap (λ t. text ++ (t ++ line_feed ∷ [])) (print-outline (array_of ds))
 
   -- the line of an array of which all tokens but the last are written
-  pub line_written : (result : Result (Unit {0}) AllocError) → now ≡ open_tokens ds → before ≡ []
+  pub OnOk-line_of : (result : Result (Unit {0}) AllocError) → now ≡ open_tokens ds → before ≡ []
       → OnOk result IsAdded → OnOk result (whole ≡ text ++ line_of ds)
-  line_written result same none = on_ok_weaker result (line_added same none)
+  OnOk-line_of result same none = on_ok_weaker result (line_added same none)
 
   -- the line of an array of which all tokens but the last are written, added to an empty text
-  pub line_alone : now ≡ open_tokens ds → before ≡ [] → text ≡ [] → IsAdded → whole ≡ line_of ds
-  line_alone same none empty e = line_added same none e ∙ ap (λ t. t ++ line_of ds) empty
+  pub line_of-alone : now ≡ open_tokens ds → before ≡ [] → text ≡ [] → IsAdded → whole ≡ line_of ds
+  line_of-alone same none empty e = line_added same none e ∙ ap (λ t. t ++ line_of ds) empty
 
 integer_tokens : (v : ℤ) → tokens_of (value.number (of_integer v)) ≡ value_token (Some v) ∷ []
 integer_tokens (pos n) = refl

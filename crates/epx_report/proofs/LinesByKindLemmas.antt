@@ -9,9 +9,11 @@ use Rattle.epx_types.proofs.Common.{Contains-append_left, Contains-append_right}
 use Rattle.epx_types.proofs.Common.{Contains-append_cases, Contains-permutation, IsPermutation-sym}
 use Rattle.epx_types.proofs.Common.{IsDistinct-IsPermutation, AllPairs-from_IsDistinct}
 use Rattle.epx_types.proofs.Common.{IsDistinct-from_AllPairs, Contents, is_among, id_cmp, IsRising}
-use Rattle.epx_types.proofs.Common.{id_cmp_total, id_cmp-Decides, AllPairs-head, AllPairs-tail}
-use Rattle.epx_types.proofs.Common.{Contains-nil, Contains-cons_cases, IsRising-push, rising_once}
-use Rattle.epx_types.proofs.Common.{is_among_cases}
+use Rattle.epx_types.proofs.Common.{id_cmp-IsTotalOrder, id_cmp-Decides, AllPairs-head}
+use Rattle.epx_types.proofs.Common.{AllPairs-tail}
+use Rattle.epx_types.proofs.Common.{Contains-nil, Contains-cons_cases, IsRising-push}
+use Rattle.epx_types.proofs.Common.{AllPairs-rising_distinct}
+use Rattle.epx_types.proofs.Common.{is_among-cases}
 use Rattle.epx_types.specs.declared.id.Id.{Id}
 use Rattle.epx_lines.specs.Lines.{lines_of}
 use Rattle.epx_report.specs.declared.from_value.BaseLine.{BaseLine}
@@ -19,13 +21,15 @@ use Rattle.epx_report.specs.declared.from_value.BaseLine.TheVariants as line
 use Rattle.epx_report.specs.declared.from_value.Counts.{Counts}
 use Rattle.epx_report.specs.Bases.{BaseParts, Say, lines_in_order, IsBase}
 use Rattle.epx_report.specs.Forms.{base_line_of}
-use Rattle.epx_report.specs.inner.BaseReadings.{put_pairs}
+use Rattle.epx_report.specs.between.PutPairs.{put_pairs}
 use Rattle.epx_report.specs.inner.LinesByKind.{with_next, with_all, Rise, IsBaseOf}
-use Rattle.epx_report.proofs.BaseLemmas.{entries_put}
-use Rattle.epx_report.proofs.BegunBaseLemmas.{allowed, both, equal, sorted_push, header_parts}
-use Rattle.epx_report.proofs.IdSetLemmas.{above_each}
-use Rattle.epx_report.proofs.LineOrderLemmas.{done_more, replies_more, waiting_more, stored_more}
-use Rattle.epx_report.proofs.RisingListLemmas.{is_true}
+use Rattle.epx_report.proofs.BaseLemmas.{entries-put_pairs}
+use Rattle.epx_report.proofs.BegunBaseLemmas.{Some-from_if, and-both, eq-from_true, is_sorted-push}
+use Rattle.epx_report.proofs.BegunBaseLemmas.{header_parts}
+use Rattle.epx_report.proofs.IdSetLemmas.{Below-if_after_last}
+use Rattle.epx_report.proofs.LineOrderLemmas.{lines-done, lines-replies, lines-waiting}
+use Rattle.epx_report.proofs.LineOrderLemmas.{lines-stored}
+use Rattle.epx_report.proofs.RisingListLemmas.{T-true}
 
 -- ---- further lines
 
@@ -39,52 +43,52 @@ module _ (p : BaseParts) (h : Rise p) where
   unfolding with_next
   next_line (line.Header c) q e = absurd (cc e)
   next_line (line.Done x) q e =
-      let goes = allowed _ (record p { done = p.done ++ x ∷ [] }) q e in
-      let rest = both _ _ goes.0 in
-      let more = both _ _ rest.0 in
-      let first = both _ _ more.0 in
+      let goes = Some-from_if _ (record p { done = p.done ++ x ∷ [] }) q e in
+      let rest = and-both _ _ goes.0 in
+      let more = and-both _ _ rest.0 in
+      let first = and-both _ _ more.0 in
       subst (Lead p (line.Done x ∷ [])) goes.1 (record {
-        said = done_more p.counts p.done (x ∷ []) p.replied p.waiting p.stored
-            (nil_from_length p.replied (equal _ _ first.0))
-            (nil_from_length p.waiting (equal _ _ first.1))
-            (nil_from_length p.stored (equal _ _ more.1));
+        said = lines-done p.counts p.done (x ∷ []) p.replied p.waiting p.stored
+            (nil_from_length p.replied (eq-from_true _ _ first.0))
+            (nil_from_length p.waiting (eq-from_true _ _ first.1))
+            (nil_from_length p.stored (eq-from_true _ _ more.1));
         rise = record {
           done = IsRising-push p.done x h.done
-              (λ y k. above_each p.done x y h.done rest.1 k);
+              (λ y k. Below-if_after_last p.done x y h.done rest.1 k);
           waiting = h.waiting;
           stored = h.stored;
         };
       })
   next_line (line.Reply x) q e =
-      let goes = allowed _ (record p { replied = p.replied ++ x ∷ [] }) q e in
-      let tests = both _ _ goes.0 in
+      let goes = Some-from_if _ (record p { replied = p.replied ++ x ∷ [] }) q e in
+      let tests = and-both _ _ goes.0 in
       subst (Lead p (line.Reply x ∷ [])) goes.1 (record {
-        said = replies_more p.counts p.done p.replied (x ∷ []) p.waiting p.stored
-            (nil_from_length p.waiting (equal _ _ tests.0))
-            (nil_from_length p.stored (equal _ _ tests.1));
+        said = lines-replies p.counts p.done p.replied (x ∷ []) p.waiting p.stored
+            (nil_from_length p.waiting (eq-from_true _ _ tests.0))
+            (nil_from_length p.stored (eq-from_true _ _ tests.1));
         rise = record { done = h.done; waiting = h.waiting; stored = h.stored };
       })
   next_line (line.Waiting x) q e =
-      let goes = allowed _ (record p { waiting = p.waiting ++ x ∷ [] }) q e in
-      let tests = both _ _ goes.0 in
+      let goes = Some-from_if _ (record p { waiting = p.waiting ++ x ∷ [] }) q e in
+      let tests = and-both _ _ goes.0 in
       subst (Lead p (line.Waiting x ∷ [])) goes.1 (record {
-        said = waiting_more p.counts p.done p.replied p.waiting (x ∷ []) p.stored
-            (nil_from_length p.stored (equal _ _ tests.0));
+        said = lines-waiting p.counts p.done p.replied p.waiting (x ∷ []) p.stored
+            (nil_from_length p.stored (eq-from_true _ _ tests.0));
         rise = record {
           done = h.done;
           waiting = IsRising-push p.waiting x h.waiting
-              (λ y k. above_each p.waiting x y h.waiting tests.1 k);
+              (λ y k. Below-if_after_last p.waiting x y h.waiting tests.1 k);
           stored = h.stored;
         };
       })
   next_line (line.Store k v) q e =
-      let goes = allowed _ (record p { stored = p.stored ++ (k, v) ∷ [] }) q e in
+      let goes = Some-from_if _ (record p { stored = p.stored ++ (k, v) ∷ [] }) q e in
       subst (Lead p (line.Store k v ∷ [])) goes.1 (record {
-        said = stored_more p.counts p.done p.replied p.waiting p.stored ((k, v) ∷ []);
+        said = lines-stored p.counts p.done p.replied p.waiting p.stored ((k, v) ∷ []);
         rise = record {
           done = h.done;
           waiting = h.waiting;
-          stored = sorted_push p.stored (k, v) h.stored goes.0;
+          stored = is_sorted-push p.stored (k, v) h.stored goes.0;
         };
       })
 
@@ -113,12 +117,12 @@ all_lead p (l ∷ ls) q h e = next (with_next p l) refl (λ u. all_lead u ls q)
 -- ---- the base
 
 -- a header, and lines after it, are a base of their parts
-pub whole_is_base : (bytes first rest : List ℕ) (c : Counts) (said : List BaseLine)
+pub IsBase-from_lines : (bytes first rest : List ℕ) (c : Counts) (said : List BaseLine)
     (p : BaseParts) (done : List Id) (stored : Contents)
     → lines_of bytes ≡ first ∷ lines_of rest → base_line_of first ≡ Some (line.Header c)
     → Say (lines_of rest) said → with_all (header_parts c) said ≡ Some p
     → (Rise p → IsBaseOf p done stored) → IsBase bytes done stored
-whole_is_base bytes first rest c said p done stored lines header are taken made =
+IsBase-from_lines bytes first rest c said p done stored lines header are taken made =
     let all = all_lead (header_parts c) said p
     (record { done = tt; waiting = tt; stored = tt }) taken in
     let is = made all.rise in
@@ -153,15 +157,16 @@ once_from_sorted : (xs sorted : List Id) → IsPermutation xs sorted → IsRisin
     → AllPairs (λ x y. x ≢ y) xs
 once_from_sorted xs sorted moved rises =
     AllPairs-from_IsDistinct id_cmp-Decides xs
-    (IsDistinct-IsPermutation (eq_by_cmp id_cmp) (eq_by_cmp_equiv id_cmp_total).symm sorted xs
+    (IsDistinct-IsPermutation (eq_by_cmp id_cmp) (eq_by_cmp_equiv id_cmp-IsTotalOrder).symm sorted
+    xs
     (IsPermutation-sym xs sorted moved)
-    (IsDistinct-from_AllPairs id_cmp-Decides sorted (rising_once sorted rises)))
+    (IsDistinct-from_AllPairs id_cmp-Decides sorted (AllPairs-rising_distinct sorted rises)))
 
 none_among : (ids ws : List Id) → list_any (λ x. is_among ids x) ws ≡ false → (x : Id)
     → Contains ws x → ¬ Contains ids x
 none_among ids [] e x h = absurd (Contains-nil x h)
 none_among ids (w ∷ ws) e x h =
-    elim (is_among_cases ids w) [
+    elim (is_among-cases ids w) [
       | inl found ↦
           let some : list_any (λ y. is_among ids y) (w ∷ ws) ≡ true = rw found.0 refl in
           absurd (cc (some, e))
@@ -172,11 +177,11 @@ none_among ids (w ∷ ws) e x h =
     ]
 
 -- parts with as many lines as the header says are those of a base, if no instance is named twice
-pub parts_of_base : (p : BaseParts) (ids : List Id) (stored : Contents)
+pub IsBaseOf-if_counted : (p : BaseParts) (ids : List Id) (stored : Contents)
     → length p.replied ≡ p.counts.executed → length p.waiting ≡ p.counts.waiting → IsRising ids
     → IsPermutation (p.done ++ p.replied) ids → list_any (λ x. is_among ids x) p.waiting ≡ false
     → stored ≡ put_pairs p.stored contents.empty → Rise p → IsBaseOf p ids stored
-parts_of_base p ids stored replies waiting rises moved none is_stored h =
+IsBaseOf-if_counted p ids stored replies waiting rises moved none is_stored h =
     let all = p.done ++ p.replied in
     let once = once_from_sorted all ids moved rises in
     let there : (x : Id) → Contains p.done x ⊎ Contains p.replied x → Contains ids x =
@@ -199,10 +204,10 @@ parts_of_base p ids stored replies waiting rises moved none is_stored h =
             λ new. none_among ids p.waiting none x k (there x (inr new)),
           );
         };
-        stored_rise = is_true _ h.stored;
+        stored_rise = T-true _ h.stored;
         replies_counted = replies;
         waiting_counted = waiting;
       };
       are_done = record { rising = rises; each = λ x. (back x, there x) };
-      are_stored = ap contents.entries is_stored ∙ entries_put p.stored h.stored;
+      are_stored = ap contents.entries is_stored ∙ entries-put_pairs p.stored h.stored;
     }

@@ -10,8 +10,8 @@ use Rattle.epx_report.specs.Lists.{IsBadList}
 use Rattle.epx_report.specs.ListLaws.{ListOrBadList, ListIsNoBadList, ListNamesOneList}
 use Rattle.epx_report.specs.ListLaws.{BadListIsBadAtOneLine}
 use Rattle.epx_report.specs.inner.ListReadings.{read_list_lines, list_reading}
-use Rattle.epx_report.proofs.BadLineLemmas.{none_bad, one_bad}
-use Rattle.epx_report.proofs.SaidLineLemmas.{first_some, same_somes}
+use Rattle.epx_report.proofs.BadLineLemmas.{IsFirstNotGood-if_good, IsFirstNotGood-is_unique}
+use Rattle.epx_report.proofs.SaidLineLemmas.{map-Some_cons, map-Some_is_injective}
 
 -- ---- one line more
 
@@ -35,7 +35,7 @@ id_more l ls x ids e named h =
 id_less : (l : List ℕ) (ls : List (List ℕ)) (ids : List Id) → is_blank l ≡ false
     → LinesName (l ∷ ls) ids
     → (x : Id) × (rest : List Id) × (listed_id_of l ≡ Some x) × LinesName ls rest × (ids ≡ x ∷ rest)
-id_less l ls ids e h = first_some (listed_id_of l) (map listed_id_of (filled_lines ls)) ids
+id_less l ls ids e h = map-Some_cons (listed_id_of l) (map listed_id_of (filled_lines ls)) ids
     (sym (ap (map listed_id_of) (filled l ls e)) ∙ h)
 
 -- ---- reading all lines
@@ -110,16 +110,16 @@ fewer_lines (suc n) (l ∷ ls) h = fewer (is_blank l) refl (fewer_lines n ls)
         (less.0 ∷ rest.0, id_more l (take n ls) less.0 rest.0 e less.2 rest.1)
 
 -- what reading yields is the list
-pub list_is_read : (bytes : List ℕ) (ids : List Id) → list_reading bytes ≡ Ok ids
+pub IsList-from_reading : (bytes : List ℕ) (ids : List Id) → list_reading bytes ≡ Ok ids
     → IsList bytes ids
-list_is_read bytes ids e =
+IsList-from_reading bytes ids e =
     let all = subst (Reads [] 1 (lines_of bytes)) e (reads_all [] 1 (lines_of bytes)) in
     subst (LinesName (lines_of bytes)) (sym all.2) all.1
 
 -- the line at which reading stops is the first bad one
-pub bad_list_is_read : (bytes : List ℕ) (line : ℕ) → list_reading bytes ≡ Err line
+pub IsBadList-from_reading : (bytes : List ℕ) (line : ℕ) → list_reading bytes ≡ Err line
     → IsBadList bytes line
-bad_list_is_read bytes line e =
+IsBadList-from_reading bytes line e =
     let stopped = subst (Reads [] 1 (lines_of bytes)) e (reads_all [] 1 (lines_of bytes)) in
     let before : stopped.0 ≡ line - 1 = omega (arith, stopped.1) in
     let here : suc stopped.0 ≡ line = omega (arith, stopped.1) in
@@ -130,18 +130,19 @@ bad_list_is_read bytes line e =
 
 one_or_the_other : (bytes : List ℕ) (r : Result (List Id) ℕ) → list_reading bytes ≡ r
     → ((ids : List Id) × IsList bytes ids) ⊎ ((line : ℕ) × IsBadList bytes line)
-one_or_the_other bytes (Ok ids) e = inl (ids, list_is_read bytes ids e)
-one_or_the_other bytes (Err n) e = inr (n, bad_list_is_read bytes n e)
+one_or_the_other bytes (Ok ids) e = inl (ids, IsList-from_reading bytes ids e)
+one_or_the_other bytes (Err n) e = inr (n, IsBadList-from_reading bytes n e)
 
-pub list_or_bad_list : ListOrBadList
-list_or_bad_list bytes = one_or_the_other bytes (list_reading bytes) refl
+pub ListOrBadList-holds : ListOrBadList
+ListOrBadList-holds bytes = one_or_the_other bytes (list_reading bytes) refl
 
-pub list_is_no_bad_list : ListIsNoBadList
-list_is_no_bad_list bytes ids line is =
-    none_bad AreListLines fewer_lines (lines_of bytes) line (ids, is)
+pub ListIsNoBadList-holds : ListIsNoBadList
+ListIsNoBadList-holds bytes ids line is =
+    IsFirstNotGood-if_good AreListLines fewer_lines (lines_of bytes) line (ids, is)
 
-pub list_names_one_list : ListNamesOneList
-list_names_one_list bytes ids other p q = same_somes ids other (sym p ∙ q)
+pub ListNamesOneList-holds : ListNamesOneList
+ListNamesOneList-holds bytes ids other p q = map-Some_is_injective ids other (sym p ∙ q)
 
-pub bad_list_is_bad_at_one_line : BadListIsBadAtOneLine
-bad_list_is_bad_at_one_line bytes = one_bad AreListLines fewer_lines (lines_of bytes)
+pub BadListIsBadAtOneLine-holds : BadListIsBadAtOneLine
+BadListIsBadAtOneLine-holds bytes =
+    IsFirstNotGood-is_unique AreListLines fewer_lines (lines_of bytes)

@@ -8,7 +8,8 @@ use Rattle.serde_json.specs.Data.{Data, string}
 use Rattle.epx_lines.specs.Elements.{whole, signed}
 use Rattle.epx_lines.specs.DependencyList.{id_of_pair}
 use Rattle.epx_lines.specs.OperationList.{key_of}
-use Rattle.epx_report.specs.declared.from_value.BaseLine.TheVariants.{Header, Done, Reply, Waiting, Store}
+use Rattle.epx_report.specs.declared.from_value.BaseLine.TheVariants.{Header, Done, Reply, Waiting}
+use Rattle.epx_report.specs.declared.from_value.BaseLine.TheVariants.{Store}
 use Rattle.epx_report.specs.Forms.{counts_of, header_of, is_value_list, is_op_index, is_outcome}
 use Rattle.epx_report.specs.Forms.{id_line_of, short_line_of, form_named}
 

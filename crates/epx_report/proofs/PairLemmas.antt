@@ -9,8 +9,8 @@ zip_at_end (x ∷ xs) [] h = refl
 zip_at_end (x ∷ xs) (y ∷ ys) (inl e) = absurd (cc e)
 zip_at_end (x ∷ xs) (y ∷ ys) (inr e) = absurd (cc e)
 
-pub printed_to_end : {A B : Type 0} (f : A × B → List ℕ) (text whole : List ℕ) (xs : List A)
+pub flat_map-zip_at_end : {A B : Type 0} (f : A × B → List ℕ) (text whole : List ℕ) (xs : List A)
     (ys : List B) → text ++ flat_map f (zip xs ys) ≡ whole → (length xs ≡ 0) ⊎ (length ys ≡ 0)
     → text ≡ whole
-printed_to_end f text whole xs ys e h =
+flat_map-zip_at_end f text whole xs ys e h =
     sym (append-nil text) ∙ ap (λ zs. text ++ flat_map f zs) (sym (zip_at_end xs ys h)) ∙ e

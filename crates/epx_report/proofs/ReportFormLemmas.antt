@@ -94,9 +94,9 @@ length-header executed waiting components e w c =
       length-append (decimal components) (93 ∷ []),
     )
 
-pub plain_header : (executed waiting components : ℕ) → executed < 2 ^ 64 → waiting < 2 ^ 64
+pub IsPlain-header : (executed waiting components : ℕ) → executed < 2 ^ 64 → waiting < 2 ^ 64
     → components < 2 ^ 64 → IsPlain (array_of (header_data executed waiting components))
-plain_header executed waiting components e w c = (
+IsPlain-header executed waiting components e w c = (
   plain_name (codes "executed") refl,
   (
     plain_number executed e,
@@ -116,7 +116,7 @@ pub base_line_of-header : (executed waiting components : ℕ) → executed < 2 ^
     ≡ Some (line.Header (record { executed = executed; waiting = waiting }))
 base_line_of-header executed waiting components e w c =
     base_line_of-written (array_of (header_data executed waiting components)) _
-    (plain_header executed waiting components e w (omega arith))
+    (IsPlain-header executed waiting components e w (omega arith))
     (omega arith) (length-header executed waiting components e w (omega arith))
     (form_of-header executed waiting components e w c)
 
@@ -152,9 +152,9 @@ length-waiting w x m =
       length-append (decimal w.missing.number) (93 ∷ []),
     )
 
-pub plain_waiting : (w : Waiting) → FitsNumbers w.id → FitsNumbers w.missing
+pub IsPlain-waiting : (w : Waiting) → FitsNumbers w.id → FitsNumbers w.missing
     → IsPlain (array_of (waiting_data w))
-plain_waiting w x m = (
+IsPlain-waiting w x m = (
   plain_name (codes "waiting") refl,
   (
     plain_number w.id.replica (omega (arith, x.0)),
@@ -171,7 +171,7 @@ plain_waiting w x m = (
 pub base_line_of-waiting : (w : Waiting) → FitsNumbers w.id → FitsNumbers w.missing
     → base_line_of (compact_text (array_of (waiting_data w))) ≡ Some (line.Waiting w.id)
 base_line_of-waiting w x m =
-    base_line_of-written (array_of (waiting_data w)) _ (plain_waiting w x m) (omega arith)
+    base_line_of-written (array_of (waiting_data w)) _ (IsPlain-waiting w x m) (omega arith)
     (length-waiting w x m) (form_of-waiting w x m)
 
 -- ---- done lines and store lines
@@ -195,15 +195,16 @@ length-store k v key fits =
       length-append value (93 ∷ []),
     )
 
-pub plain_store : (k : List ℕ) (v : ℤ) → IsUtf8 k → FitsSigned w64 v
+pub IsPlain-store : (k : List ℕ) (v : ℤ) → IsUtf8 k → FitsSigned w64 v
     → IsPlain (array_of (store_data (k, v)))
-plain_store k v utf8 fits =
+IsPlain-store k v utf8 fits =
     (plain_name (codes "store") refl, (utf8, (IsWritable-of_integer v fits, tt)))
 
 pub base_line_of-store : (k : List ℕ) (v : ℤ) → FitsKey k → IsUtf8 k → FitsSigned w64 v
     → base_line_of (compact_text (array_of (store_data (k, v)))) ≡ Some (line.Store k v)
 base_line_of-store k v key utf8 fits =
-    base_line_of-written (array_of (store_data (k, v))) _ (plain_store k v utf8 fits) (omega arith)
+    base_line_of-written (array_of (store_data (k, v))) _ (IsPlain-store k v utf8 fits)
+    (omega arith)
     (length-store k v key fits) (form_of-store k v key fits)
 
 form_of-done : (x : Id) → FitsNumbers x → form_of (array_of (done_data x)) ≡ Some (line.Done x)
@@ -343,16 +344,16 @@ length-reply x (Abort j) h f =
       length-append (decimal j) (93 ∷ []),
     )
 
-pub plain_reply : (x : Id) (y : Reply) → FitsNumbers x → FitsReply y
+pub IsPlain-reply : (x : Id) (y : Reply) → FitsNumbers x → FitsReply y
     → IsPlain (array_of (reply_data x y))
-plain_reply x (Values vs) h f = (
+IsPlain-reply x (Values vs) h f = (
   plain_name (codes "reply") refl,
   (
     plain_number x.replica (omega (arith, h.0)),
     (plain_number x.number h.1, (plain_name (codes "ok") refl, (plain_values vs f.1, tt))),
   ),
 )
-plain_reply x (Abort j) h f = (
+IsPlain-reply x (Abort j) h f = (
   plain_name (codes "reply") refl,
   (
     plain_number x.replica (omega (arith, h.0)),
@@ -370,10 +371,10 @@ depth-reply x (Abort j) = omega arith
 pub base_line_of-reply : (x : Id) (y : Reply) → FitsNumbers x → FitsReply y
     → base_line_of (compact_text (array_of (reply_data x y))) ≡ Some (line.Reply x)
 base_line_of-reply x y h f = base_line_of-written (array_of (reply_data x y)) _
-    (plain_reply x y h f) (depth-reply x y) (length-reply x y h f) (form_of-reply x y h f)
+    (IsPlain-reply x y h f) (depth-reply x y) (length-reply x y h f) (form_of-reply x y h f)
 
-pub plain_done : (x : Id) → FitsNumbers x → IsPlain (array_of (done_data x))
-plain_done x h = (
+pub IsPlain-done : (x : Id) → FitsNumbers x → IsPlain (array_of (done_data x))
+IsPlain-done x h = (
   plain_name (codes "done") refl,
   (plain_number x.replica (omega (arith, h.0)), (plain_number x.number h.1, tt)),
 )
@@ -381,5 +382,5 @@ plain_done x h = (
 pub base_line_of-done : (x : Id) → FitsNumbers x
     → base_line_of (compact_text (array_of (done_data x))) ≡ Some (line.Done x)
 base_line_of-done x h =
-    base_line_of-written (array_of (done_data x)) _ (plain_done x h) (omega arith)
+    base_line_of-written (array_of (done_data x)) _ (IsPlain-done x h) (omega arith)
     (length-done x h) (form_of-done x h)

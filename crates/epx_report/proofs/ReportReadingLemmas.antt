@@ -22,8 +22,8 @@ use Rattle.epx_report.specs.ReportReadings.{FitsNumbers, FitsReply, FitsReportDa
 use Rattle.epx_report.specs.ReportReadings.{ReportIsReadAsItSays}
 use Rattle.epx_report.proofs.LineFeedLemmas.{is_unbroken, lines_of-unbroken, lines_of-each}
 use Rattle.epx_report.proofs.WrittenDataLemmas.{IsPlain, is_unbroken-compact_text}
-use Rattle.epx_report.proofs.ReportFormLemmas.{plain_header, plain_done, plain_reply}
-use Rattle.epx_report.proofs.ReportFormLemmas.{plain_waiting, plain_store, base_line_of-header}
+use Rattle.epx_report.proofs.ReportFormLemmas.{IsPlain-header, IsPlain-done, IsPlain-reply}
+use Rattle.epx_report.proofs.ReportFormLemmas.{IsPlain-waiting, IsPlain-store, base_line_of-header}
 use Rattle.epx_report.proofs.ReportFormLemmas.{base_line_of-done, base_line_of-reply}
 use Rattle.epx_report.proofs.ReportFormLemmas.{base_line_of-waiting, base_line_of-store}
 
@@ -85,18 +85,18 @@ module _ (r : ReportData) (h : FitsReportData r) where
       let waiting = flat_map waiting_line r.waiting ++ stored in
       let replies = flat_map reply_line r.replies ++ waiting in
       let all_done = lines_of-each (λ x. text_of (done_data x)) r.done replies
-      (All-weaker (λ x f. unbroken (done_data x) (plain_done x f)) r.done h.done_fit) in
+      (All-weaker (λ x f. unbroken (done_data x) (IsPlain-done x f)) r.done h.done_fit) in
       let all_replies = lines_of-each (λ p. text_of (reply_data p.0 p.1)) r.replies waiting
       (All-weaker (λ (p : Id × Reply) (f : FitsNumbers p.0 × FitsReply p.1).
-      unbroken (reply_data p.0 p.1) (plain_reply p.0 p.1 f.0 f.1)) r.replies h.replies_fit) in
+      unbroken (reply_data p.0 p.1) (IsPlain-reply p.0 p.1 f.0 f.1)) r.replies h.replies_fit) in
       let all_waiting = lines_of-each (λ w. text_of (waiting_data w)) r.waiting stored
       (All-weaker (λ (w : Waiting) (f : FitsNumbers w.id × FitsNumbers w.missing).
-      unbroken (waiting_data w) (plain_waiting w f.0 f.1)) r.waiting h.waiting_fit) in
+      unbroken (waiting_data w) (IsPlain-waiting w f.0 f.1)) r.waiting h.waiting_fit) in
       let all_stored = lines_of-each (λ p. text_of (store_data p)) r.stored []
       (All-weaker (λ (p : List ℕ × ℤ) (f : FitsKey p.0 × IsUtf8 p.0 × FitsSigned w64 p.1).
-      unbroken (store_data p) (plain_store p.0 p.1 f.1 f.2)) r.stored h.stored_fit) in
+      unbroken (store_data p) (IsPlain-store p.0 p.1 f.1 f.2)) r.stored h.stored_fit) in
       let header = unbroken (header_data (length r.replies) (length r.waiting) r.components)
-      (plain_header (length r.replies) (length r.waiting) r.components h.replies_counted
+      (IsPlain-header (length r.replies) (length r.waiting) r.components h.replies_counted
       h.waiting_counted (omega (arith, h.few_components, h.replies_counted))) in
       ap lines_of
       (append_assoc (text_of (header_data (length r.replies) (length r.waiting) r.components))
@@ -141,7 +141,7 @@ said_in_order r =
     (ap₂ (λ a b. a ++ b) (map_named (λ (p : Id × Reply). p.0) line.Reply r.replies)
     (ap (λ a. a ++ stored) (map_named (λ (w : Waiting). w.id) line.Waiting r.waiting)))
 
-pub report_is_read_as_it_says : ReportIsReadAsItSays
-report_is_read_as_it_says r h =
+pub ReportIsReadAsItSays-holds : ReportIsReadAsItSays
+ReportIsReadAsItSays-holds r h =
     ap (map base_line_of) (lines_of-reported r h)
     ∙ (texts_say r h ∙ ap (map Some) (said_in_order r))

@@ -4,7 +4,7 @@ use Rattle.std.proofs.Common.{Greater, is_lt, ℤ, List, [], ◌∷◌, ◌++◌
 use Rattle.std.proofs.Common.{option_map, refl, sym, ap, ◌∙◌, subst, arith}
 use Rattle.epx_types.proofs.Common.{insert_key, is_sorted, id_cmp, IsRising, key_cmp, Contains-nil}
 use Rattle.epx_types.proofs.Common.{Contains-head, Contains-cons, Contains-cons_cases}
-use Rattle.epx_types.proofs.Common.{id_cmp-IsAntisymmetric, first_of, second_of}
+use Rattle.epx_types.proofs.Common.{id_cmp-IsAntisymmetric, and-first, and-second}
 use Rattle.epx_types.specs.declared.id.Id.{Id}
 use Rattle.epx_report.specs.inner.Progress.{last, is_after_last}
 
@@ -57,20 +57,22 @@ last-cons x z zs =
     let back : suc (length zs) - 1 ≡ length zs = omega arith in
     ap (slice_get (x ∷ z ∷ zs)) front ∙ sym (ap (slice_get (z ∷ zs)) back)
 
-pub above_last : (xs : List Id) (y : Id) (ys : List Id) → IsRising (xs ++ y ∷ ys)
+pub is_after_last-rising : (xs : List Id) (y : Id) (ys : List Id) → IsRising (xs ++ y ∷ ys)
     → is_after_last id_cmp (last xs) y ≡ true
-above_last [] y ys h = refl
-above_last (x ∷ []) y ys h = h.0.0
-above_last (x ∷ z ∷ zs) y ys h = rw (last-cons x z zs) (above_last (z ∷ zs) y ys h.1)
+is_after_last-rising [] y ys h = refl
+is_after_last-rising (x ∷ []) y ys h = h.0.0
+is_after_last-rising (x ∷ z ∷ zs) y ys h =
+    rw (last-cons x z zs) (is_after_last-rising (z ∷ zs) y ys h.1)
 
-pub is_true : (b : Bool) → T b → b ≡ true
-is_true true h = refl
-is_true false h = absurd h
+pub T-true : (b : Bool) → T b → b ≡ true
+T-true true h = refl
+T-true false h = absurd h
 
-pub above_last_key : (es : List (List ℕ × ℤ)) (e : List ℕ × ℤ) (fs : List (List ℕ × ℤ))
+pub is_after_last-sorted : (es : List (List ℕ × ℤ)) (e : List ℕ × ℤ) (fs : List (List ℕ × ℤ))
     → T (is_sorted key_cmp (es ++ e ∷ fs))
     → is_after_last key_cmp (option_map (λ p. p.0) (last es)) e.0 ≡ true
-above_last_key [] e fs h = refl
-above_last_key (d ∷ []) e fs h = is_true (is_lt (key_cmp d.0 e.0)) (first_of _ _ (first_of _ _ h))
-above_last_key (d ∷ c ∷ es) e fs h =
-    rw (last-cons d c es) (above_last_key (c ∷ es) e fs (second_of _ _ h))
+is_after_last-sorted [] e fs h = refl
+is_after_last-sorted (d ∷ []) e fs h =
+    T-true (is_lt (key_cmp d.0 e.0)) (and-first _ _ (and-first _ _ h))
+is_after_last-sorted (d ∷ c ∷ es) e fs h =
+    rw (last-cons d c es) (is_after_last-sorted (c ∷ es) e fs (and-second _ _ h))

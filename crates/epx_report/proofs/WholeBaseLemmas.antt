@@ -4,10 +4,11 @@ use Rattle.std.proofs.Common.{List, [], ◌∷◌, ◌++◌, length, map, Contai
 use Rattle.std.proofs.Common.{ap, subst, arith, append-nil, length-append}
 use Rattle.epx_types.proofs.Common.{nat_tests, append_assoc, insert_key, is_sorted, id_cmp}
 use Rattle.epx_types.proofs.Common.{IsRising, key_cmp, Contains-nil, Contains-head, Contains-cons}
-use Rattle.epx_types.proofs.Common.{Contains-cons_cases, AllPairs-head, AllPairs-tail, same_ids}
+use Rattle.epx_types.proofs.Common.{Contains-cons_cases, AllPairs-head, AllPairs-tail}
+use Rattle.epx_types.proofs.Common.{IsRising-is_unique}
 use Rattle.epx_types.specs.declared.id.Id.{Id}
 use Rattle.epx_lines.proofs.EntryLemmas.{IsRising-insert, IsRising-fold}
-use Rattle.epx_lines.proofs.OtherIdLemmas.{insert_last}
+use Rattle.epx_lines.proofs.OtherIdLemmas.{insert_key-last}
 use Rattle.epx_report.specs.declared.from_value.Counts.{Counts}
 use Rattle.epx_report.specs.declared.from_value.BaseLine.{BaseLine}
 use Rattle.epx_report.specs.declared.from_value.BaseLine.TheVariants as line
@@ -16,14 +17,15 @@ use Rattle.epx_report.specs.inner.Progress.{Progress, nothing_seen, after, is_co
 use Rattle.epx_report.specs.inner.BaseReadings.{after_all}
 use Rattle.epx_report.specs.inner.IdSets.{with_late}
 use Rattle.epx_report.proofs.IdSetLemmas.{Contains-with_rising, Contains-with_late}
-use Rattle.epx_report.proofs.IdSetLemmas.{Contains-with_cases, not_among}
+use Rattle.epx_report.proofs.IdSetLemmas.{Contains-with_cases, is_among-if_missing}
 use Rattle.epx_report.proofs.RisingListLemmas.{Contains-insert_itself, Contains-insert_other}
-use Rattle.epx_report.proofs.RisingListLemmas.{Contains-insert_cases, above_last, above_last_key}
+use Rattle.epx_report.proofs.RisingListLemmas.{Contains-insert_cases, is_after_last-rising}
+use Rattle.epx_report.proofs.RisingListLemmas.{is_after_last-sorted}
 
 -- the done instances of a base can be listed
-pub done_exists : (before replied : List Id) → IsRising before
+pub AreDoneIn-exists : (before replied : List Id) → IsRising before
     → (done : List Id) × AreDoneIn before replied done
-done_exists before replied rising = (
+AreDoneIn-exists before replied rising = (
   with_late before replied,
   record {
     rising = IsRising-fold before replied rising;
@@ -74,7 +76,12 @@ module _ (c : Counts) where
       ≡ Some (state c done c.executed waiting (qs ++ p ∷ []))
   unfolding after
   after-store done waiting qs p ps all rises =
-      rw (tied c.executed, eq_with (length waiting) c.waiting all, above_last_key qs p ps rises)
+      rw (
+        tied c.executed,
+        eq_with (length waiting) c.waiting all,
+        is_after_last-sorted qs p ps
+            rises,
+      )
       refl
 
   stored_lead : (done waiting : List Id) (qs ps : List (List ℕ × ℤ)) → length waiting ≡ c.waiting
@@ -104,8 +111,8 @@ module _ (c : Counts) where
       rw (
         tied c.executed,
         lower (length vs) c.waiting few,
-        above_last vs x xs rising,
-        not_among done x left,
+        is_after_last-rising vs x xs rising,
+        is_among-if_missing done x left,
       ) refl
 
   waiting_lead : (done vs ws : List Id) (ls : List BaseLine) (end : Progress)
@@ -132,7 +139,7 @@ module _ (c : Counts) where
       → after (state c done k [] []) (line.Reply x)
       ≡ Some (state c (insert_key id_cmp done x) (k + 1) [] [])
   unfolding after
-  after-reply done k x few new = rw (lower k c.executed few, not_among done x new) refl
+  after-reply done k x few new = rw (lower k c.executed few, is_among-if_missing done x new) refl
 
   replies_lead : (before now : List Id) (k : ℕ) (rs : List Id) (ls : List BaseLine) (end : Progress)
       → k + length rs ≡ c.executed → IsRising before → AllPairs (λ x y. x ≢ y) rs
@@ -143,7 +150,7 @@ module _ (c : Counts) where
   replies_lead before now k [] ls end all rising once new rising_now each more =
       let there : (x : Id) → Contains now x → Contains before x =
       λ x h. elim ((each x).0 h) [ inl was ↦ was | inr none ↦ absurd (Contains-nil x none) ] in
-      let same : now ≡ before = same_ids now before rising_now rising there
+      let same : now ≡ before = IsRising-is_unique now before rising_now rising there
       (λ x h. (each x).1 (inl h)) in
       let counted : c.executed ≡ k = omega (arith, all) in
       subst (λ d. LeadTo (state c d k [] []) ls end) same
@@ -182,8 +189,8 @@ module _ (c : Counts) where
   after-done : (xs : List Id) (y : Id) (ys : List Id) → IsRising (xs ++ y ∷ ys)
       → after (state c xs 0 [] []) (line.Done y) ≡ Some (state c (xs ++ y ∷ []) 0 [] [])
   unfolding after
-  after-done xs y ys rising = rw (above_last xs y ys rising)
-      (ap (λ d. Some (state c d 0 [] [])) (insert_last xs y ys rising))
+  after-done xs y ys rising = rw (is_after_last-rising xs y ys rising)
+      (ap (λ d. Some (state c d 0 [] [])) (insert_key-last xs y ys rising))
 
   done_lead : (xs ys : List Id) (ls : List BaseLine) (end : Progress) → IsRising (xs ++ ys)
       → LeadTo (state c (xs ++ ys) 0 [] []) ls end
@@ -209,10 +216,10 @@ module _ (c : Counts) where
 abbrev pub end_of : BaseParts → List Id → Progress
 end_of p done = state p.counts done p.counts.executed p.waiting p.stored
 
-pub whole_is_read : (p : BaseParts) (done : List Id) → AreBaseParts p
+pub after_all-whole : (p : BaseParts) (done : List Id) → AreBaseParts p
     → AreDoneIn p.done p.replied done
     → after_all nothing_seen (lines_in_order p) ≡ Some (end_of p done)
-whole_is_read p done h those =
+after_all-whole p done h those =
     let c = p.counts in
     let rises : T (is_sorted key_cmp p.stored) = subst T (sym h.stored_rise) tt in
     let left : (x : Id) → Contains p.waiting x → ¬ Contains done x =
@@ -230,7 +237,7 @@ whole_is_read p done h those =
     let from_done = done_lead c [] p.done _ end h.distinct.done_rise from_replies in
     leads_on nothing_seen (state c [] 0 [] []) end (line.Header c) _ (after-header c) from_done
 
-pub end_is_complete : (p : BaseParts) (done : List Id) → AreBaseParts p
+pub is_complete-end_of : (p : BaseParts) (done : List Id) → AreBaseParts p
     → is_complete (end_of p done) ≡ true
-end_is_complete p done h =
+is_complete-end_of p done h =
     rw (tied p.counts.executed, eq_with (length p.waiting) p.counts.waiting h.waiting_counted) refl

@@ -24,7 +24,7 @@ use Rattle.serde_json.specs.Read.{number_of, of_json, of_items, read, max_depth}
 use Rattle.serde_json.specs.Written.{number_text, outline, items_outline, compact_text, items_text}
 use Rattle.serde_json.proofs.Texts.{print-outline}
 use Rattle.serde_json.proofs.Numbers.{number_of-decimal, number_of-negative}
-use Rattle.epx_report.proofs.LineFeedLemmas.{is_unbroken, both_unbroken, is_unbroken-decimal}
+use Rattle.epx_report.proofs.LineFeedLemmas.{is_unbroken, is_unbroken-append, is_unbroken-decimal}
 use Rattle.epx_report.proofs.LineFeedLemmas.{is_unbroken-quoted}
 use Rattle.epx_lines.specs.Meaning.{json_of}
 use Rattle.epx_lines.proofs.JsonTextLemmas.{json_of-some}
@@ -122,10 +122,10 @@ mutual
       → is_unbroken (items_text later ds) ≡ true
   is_unbroken-items_text later no_items h = refl
   is_unbroken-items_text true (item d ds) h =
-      both_unbroken (compact_text d) (items_text true ds) (is_unbroken-compact_text d h.0)
+      is_unbroken-append (compact_text d) (items_text true ds) (is_unbroken-compact_text d h.0)
       (is_unbroken-items_text true ds h.1)
   is_unbroken-items_text false (item d ds) h =
-      both_unbroken (compact_text d) (items_text true ds) (is_unbroken-compact_text d h.0)
+      is_unbroken-append (compact_text d) (items_text true ds) (is_unbroken-compact_text d h.0)
       (is_unbroken-items_text true ds h.1)
 
 tokens-compact_text : (d : Data) → IsPlain d

@@ -13,7 +13,8 @@ use Rattle.epx_lines.specs.DependencyList.{id_of_pair}
 use Rattle.epx_lines.specs.OperationList.{key_of, value_or_null}
 use Rattle.epx_report.specs.declared.from_value.Counts.{Counts}
 use Rattle.epx_report.specs.declared.from_value.BaseLine.{BaseLine}
-use Rattle.epx_report.specs.declared.from_value.BaseLine.TheVariants.{Header, Done, Reply, Waiting, Store}
+use Rattle.epx_report.specs.declared.from_value.BaseLine.TheVariants.{Header, Done, Reply, Waiting}
+use Rattle.epx_report.specs.declared.from_value.BaseLine.TheVariants.{Store}
 
 -- there is a text, and it is this one
 abbrev pub is_same_text : List ℕ → Option (List ℕ) → Bool

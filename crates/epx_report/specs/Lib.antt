@@ -7,6 +7,5 @@ pub mod ListLaws
 pub mod ReportLines
 pub mod ViewLines
 pub mod ReportReadings
-pub mod ReportBases
-pub mod DoneAndStored
+pub mod between
 pub mod inner

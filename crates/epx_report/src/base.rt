@@ -20,7 +20,7 @@ pub struct Base {
 }
 
 impl Model for Base {
-    ghost use Rattle.epx_report.specs.DoneAndStored.{DoneAndStored, done_and_stored_code};
+    ghost use Rattle.epx_report.specs.between.DoneAndStored.{DoneAndStored, done_and_stored_code};
     ghost use Rattle.epx_types.specs.Ids.{IsRising};
 
     ghost Value = { DoneAndStored };

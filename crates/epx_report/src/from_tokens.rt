@@ -4,7 +4,7 @@
 ghost use Rattle.std.specs.Prelude.{◌≡◌, true, [], ◌∷◌, codes, Some, IfSome, option_and_then};
 ghost use Rattle.serde_json.specs.Data.{Data};
 ghost use Rattle.epx_lines.specs.Meaning.{json_of};
-ghost use Rattle.epx_lines.specs.Tokens.{ReadsValue, ReadsValues, ParsesTo, ParsesAllTo};
+ghost use Rattle.epx_lines.specs.between.Tokens.{ReadsValue, ReadsValues, ParsesTo, ParsesAllTo};
 ghost use Rattle.epx_report.specs.Forms.{is_value_list, is_op_index, is_outcome, form_named};
 ghost use Rattle.epx_report.specs.Forms.{form_of};
 

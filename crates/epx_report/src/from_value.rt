@@ -32,8 +32,8 @@ pub(crate) enum BaseLine {
     Store { key: Key, value: i64 },
 }
 
-/// Whether the value is exactly this text.
-fn has_text(value: &Value, text: &str) -> bool
+/// Whether the value is a string with exactly this text.
+pub fn has_text(value: &Value, text: &str) -> bool
     ensures { result ≡ is_text text.now (view value.now) }
 {
     match value.as_str() {

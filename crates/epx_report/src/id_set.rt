@@ -43,7 +43,7 @@ impl Model for IdSet {
     ghost use Rattle.std.specs.Prelude.{List};
     ghost use Rattle.std.specs.Coded.{coded_list};
     ghost use Rattle.epx_types.specs.declared.id.Id.{Id};
-    ghost use Rattle.epx_report.specs.DoneAndStored.{id_code};
+    ghost use Rattle.epx_report.specs.between.DoneAndStored.{id_code};
     ghost use Rattle.epx_report.specs.inner.IdSets.{AreRisingAndLate, with_late};
 
     ghost Value = { List Id };

@@ -4,7 +4,7 @@ ghost use Rattle.epx_report.specs.Laws.{BadBaseIsBadAtOneLine};
 ghost use Rattle.epx_report.specs.ListLaws.{ListOrBadList, ListIsNoBadList, ListNamesOneList};
 ghost use Rattle.epx_report.specs.ListLaws.{BadListIsBadAtOneLine};
 ghost use Rattle.epx_report.specs.ReportReadings.{ReportIsReadAsItSays};
-ghost use Rattle.epx_report.specs.ReportBases.{DoneAfterExists, ReportIsABase};
+ghost use Rattle.epx_report.specs.between.ReportBases.{DoneAfterExists, ReportIsABase};
 
 /// Any bytes are a base or a bad base.
 pub fn base_or_bad_base()

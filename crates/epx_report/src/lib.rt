@@ -19,12 +19,14 @@ mod view_lines;
 mod whole_base;
 
 pub use base::{Base, BaseFault, read_base};
+pub use from_value::has_text;
 pub use laws::{
     bad_base_is_bad_at_one_line, bad_list_is_bad_at_one_line, base_is_no_bad_base,
     base_or_bad_base, base_says_one_thing, done_after_exists, list_is_no_bad_list,
     list_names_one_list, list_or_bad_list, report_is_a_base, report_is_read_as_it_says,
 };
 pub use list::read_list;
+pub use progress::store_of;
 pub use report_lines::{
     append_done, append_header, append_pairs, append_replies, append_store, append_waiter,
 };

@@ -6,7 +6,7 @@ ghost use Rattle.std.specs.FinMap as contents;
 ghost use Rattle.epx_types.specs.Done.{is_among};
 ghost use Rattle.epx_types.specs.Ids.{IsRising};
 ghost use Rattle.epx_report.specs.inner.Progress.{some_if};
-ghost use Rattle.epx_report.specs.inner.BaseReadings.{put_pairs};
+ghost use Rattle.epx_report.specs.between.PutPairs.{put_pairs};
 ghost use Rattle.epx_report.specs.inner.LinesByKind.{with_done, with_reply, with_waiting};
 ghost use Rattle.epx_report.specs.inner.LinesByKind.{with_stored, with_next, Rise, IsBaseOf};
 

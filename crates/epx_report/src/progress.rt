@@ -4,7 +4,8 @@ ghost use Rattle.std.specs.FinMap as contents;
 ghost use Rattle.epx_report.specs.inner.Progress.{nothing_seen, after_done, after_reply};
 ghost use Rattle.epx_report.specs.inner.Progress.{after_waiting, after_store, after_with, after};
 ghost use Rattle.epx_report.specs.inner.Progress.{some_if, is_complete};
-ghost use Rattle.epx_report.specs.inner.BaseReadings.{after_line, put_pairs};
+ghost use Rattle.epx_report.specs.between.PutPairs.{put_pairs};
+ghost use Rattle.epx_report.specs.inner.BaseReadings.{after_line};
 
 use crate::base::Base;
 use crate::from_value::{BaseLine, Counts};
@@ -15,8 +16,9 @@ use epx_types::{Id, Key, Memory};
 use std::alloc::Global;
 use std::marker::Model;
 
-/// Puts the values into a new store, one after another.
-pub(crate) fn store_of(alloc: Global, pairs: Vec<(Key, i64)>) -> Result<Store, Memory>
+/// Puts the values into a new store, one after another: of two for one key the later one stays.
+/// Takes n log n time. The only error is out of memory.
+pub fn store_of(alloc: Global, pairs: Vec<(Key, i64)>) -> Result<Store, Memory>
     ensures { IfOk result (λ s. s ≡ put_pairs pairs.items contents.empty) }
 {
     let mut store = Store::new(alloc);

@@ -3,7 +3,7 @@ use Rattle.std.proofs.Common.{◌≡◌, ℕ, ◌+◌, ◌-◌, ◌≤◌, List,
 use Rattle.std.proofs.Common.{All, refl, sym, ap, subst, ◌∙◌, arith, slice_range}
 use Rattle.epx_types.proofs.Common.{drop-append-add, length-append, All-from_get_or}
 use Rattle.epx_rows.specs.inner.RowEnds.{rows_from, AreRowEnds}
-use Rattle.epx_rows.proofs.RowLemmas.{range_kept, start_within, ends_rise}
+use Rattle.epx_rows.proofs.RowLemmas.{slice_range-append, AreRowEnds-start_within, AreRowEnds-rise}
 
 -- a part of the second list is in both lists together, moved by the length of the first
 range_moved : (xs ys : List ℕ) (a b : ℕ)
@@ -30,7 +30,8 @@ rows_joined start [] xs later ys h =
     ap (λ a. rows_from a (map (λ end. length xs + end) later) (xs ++ ys)) begins
     ∙ rows_moved xs ys 0 later
 rows_joined start (end ∷ ends) xs later ys h =
-    let first = range_kept xs ys start end h.0 (start_within end ends (length xs) h.1) in
+    let first =
+    slice_range-append xs ys start end h.0 (AreRowEnds-start_within end ends (length xs) h.1) in
     let rest = rows_joined end ends xs later ys h.1 in
     λ i. first i ∷ rest i
 
@@ -49,10 +50,10 @@ ends_joined start [] n later m h k =
 ends_joined start (end ∷ ends) n later m h k = (h.0, ends_joined end ends n later m h.1 k)
 
 -- each row ends inside the list
-pub ends_within : (start : ℕ) (ends : List ℕ) (n : ℕ) → AreRowEnds start ends n
+pub All-ends_within : (start : ℕ) (ends : List ℕ) (n : ℕ) → AreRowEnds start ends n
     → All (λ end. end ≤ n) ends
-ends_within start ends n h = All-from_get_or (λ end. end ≤ n) ends 0
-    (λ k l. (ends_rise start ends n h k l).1)
+All-ends_within start ends n h = All-from_get_or (λ end. end ≤ n) ends 0
+    (λ k l. (AreRowEnds-rise start ends n h k l).1)
 
 -- the numbers of both, and the ends of their rows
 module _ (ends xs later ys ends' numbers' : List ℕ) (n : ℕ) (many : n ≡ length xs)
@@ -61,15 +62,15 @@ module _ (ends xs later ys ends' numbers' : List ℕ) (n : ℕ) (many : n ≡ le
   ends_is : ends' ≡ ends ++ map (λ end. length xs + end) later
   ends_is = ends_are ∙ ap (λ a. ends ++ map (λ end. a + end) later) many
 
-  pub both_ends : AreRowEnds 0 ends' (length numbers')
-  both_ends =
+  pub AreRowEnds-append : AreRowEnds 0 ends' (length numbers')
+  AreRowEnds-append =
       let long : length xs + length ys ≡ length numbers' =
       sym (ap length numbers_are ∙ length-append xs ys) in
       subst (AreRowEnds 0 ends') long
       (subst (λ (es : List ℕ). AreRowEnds 0 es (length xs + length ys)) (sym ends_is)
       (ends_joined 0 ends (length xs) later (length ys) h k))
 
-  pub both_rows : rows_from 0 ends' numbers' ≡ rows_from 0 ends xs ++ rows_from 0 later ys
-  both_rows = ap (λ es. rows_from 0 es numbers') ends_is
+  pub rows_from-append : rows_from 0 ends' numbers' ≡ rows_from 0 ends xs ++ rows_from 0 later ys
+  rows_from-append = ap (λ es. rows_from 0 es numbers') ends_is
       ∙ ap (rows_from 0 (ends ++ map (λ end. length xs + end) later)) numbers_are
       ∙ rows_joined 0 ends xs later ys h

@@ -1,4 +1,2 @@
-pub mod Rows
-pub mod OpenRows
-pub mod PositionGroups
+pub mod between
 pub mod inner

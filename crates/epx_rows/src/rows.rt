@@ -1,7 +1,7 @@
 //! Lists of numbers, one after another in one vector.
 ghost use Rattle.std.specs.Prelude.{◌≡◌, ◌<◌, ◌≤◌, ◌+◌, ◌^◌, ◌++◌, ◌∷◌, [], length, map};
 ghost use Rattle.std.specs.Prelude.{slice_index, slice_range, All, IfOk, OnOk};
-ghost use Rattle.epx_rows.specs.Rows.{row_of};
+ghost use Rattle.epx_rows.specs.between.Rows.{row_of};
 
 use crate::open_row::OpenRow;
 use epx_types::Memory;
@@ -71,7 +71,7 @@ impl Rows {
     }
 
     /// No rows, with room for as many rows and numbers as these have, and for more numbers.
-    pub fn room(&self, alloc: Global, more: usize) -> Result<Rows, Memory>
+    pub fn empty_with_room(&self, alloc: Global, more: usize) -> Result<Rows, Memory>
         ensures { IfOk result (λ rows. rows ≡ []) }
     {
         Rows::with_capacity(

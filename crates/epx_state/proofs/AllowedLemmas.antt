@@ -3,17 +3,18 @@ use Rattle.std.proofs.Common.{◌≡◌, inl, inr, ℕ, ◌+◌, ◌<◌, ◌≤
 use Rattle.std.proofs.Common.{◌∷◌, ◌++◌, length, map, Contains, AllPairs, Some, refl, sym, ap, ◌∙◌}
 use Rattle.std.proofs.Common.{subst, arith, append-nil, append_assoc}
 use Rattle.epx_types.proofs.Common.{Contains-cons, Contains-head, Instance, IsRising, cases_lt}
-use Rattle.epx_types.proofs.Common.{ids_of, is_sorted, key_cmp, length_push, nat_tests, not_among}
-use Rattle.epx_report.proofs.RisingListLemmas.{above_last_key}
+use Rattle.epx_types.proofs.Common.{ids_of, is_sorted, key_cmp, length_push, nat_tests}
+use Rattle.epx_types.proofs.Common.{is_among-false}
+use Rattle.epx_report.proofs.RisingListLemmas.{is_after_last-sorted}
 use Rattle.epx_executor.specs.Runs.{ids_in}
 use Rattle.epx_executor.specs.declared.done_runs.Run.{Run}
-use Rattle.epx_executor.proofs.RunLemmas.{from_ids_in}
+use Rattle.epx_executor.proofs.RunLemmas.{IsInRuns-from_ids_in}
 use Rattle.epx_state.specs.declared.forms.StateCounts.{StateCounts}
 use Rattle.epx_state.specs.StateForms.{StateParts, counts_of_line, entry_of_line, pair_of_line}
 use Rattle.epx_state.specs.StateForms.{run_of_line}
 use Rattle.epx_state.specs.States.{AreInOrder, FitCounts, SayState}
 use Rattle.epx_state.specs.inner.StateProgress.{StateProgress, past_lines, past_line, before_lines}
-use Rattle.epx_state.proofs.PartOrderLemmas.{Ends, above_last_entry, above_last_run}
+use Rattle.epx_state.proofs.PartOrderLemmas.{Ends, is_after_last-entry, is_after_last-run}
 
 abbrev pub state : StateCounts → List Run → List Instance → List (List ℕ × ℤ) → StateProgress
 state c rs ws qs = record { counts = Some c; runs = rs; waiting = ws; stored = qs }
@@ -44,7 +45,7 @@ module _ (c : StateCounts) where
       → past_line (state c rs [] []) l ≡ Some (state c (rs ++ r ∷ []) [] [])
   unfolding past_line
   after-run rs r next l is few apart =
-      rw (is_lower (length rs) c.runs few, is, above_last_run rs r next apart) refl
+      rw (is_lower (length rs) c.runs few, is, is_after_last-run rs r next apart) refl
 
   runs_lead : (rs next : List Run) (lines more : List (List ℕ)) (end : StateProgress)
       → map run_of_line lines ≡ map Some next → length rs + length next ≤ c.runs
@@ -75,8 +76,8 @@ module _ (c : StateCounts) where
         is_not_lower (length rs) c.runs whole,
         is_lower (length ws) c.waiting few,
         is,
-        above_last_entry ws e next rising,
-        not_among (ids_in rs) e.id left,
+        is_after_last-entry ws e next rising,
+        is_among-false (ids_in rs) e.id left,
       ) refl
 
   entries_lead : (rs : List Run) (ws next : List Instance) (lines more : List (List ℕ))
@@ -116,7 +117,7 @@ module _ (c : StateCounts) where
         is_not_lower (length ws) c.waiting all,
         is_lower (length qs) c.stored few,
         is,
-        above_last_key qs q next rises,
+        is_after_last-sorted qs q next rises,
       ) refl
 
   pairs_lead : (rs : List Run) (ws : List Instance) (qs next : List (List ℕ × ℤ))
@@ -148,9 +149,9 @@ module _ (c : StateCounts) where
   unfolding past_line
   after-first l is = rw is refl
 
-  pub said_is_allowed : (ls : List (List ℕ)) (p : StateParts) → SayState ls c p → AreInOrder p
+  pub past_lines-said : (ls : List (List ℕ)) (p : StateParts) → SayState ls c p → AreInOrder p
       → FitCounts c p → past_lines before_lines ls ≡ Some (state c p.runs p.waiting p.stored)
-  said_is_allowed ls p said ordered within =
+  past_lines-said ls p said ordered within =
       let end = state c p.runs p.waiting p.stored in
       let pairs = pairs_lead p.runs p.waiting [] p.stored said.stored said.stored_said
       (λ k. (within.runs_first k).1) within.waiting_next
@@ -159,7 +160,7 @@ module _ (c : StateCounts) where
       let entries = entries_lead p.runs [] p.waiting said.waiting said.stored end
       said.waiting_said (λ k. (within.runs_first k).0) (omega (arith, within.waiting))
       ordered.waiting
-      (λ e h there. ordered.left e h (from_ids_in p.runs e.id there)) pairs in
+      (λ e h there. ordered.left e h (IsInRuns-from_ids_in p.runs e.id there)) pairs in
       let runs = runs_lead [] p.runs said.runs (said.waiting ++ said.stored) end said.runs_said
       (omega (arith, within.runs)) ordered.runs.apart entries in
       ap (past_lines before_lines) said.cut

@@ -168,14 +168,14 @@ begin : (lines : List (List ℕ)) (c : StateCounts) (p : StateParts) → SayStat
 begin [] c p said ordered within = tt
 begin (line ∷ lines) c p said ordered within = (c, p, said, ordered, within)
 
-pub begins : (bytes : List ℕ) (p : StateParts) → IsState bytes p → (n : ℕ)
+pub BeginState-take : (bytes : List ℕ) (p : StateParts) → IsState bytes p → (n : ℕ)
     → BeginState (take n (lines_of bytes))
-begins bytes p h zero = tt
-begins bytes p h (suc n) =
+BeginState-take bytes p h zero = tt
+BeginState-take bytes p h (suc n) =
     begin (take (suc n) (lines_of bytes)) (state_counts p) (first_parts p n)
     (say-take p n (lines_of bytes) h.said) (ordered-take p n h.ordered) (within-take p n)
 
 -- no line of a state is one with which no state begins
-pub no_bad_line : (bytes : List ℕ) (p : StateParts) → IsState bytes p → (line : ℕ)
+pub IsFirstNotGood-never : (bytes : List ℕ) (p : StateParts) → IsState bytes p → (line : ℕ)
     → ¬ IsFirstNotGood BeginState (lines_of bytes) line
-no_bad_line bytes p h line bad = bad.bad_with (begins bytes p h line)
+IsFirstNotGood-never bytes p h line bad = bad.bad_with (BeginState-take bytes p h line)

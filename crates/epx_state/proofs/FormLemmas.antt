@@ -6,34 +6,35 @@ use Rattle.epx_types.proofs.Common.{nat_tests}
 use Rattle.epx_lines.specs.Elements.{elements, whole}
 use Rattle.epx_lines.specs.Meaning.{json_of}
 use Rattle.epx_report.specs.Forms.{is_text}
-use Rattle.epx_report.proofs.BegunBaseLemmas.{allowed}
+use Rattle.epx_report.proofs.BegunBaseLemmas.{Some-from_if}
 use Rattle.epx_executor.specs.Runs.{IsFilledRun}
 use Rattle.epx_executor.specs.declared.done_runs.Run.{Run}
 use Rattle.epx_state.specs.StateForms.{run_of_line, run_of_list, run_within}
 
 module _ {A B : Type 0} where
-  pub and_then_some : (f : A → Option B) (o : Option A) (b : B) → option_and_then f o ≡ Some b
+  pub option_and_then-some : (f : A → Option B) (o : Option A) (b : B)
+      → option_and_then f o ≡ Some b
       → (a : A) × (o ≡ Some a) × (f a ≡ Some b)
-  and_then_some f None b e = absurd (cc e)
-  and_then_some f (Some a) b e = (a, refl, e)
+  option_and_then-some f None b e = absurd (cc e)
+  option_and_then-some f (Some a) b e = (a, refl, e)
 
-  pub map_some : (f : A → B) (o : Option A) (b : B) → option_map f o ≡ Some b
+  pub option_map-some : (f : A → B) (o : Option A) (b : B) → option_map f o ≡ Some b
       → (a : A) × (o ≡ Some a) × (f a ≡ b)
-  map_some f None b e = absurd (cc e)
-  map_some f (Some a) b e = (a, refl, cc e)
+  option_map-some f None b e = absurd (cc e)
+  option_map-some f (Some a) b e = (a, refl, cc e)
 
 -- a run that a line says has a number
 run_within-filled : (replica first last : ℕ) (r : Run) → run_within replica first last ≡ Some r
     → IsFilledRun r
 run_within-filled replica first last r e =
-    let goes = allowed (nat_le first last)
+    let goes = Some-from_if (nat_le first last)
     (record { replica = replica; first = first; last = last }) r e in
     subst IsFilledRun goes.1 (grind (arith, nat_tests, goes.0))
 
-pub run_is_filled : (l : List ℕ) (r : Run) → run_of_line l ≡ Some r → IsFilledRun r
+pub IsFilledRun-run_of_line : (l : List ℕ) (r : Run) → run_of_line l ≡ Some r → IsFilledRun r
 unfolding run_of_line
-run_is_filled l r e =
-    let list = and_then_some run_of_list (option_and_then elements (json_of l)) r e in
+IsFilledRun-run_of_line l r e =
+    let list = option_and_then-some run_of_list (option_and_then elements (json_of l)) r e in
     of_list list.0 list.2
   where
     named : (n a f m : Data) (b : Bool) → is_text (codes "runs") n ≡ b
@@ -41,12 +42,12 @@ run_is_filled l r e =
     named n a f m false is h =
         let none : None ≡ Some r = (rw is at h) in absurd (cc none)
     named n a f m true is h =
-        let replica = and_then_some (λ x. option_and_then (λ y. option_and_then
+        let replica = option_and_then-some (λ x. option_and_then (λ y. option_and_then
         (λ z. run_within x y z) (whole (2 ^ 64) m)) (whole (2 ^ 64) f)) (whole 256 a) r
         (rw is at h) in
-        let first = and_then_some (λ y. option_and_then (λ z. run_within replica.0 y z)
+        let first = option_and_then-some (λ y. option_and_then (λ z. run_within replica.0 y z)
         (whole (2 ^ 64) m)) (whole (2 ^ 64) f) r replica.2 in
-        let end = and_then_some (λ z. run_within replica.0 first.0 z) (whole (2 ^ 64) m) r
+        let end = option_and_then-some (λ z. run_within replica.0 first.0 z) (whole (2 ^ 64) m) r
         first.2 in
         run_within-filled replica.0 first.0 end.0 r end.2
 

@@ -16,7 +16,7 @@ use Rattle.epx_lines.specs.declared.Line.TheVariants.{Entry}
 use Rattle.epx_lines.proofs.WrittenPartLemmas.{whole-fits, key_of-fits}
 use Rattle.epx_lines.proofs.WrittenPartLemmas.{IsWritableValue-from_range}
 use Rattle.epx_report.specs.ReportLines.{array_of, data_of_number, store_data}
-use Rattle.epx_report.proofs.ReportFormLemmas.{plain_store}
+use Rattle.epx_report.proofs.ReportFormLemmas.{IsPlain-store}
 use Rattle.epx_report.proofs.WrittenDataLemmas.{IsPlain, IsWritable-unsigned, json_of-compact_text}
 use Rattle.epx_executor.specs.declared.done_runs.Run.{Run}
 use Rattle.epx_state.specs.declared.forms.StateCounts.{StateCounts}
@@ -65,10 +65,10 @@ plain_state c r w s = (
   ),
 )
 
-pub counts_are_read : (c : StateCounts) → c.runs < 2 ^ 64 → c.waiting < 2 ^ 64
+pub AreReadCounts-within : (c : StateCounts) → c.runs < 2 ^ 64 → c.waiting < 2 ^ 64
     → c.stored < 2 ^ 64 → AreReadCounts c
 unfolding counts_of_line
-counts_are_read c r w s = record {
+AreReadCounts-within c r w s = record {
   read =
       of_line-written counts_of_list (state_data c) (plain_state c r w s) (omega arith)
       ∙ rw (
@@ -90,10 +90,10 @@ plain_run r replica first last = (
   ),
 )
 
-pub run_is_read : (r : Run) → r.replica < 256 → r.first < 2 ^ 64 → r.last < 2 ^ 64
+pub IsReadRun-within : (r : Run) → r.replica < 256 → r.first < 2 ^ 64 → r.last < 2 ^ 64
     → r.first ≤ r.last → IsReadRun r
 unfolding run_of_line
-run_is_read r replica first last filled =
+IsReadRun-within r replica first last filled =
     let within : nat_le r.first r.last ≡ true = grind (arith, nat_tests) in record {
       read =
           of_line-written run_of_list (run_data r) (plain_run r replica first last)
@@ -108,18 +108,18 @@ run_is_read r replica first last filled =
 
 -- ---- instances that wait
 
-pub entry_is_read : (e : Instance) → meaning_of (line_text e) ≡ Ok (Entry e) → IsReadEntry e
+pub IsReadEntry-meaning : (e : Instance) → meaning_of (line_text e) ≡ Ok (Entry e) → IsReadEntry e
 unfolding entry_of_line
-entry_is_read e means = record { read = ap entry_of means }
+IsReadEntry-meaning e means = record { read = ap entry_of means }
 
 -- ---- the store
 
-pub pair_is_read : (k : List ℕ) (v : ℤ) → FitsKey k → IsUtf8 k → FitsSigned w64 v
+pub IsReadPair-fits : (k : List ℕ) (v : ℤ) → FitsKey k → IsUtf8 k → FitsSigned w64 v
     → IsReadPair (k, v)
 unfolding pair_of_line
-pair_is_read k v key utf8 fits = record {
+IsReadPair-fits k v key utf8 fits = record {
   read =
-      of_line-written pair_of_list (store_data (k, v)) (plain_store k v utf8 fits) (omega arith)
+      of_line-written pair_of_list (store_data (k, v)) (IsPlain-store k v utf8 fits) (omega arith)
       ∙ rw (key_of-fits k key)
       (ap (option_map (λ value. (k, value))) (IsWritableValue-from_range v fits).reads);
 }

@@ -3,10 +3,10 @@ use Rattle.std.proofs.Common.{◌≡◌, ◌⊎◌, inl, inr, ℕ, ◌<◌, ◌�
 use Rattle.std.proofs.Common.{List, [], ◌∷◌, ◌++◌, length, Contains, Option, Some, None, refl, sym}
 use Rattle.std.proofs.Common.{ap, ◌∙◌, subst, arith, append-nil, append_assoc}
 use Rattle.epx_types.proofs.Common.{nat_tests, length_push, Contains-nil, Contains-push_cases}
-use Rattle.epx_types.proofs.Common.{Instance, is_among, is_among_cases}
+use Rattle.epx_types.proofs.Common.{Instance, is_among, is_among-cases}
 use Rattle.epx_types.specs.declared.id.Id.{Id}
-use Rattle.epx_report.proofs.BegunBaseLemmas.{allowed, both, sorted_push}
-use Rattle.epx_report.proofs.RisingListLemmas.{is_true}
+use Rattle.epx_report.proofs.BegunBaseLemmas.{Some-from_if, and-both, is_sorted-push}
+use Rattle.epx_report.proofs.RisingListLemmas.{T-true}
 use Rattle.epx_executor.specs.Runs.{IsInRuns, ids_in}
 use Rattle.epx_executor.specs.declared.done_runs.Run.{Run}
 use Rattle.epx_executor.proofs.RunLemmas.{Contains-ids_in}
@@ -16,9 +16,11 @@ use Rattle.epx_state.specs.States.{AreInOrder, FitCounts, BeginState, SayState}
 use Rattle.epx_state.specs.inner.StateProgress.{StateProgress, past_lines, after_entry, past_line}
 use Rattle.epx_state.specs.inner.StateProgress.{after_pair, after_part, after_run, before_lines}
 use Rattle.epx_state.specs.inner.StateProgress.{past_with, parts_of}
-use Rattle.epx_state.proofs.FormLemmas.{and_then_some, map_some, run_is_filled}
-use Rattle.epx_state.proofs.PartOrderLemmas.{entries_rise, runs_rise}
-use Rattle.epx_state.proofs.SaidPartLemmas.{entry_said, first_said, pair_said, run_said}
+use Rattle.epx_state.proofs.FormLemmas.{option_and_then-some, option_map-some}
+use Rattle.epx_state.proofs.FormLemmas.{IsFilledRun-run_of_line}
+use Rattle.epx_state.proofs.PartOrderLemmas.{IsRising-after_last, AreRuns-after_last}
+use Rattle.epx_state.proofs.SaidPartLemmas.{SayState-entry, SayState-counts, SayState-pair}
+use Rattle.epx_state.proofs.SaidPartLemmas.{SayState-run}
 
 -- the state is that after the lines, of which the first one says the counts
 pub record IsAfter (ls : List (List ℕ)) (s : StateProgress) : Type 0 where
@@ -30,14 +32,14 @@ pub record IsAfter (ls : List (List ℕ)) (s : StateProgress) : Type 0 where
 
 -- ---- tests
 
-pub lower : (m n : ℕ) → nat_lt m n ≡ true → m < n
-lower m n e = grind (arith, nat_tests)
+pub nat_lt-if_true : (m n : ℕ) → nat_lt m n ≡ true → m < n
+nat_lt-if_true m n e = grind (arith, nat_tests)
 
-pub not_lower : (m n : ℕ) → nat_lt m n ≡ false → n ≤ m
-not_lower m n e = grind (arith, nat_tests)
+pub nat_lt-if_false : (m n : ℕ) → nat_lt m n ≡ false → n ≤ m
+nat_lt-if_false m n e = grind (arith, nat_tests)
 
 is_new : (done : List Id) (x : Id) → not (is_among done x) ≡ true → ¬ Contains done x
-is_new done x e = elim (is_among_cases done x)
+is_new done x e = elim (is_among-cases done x)
     [ inl found ↦ absurd (cc (ap not found.0, e)) | inr missed ↦ missed.1 ]
 
 -- ---- one line more
@@ -55,14 +57,14 @@ module _ (ls : List (List ℕ)) (s : StateProgress) (h : IsAfter ls s) (l : List
   on_run : (r : Run) → run_of_line l ≡ Some r → length s.runs < h.counts.runs
       → after_run s r ≡ Some (next_run r) → IsAfter (ls ++ l ∷ []) (next_run r)
   on_run r e few goes =
-      let past = (allowed _ (next_run r) (next_run r) goes).0 in
+      let past = (Some-from_if _ (next_run r) (next_run r) goes).0 in
       let none = h.within.runs_first few in
       record {
         counts = h.counts;
         counts_are = h.counts_are;
-        said = run_said ls h.counts (parts_of s) h.said l r e none.0 none.1;
+        said = SayState-run ls h.counts (parts_of s) h.said l r e none.0 none.1;
         ordered = record {
-          runs = runs_rise s.runs r h.ordered.runs (run_is_filled l r e) past;
+          runs = AreRuns-after_last s.runs r h.ordered.runs (IsFilledRun-run_of_line l r e) past;
           waiting = h.ordered.waiting;
           left = λ i k. absurd (Contains-nil i
               (subst (λ (es : List Instance). Contains es i) none.0 k));
@@ -81,16 +83,16 @@ module _ (ls : List (List ℕ)) (s : StateProgress) (h : IsAfter ls s) (l : List
       → length s.waiting < h.counts.waiting
       → after_entry s e ≡ Some (next_entry e) → IsAfter (ls ++ l ∷ []) (next_entry e)
   on_entry e is whole few goes =
-      let tests = both _ _ (allowed _ (next_entry e) (next_entry e) goes).0 in
+      let tests = and-both _ _ (Some-from_if _ (next_entry e) (next_entry e) goes).0 in
       let new = is_new (ids_in s.runs) e.id tests.1 in
       let none = h.within.waiting_next few in
       record {
         counts = h.counts;
         counts_are = h.counts_are;
-        said = entry_said ls h.counts (parts_of s) h.said l e is none;
+        said = SayState-entry ls h.counts (parts_of s) h.said l e is none;
         ordered = record {
           runs = h.ordered.runs;
-          waiting = entries_rise s.waiting e h.ordered.waiting tests.0;
+          waiting = IsRising-after_last s.waiting e h.ordered.waiting tests.0;
           left = λ i k. elim (Contains-push_cases s.waiting e i k) [
             | inl was ↦ h.ordered.left i was
             | inr same ↦ subst (λ (j : Instance). ¬ IsInRuns s.runs j.id) same
@@ -111,16 +113,16 @@ module _ (ls : List (List ℕ)) (s : StateProgress) (h : IsAfter ls s) (l : List
       → h.counts.waiting ≤ length s.waiting → length s.stored < h.counts.stored
       → after_pair s q ≡ Some (next_pair q) → IsAfter (ls ++ l ∷ []) (next_pair q)
   on_pair q e whole all few goes =
-      let past = (allowed _ (next_pair q) (next_pair q) goes).0 in
+      let past = (Some-from_if _ (next_pair q) (next_pair q) goes).0 in
       record {
         counts = h.counts;
         counts_are = h.counts_are;
-        said = pair_said ls h.counts (parts_of s) h.said l q e;
+        said = SayState-pair ls h.counts (parts_of s) h.said l q e;
         ordered = record {
           runs = h.ordered.runs;
           waiting = h.ordered.waiting;
           left = h.ordered.left;
-          stored = is_true _ (sorted_push s.stored q (subst T (sym h.ordered.stored) tt) past);
+          stored = T-true _ (is_sorted-push s.stored q (subst T (sym h.ordered.stored) tt) past);
         };
         within = record {
           runs = h.within.runs;
@@ -135,7 +137,7 @@ module _ (ls : List (List ℕ)) (s : StateProgress) (h : IsAfter ls s) (l : List
   by_run : (r : Run) (t : StateProgress) → run_of_line l ≡ Some r → length s.runs < h.counts.runs
       → after_run s r ≡ Some t → IsAfter (ls ++ l ∷ []) t
   by_run r t e few goes =
-      let same = (allowed _ (next_run r) t goes).1 in
+      let same = (Some-from_if _ (next_run r) t goes).1 in
       subst (IsAfter (ls ++ l ∷ [])) same
       (on_run r e few (goes ∙ ap Some (sym same)))
 
@@ -143,7 +145,7 @@ module _ (ls : List (List ℕ)) (s : StateProgress) (h : IsAfter ls s) (l : List
       → h.counts.runs ≤ length s.runs → length s.waiting < h.counts.waiting
       → after_entry s e ≡ Some t → IsAfter (ls ++ l ∷ []) t
   by_entry e t is whole few goes =
-      let same = (allowed _ (next_entry e) t goes).1 in
+      let same = (Some-from_if _ (next_entry e) t goes).1 in
       subst (IsAfter (ls ++ l ∷ [])) same
       (on_entry e is whole few (goes ∙ ap Some (sym same)))
 
@@ -151,7 +153,7 @@ module _ (ls : List (List ℕ)) (s : StateProgress) (h : IsAfter ls s) (l : List
       → h.counts.runs ≤ length s.runs → h.counts.waiting ≤ length s.waiting
       → length s.stored < h.counts.stored → after_pair s q ≡ Some t → IsAfter (ls ++ l ∷ []) t
   by_pair q t e whole all few goes =
-      let same = (allowed _ (next_pair q) t goes).1 in
+      let same = (Some-from_if _ (next_pair q) t goes).1 in
       subst (IsAfter (ls ++ l ∷ [])) same
       (on_pair q e whole all few (goes ∙ ap Some (sym same)))
 
@@ -164,14 +166,16 @@ module _ (ls : List (List ℕ)) (s : StateProgress) (h : IsAfter ls s) (l : List
           → nat_lt (length s.waiting) h.counts.waiting ≡ b
           → nat_lt (length s.stored) h.counts.stored ≡ c → IsAfter (ls ++ l ∷ []) t
       by_kind true b c p q r =
-          let step = and_then_some (after_run s) (run_of_line l) t (rw p at goes) in
-          by_run step.0 t step.1 (lower _ _ p) step.2
+          let step = option_and_then-some (after_run s) (run_of_line l) t (rw p at goes) in
+          by_run step.0 t step.1 (nat_lt-if_true _ _ p) step.2
       by_kind false true c p q r =
-          let step = and_then_some (after_entry s) (entry_of_line l) t (rw (p, q) at goes) in
-          by_entry step.0 t step.1 (not_lower _ _ p) (lower _ _ q) step.2
+          let step = option_and_then-some (after_entry s) (entry_of_line l) t (rw (p, q) at goes) in
+          by_entry step.0 t step.1 (nat_lt-if_false _ _ p) (nat_lt-if_true _ _ q) step.2
       by_kind false false true p q r =
-          let step = and_then_some (after_pair s) (pair_of_line l) t (rw (p, q, r) at goes) in
-          by_pair step.0 t step.1 (not_lower _ _ p) (not_lower _ _ q) (lower _ _ r) step.2
+          let step =
+          option_and_then-some (after_pair s) (pair_of_line l) t (rw (p, q, r) at goes) in
+          by_pair step.0 t step.1 (nat_lt-if_false _ _ p) (nat_lt-if_false _ _ q)
+          (nat_lt-if_true _ _ r) step.2
       by_kind false false false p q r =
           let stopped : None ≡ Some t = (rw (p, q, r) at goes) in absurd (cc stopped)
 
@@ -185,12 +189,12 @@ module _ (ls : List (List ℕ)) (s : StateProgress) (h : IsAfter ls s) (l : List
 on_first : (l : List ℕ) (t : StateProgress) → past_line before_lines l ≡ Some t → IsAfter (l ∷ []) t
 unfolding past_line
 on_first l t goes =
-    let step = map_some (λ (c : StateCounts). record before_lines { counts = Some c })
+    let step = option_map-some (λ (c : StateCounts). record before_lines { counts = Some c })
     (counts_of_line l) t goes in
     subst (IsAfter (l ∷ [])) step.2 (record {
       counts = step.0;
       counts_are = refl;
-      said = first_said l step.0 step.1;
+      said = SayState-counts l step.0 step.1;
       ordered = record {
         runs = record {
           filled = λ k d m. absurd (omega arith);
@@ -229,16 +233,17 @@ reached_further before [] s t h goes =
     subst (IsReached (before ++ [])) same
     (subst (λ (xs : List (List ℕ)). IsReached xs s) (sym (append-nil before)) h)
 reached_further before (l ∷ ls) s t h goes =
-    let step = and_then_some (λ u. past_lines u ls) (past_line s l) t goes in
+    let step = option_and_then-some (λ u. past_lines u ls) (past_line s l) t goes in
     subst (λ (xs : List (List ℕ)). IsReached xs t) (append_assoc before (l ∷ []) ls)
     (reached_further (before ++ l ∷ []) ls step.0 t (inr (reached_on before s l step.0 h step.1))
     step.2)
 
-pub reached_all : (ls : List (List ℕ)) (s : StateProgress) → past_lines before_lines ls ≡ Some s
+pub IsReached-past_lines : (ls : List (List ℕ)) (s : StateProgress)
+    → past_lines before_lines ls ≡ Some s
     → IsReached ls s
-reached_all ls s goes = reached_further [] ls before_lines s (inl (refl, refl)) goes
+IsReached-past_lines ls s goes = reached_further [] ls before_lines s (inl (refl, refl)) goes
 
-pub begin_if_reached : (ls : List (List ℕ)) (s : StateProgress) → IsReached ls s → BeginState ls
-begin_if_reached [] s h = tt
-begin_if_reached (l ∷ ls) s (inl none) = absurd (cc none.0)
-begin_if_reached (l ∷ ls) s (inr h) = (h.counts, parts_of s, h.said, h.ordered, h.within)
+pub BeginState-reached : (ls : List (List ℕ)) (s : StateProgress) → IsReached ls s → BeginState ls
+BeginState-reached [] s h = tt
+BeginState-reached (l ∷ ls) s (inl none) = absurd (cc none.0)
+BeginState-reached (l ∷ ls) s (inr h) = (h.counts, parts_of s, h.said, h.ordered, h.within)

@@ -5,16 +5,17 @@ use Rattle.std.proofs.Common.{refl, sym, ap, ◌∙◌, subst, arith, append-nil
 use Rattle.epx_types.proofs.Common.{length_push, nat_tests, take_at}
 use Rattle.epx_lines.specs.Lines.{lines_of}
 use Rattle.epx_report.specs.BadLines.{IsFirstNotGood}
-use Rattle.epx_report.proofs.BegunBaseLemmas.{both, equal}
+use Rattle.epx_report.proofs.BegunBaseLemmas.{and-both, eq-from_true}
 use Rattle.epx_state.specs.declared.forms.StateCounts.{StateCounts}
 use Rattle.epx_state.specs.StateForms.{StateParts, state_counts}
 use Rattle.epx_state.specs.StateFaults.{StateEndsEarly}
 use Rattle.epx_state.specs.States.{FitCounts, BeginState, IsState, SayState}
 use Rattle.epx_state.specs.inner.StateProgress.{IsReadTo, StateProgress, before_lines, parts_of}
 use Rattle.epx_state.specs.inner.StateProgress.{is_whole_state, past_line, past_lines}
-use Rattle.epx_state.proofs.AllowedLemmas.{said_is_allowed, state}
-use Rattle.epx_state.proofs.FormLemmas.{and_then_some}
-use Rattle.epx_state.proofs.ReachedLemmas.{IsAfter, IsReached, begin_if_reached, reached_all}
+use Rattle.epx_state.proofs.AllowedLemmas.{past_lines-said, state}
+use Rattle.epx_state.proofs.FormLemmas.{option_and_then-some}
+use Rattle.epx_state.proofs.ReachedLemmas.{IsAfter, IsReached, BeginState-reached}
+use Rattle.epx_state.proofs.ReachedLemmas.{IsReached-past_lines}
 
 -- ---- one line more
 
@@ -28,7 +29,8 @@ then_line s t [] l goes =
     let same : s ≡ t = cc goes in
     some_of_all (past_line s l) ∙ ap (λ (u : StateProgress). past_line u l) same
 then_line s t (x ∷ ls) l goes =
-    let step = and_then_some (λ (u : StateProgress). past_lines u ls) (past_line s x) t goes in
+    let step =
+    option_and_then-some (λ (u : StateProgress). past_lines u ls) (past_line s x) t goes in
     rw step.1 (then_line step.0 t ls l step.2)
 
 -- lines that begin a state are allowed
@@ -36,7 +38,7 @@ allowed_if_begin : (l : List ℕ) (ls : List (List ℕ)) → BeginState (l ∷ l
     → (t : StateProgress) × (past_lines before_lines (l ∷ ls) ≡ Some t)
 allowed_if_begin l ls h =
     let p : StateParts = h.1 in
-    (state h.0 p.runs p.waiting p.stored, said_is_allowed h.0 (l ∷ ls) p h.2 h.3 h.4)
+    (state h.0 p.runs p.waiting p.stored, past_lines-said h.0 (l ∷ ls) p h.2 h.3 h.4)
 
 begin_is_allowed : (ls : List (List ℕ)) → BeginState ls
     → (t : StateProgress) × (past_lines before_lines ls ≡ Some t)
@@ -68,10 +70,10 @@ module _ (lines next : List (List ℕ)) (l : List ℕ) (n : ℕ) (s : StateProgr
       ap (take n) (h.parts ∙ sym (append_assoc h.before (l ∷ []) next))
       ∙ take_at (h.before ++ l ∷ []) next n (omega (arith, h.number_is, length_push h.before l))
 
-  pub stops_here : past_line s l ≡ None → IsFirstNotGood BeginState lines n
-  stops_here stopped = record {
+  pub IsFirstNotGood-stops : past_line s l ≡ None → IsFirstNotGood BeginState lines n
+  IsFirstNotGood-stops stopped = record {
     good_before = subst BeginState (sym before_it)
-        (begin_if_reached h.before s (reached_all h.before s h.reached));
+        (BeginState-reached h.before s (IsReached-past_lines h.before s h.reached));
     bad_with = λ begins.
         let on = begin_is_allowed (h.before ++ l ∷ []) (subst BeginState with_it begins) in
         cc (sym stopped ∙ sym (then_line before_lines s h.before l h.reached) ∙ on.1);
@@ -97,10 +99,10 @@ module _ (bytes : List ℕ) (n : ℕ) (s : StateProgress) (h : IsReadTo (lines_o
 
   all_reached : IsReached (lines_of bytes) s
   all_reached = subst (λ (ls : List (List ℕ)). IsReached ls s) all_read
-      (reached_all h.before s h.reached)
+      (IsReached-past_lines h.before s h.reached)
 
-  pub state_is_read : is_whole_state s ≡ true → IsState bytes (parts_of s)
-  state_is_read complete = elim all_reached [
+  pub IsState-read : is_whole_state s ≡ true → IsState bytes (parts_of s)
+  IsState-read complete = elim all_reached [
     | inl none ↦
         let nothing : is_whole_state before_lines ≡ true =
         ap is_whole_state (sym none.1) ∙ complete in absurd (cc nothing)
@@ -109,11 +111,11 @@ module _ (bytes : List ℕ) (n : ℕ) (s : StateProgress) (h : IsReadTo (lines_o
     where
       whole : IsAfter (lines_of bytes) s → IsState bytes (parts_of s)
       whole after =
-          let counted = both _ _ (rw after.counts_are at complete) in
-          let first = both _ _ counted.0 in
-          let runs : length s.runs ≡ after.counts.runs = equal _ _ first.0 in
-          let waiting : length s.waiting ≡ after.counts.waiting = equal _ _ first.1 in
-          let stored : length s.stored ≡ after.counts.stored = equal _ _ counted.1 in
+          let counted = and-both _ _ (rw after.counts_are at complete) in
+          let first = and-both _ _ counted.0 in
+          let runs : length s.runs ≡ after.counts.runs = eq-from_true _ _ first.0 in
+          let waiting : length s.waiting ≡ after.counts.waiting = eq-from_true _ _ first.1 in
+          let stored : length s.stored ≡ after.counts.stored = eq-from_true _ _ counted.1 in
           let same : after.counts ≡ state_counts (parts_of s) = λ i. record {
             runs = sym runs i;
             waiting = sym waiting i;
@@ -125,12 +127,12 @@ module _ (bytes : List ℕ) (n : ℕ) (s : StateProgress) (h : IsReadTo (lines_o
             ordered = after.ordered;
           }
 
-  pub state_ends_early : is_whole_state s ≡ false → StateEndsEarly bytes n
-  state_ends_early early = record {
+  pub StateEndsEarly-not_whole : is_whole_state s ≡ false → StateEndsEarly bytes n
+  StateEndsEarly-not_whole early = record {
     line_is = omega (arith, h.number_is, ap length all_read);
-    begins = begin_if_reached (lines_of bytes) s all_reached;
+    begins = BeginState-reached (lines_of bytes) s all_reached;
     not_whole = λ p is.
-        let goes = said_is_allowed (state_counts p) (lines_of bytes) p is.said is.ordered
+        let goes = past_lines-said (state_counts p) (lines_of bytes) p is.said is.ordered
         (complete_within p) in
         let read : past_lines before_lines (lines_of bytes) ≡ Some s =
         ap (past_lines before_lines) (sym all_read) ∙ h.reached in

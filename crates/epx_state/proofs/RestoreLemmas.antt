@@ -11,7 +11,8 @@ use Rattle.epx_types.proofs.Common.{Instance, IsCommittedBy, IsCommittedBy-uniqu
 use Rattle.epx_types.proofs.Common.{IsExecutionOrder-IsLawful, IsFirstDisagreement-not_Agree}
 use Rattle.epx_types.proofs.Common.{IsReady, IsRising, IsRising-same, Placed, commands_in, execute}
 use Rattle.epx_types.proofs.Common.{ids_of, length-map, max_instances}
-use Rattle.epx_types.proofs.Common.{not_among, ranked_ids, remaining, slice_get-from_map, is_sorted}
+use Rattle.epx_types.proofs.Common.{is_among-false, ranked_ids, remaining, slice_get-from_map}
+use Rattle.epx_types.proofs.Common.{is_sorted}
 use Rattle.epx_types.proofs.Common.{key_cmp, cases_lt, get_or_default, get_or_from_slice_get}
 use Rattle.epx_types.proofs.Common.{slice_get-get_or, slice_get_within}
 use Rattle.epx_types.specs.declared.fault.Fault.{Fault}
@@ -21,19 +22,19 @@ use Rattle.epx_types.specs.declared.fault.Fault.TheVariants.{BadBase, Memory, Wr
 use Rattle.epx_types.specs.declared.id.Id.{Id}
 use Rattle.epx_types.specs.declared.reply.Reply.{Reply}
 use Rattle.epx_committed.specs.MergedLines.{IsMerged, IsMergeFault}
-use Rattle.epx_committed.proofs.InstanceCountLemmas.{named_ids_are_committed}
+use Rattle.epx_committed.proofs.InstanceCountLemmas.{ids_of-named}
 use Rattle.epx_laws.specs.ResumedRunLaws.{run_on}
-use Rattle.epx_report.specs.inner.BaseReadings.{put_pairs}
-use Rattle.epx_report.proofs.BaseLemmas.{entries_put}
+use Rattle.epx_report.specs.between.PutPairs.{put_pairs}
+use Rattle.epx_report.proofs.BaseLemmas.{entries-put_pairs}
 use Rattle.epx_executor.specs.CallLines.{call_lines}
 use Rattle.epx_executor.specs.Commits.{ExecutorView, IsCommit, not_done}
 use Rattle.epx_executor.specs.Runs.{IsInRuns, ids_in}
-use Rattle.epx_executor.proofs.CallLineLemmas.{from_call, to_call}
+use Rattle.epx_executor.proofs.CallLineLemmas.{Contains-from_call, Contains-to_call}
 use Rattle.epx_state.specs.StateForms.{StateParts}
 use Rattle.epx_state.specs.StateFaults.{IsReadyIn, IsStateFault}
 use Rattle.epx_state.specs.States.{AreInOrder, HoldsState, IsState}
 use Rattle.epx_state.specs.inner.Restoring.{IsFirstAmong, IsFirstReady, IsRestoreFault}
-use Rattle.epx_state.proofs.RunIdLemmas.{remaining_in_runs}
+use Rattle.epx_state.proofs.RunIdLemmas.{remaining-ids_in}
 
 -- ---- the map that a first call commits
 
@@ -45,8 +46,8 @@ module _ (done : List Id) (came : List Instance) (rising : IsRising (ids_of came
   came_is_committed : IsCommittedBy lines came
   came_is_committed = record {
     rising = rising;
-    given = λ e h. to_call done [] came e (inr (h, left e h));
-    whole = λ p h. elim (from_call done [] came p h)
+    given = λ e h. Contains-to_call done [] came e (inr (h, left e h));
+    whole = λ p h. elim (Contains-from_call done [] came p h)
         [ inl none ↦ absurd (Contains-nil p.instance none) | inr new ↦ new.0 ];
   }
 
@@ -60,24 +61,24 @@ module _ (done : List Id) (came : List Instance) (rising : IsRising (ids_of came
 
   too_many : IsMergeFault lines TooManyInstances → max_instances < length came
   too_many h =
-      let same = named_ids_are_committed lines came h.0 came_is_committed h.1 in
+      let same = ids_of-named lines came h.0 came_is_committed h.1 in
       omega (arith, h.2, ap length same, length-map came (λ (e : Instance). e.id))
 
 -- if nothing comes, only memory can run out
 module _ (done : List Id) where
-  pub only_memory : (f : Fault) → IsMergeFault (call_lines done [] []) f → f ≡ Memory
-  only_memory Memory h = refl
-  only_memory TooManyInstances h =
+  pub IsMergeFault-is_memory : (f : Fault) → IsMergeFault (call_lines done [] []) f → f ≡ Memory
+  IsMergeFault-is_memory Memory h = refl
+  IsMergeFault-is_memory TooManyInstances h =
       absurd (omega (arith, too_many done [] tt (λ e n. absurd (Contains-nil e n)) h))
-  only_memory (Disagree id first second) h =
+  IsMergeFault-is_memory (Disagree id first second) h =
       absurd (IsFirstDisagreement-not_Agree (call_lines done [] []) id h.1.0 h.1.1 h.1.2
       (came_agree done [] tt (λ e n. absurd (Contains-nil e n))))
-  only_memory TooManyLogs h = absurd h
-  only_memory (LogTooLong log) h = absurd h
-  only_memory (BadLine place why) h = absurd h
-  only_memory (Read log) h = absurd h
-  only_memory Write h = absurd h
-  only_memory (BadBase line) h = absurd h
+  IsMergeFault-is_memory TooManyLogs h = absurd h
+  IsMergeFault-is_memory (LogTooLong log) h = absurd h
+  IsMergeFault-is_memory (BadLine place why) h = absurd h
+  IsMergeFault-is_memory (Read log) h = absurd h
+  IsMergeFault-is_memory Write h = absurd h
+  IsMergeFault-is_memory (BadBase line) h = absurd h
 
 -- ---- lists of which nothing is done
 
@@ -85,7 +86,7 @@ not_done-all : (done : List Id) (m : List Instance)
     → ((e : Instance) → Contains m e → ¬ Contains done e.id) → not_done done m ≡ m
 not_done-all done [] left = refl
 not_done-all done (e ∷ m) left =
-    rw (not_among done e.id (left e (Contains-head e m)))
+    rw (is_among-false done e.id (left e (Contains-head e m)))
     (ap (λ (es : List Instance). e ∷ es) (not_done-all done m
     (λ d h. left d (Contains-cons e m d h))))
 
@@ -100,20 +101,20 @@ module _ (p : StateParts) (ordered : AreInOrder p) (done : List Id)
   is_left : (e : Instance) → Contains p.waiting e → ¬ Contains done e.id
   is_left e h there = ordered.left e h ((same e.id).0 there)
 
-  pub merge_fault_is_restore_fault : (f : Fault)
+  pub IsRestoreFault-from_merge : (f : Fault)
       → IsMergeFault (call_lines done [] p.waiting) f → IsRestoreFault p f
-  merge_fault_is_restore_fault Memory h = tt
-  merge_fault_is_restore_fault TooManyInstances h =
+  IsRestoreFault-from_merge Memory h = tt
+  IsRestoreFault-from_merge TooManyInstances h =
       too_many done p.waiting ordered.waiting is_left h
-  merge_fault_is_restore_fault (Disagree id first second) h =
+  IsRestoreFault-from_merge (Disagree id first second) h =
       absurd (IsFirstDisagreement-not_Agree (call_lines done [] p.waiting) id h.1.0 h.1.1 h.1.2
       (came_agree done p.waiting ordered.waiting is_left))
-  merge_fault_is_restore_fault TooManyLogs h = absurd h
-  merge_fault_is_restore_fault (LogTooLong log) h = absurd h
-  merge_fault_is_restore_fault (BadLine place why) h = absurd h
-  merge_fault_is_restore_fault (Read log) h = absurd h
-  merge_fault_is_restore_fault Write h = absurd h
-  merge_fault_is_restore_fault (BadBase line) h = absurd h
+  IsRestoreFault-from_merge TooManyLogs h = absurd h
+  IsRestoreFault-from_merge (LogTooLong log) h = absurd h
+  IsRestoreFault-from_merge (BadLine place why) h = absurd h
+  IsRestoreFault-from_merge (Read log) h = absurd h
+  IsRestoreFault-from_merge Write h = absurd h
+  IsRestoreFault-from_merge (BadBase line) h = absurd h
 
   module _ (store : Contents) (after : ExecutorView) (replies : List (Id × Reply))
       (commit : IsCommit (record { done = done; store = store; pending = [] }) p.waiting after
@@ -127,7 +128,7 @@ module _ (p : StateParts) (ordered : AreInOrder p) (done : List Id)
 
     same_map : remaining done commit.other ≡ remaining (ids_in p.runs) p.waiting
     same_map = ap (remaining done) other_is_waiting
-        ∙ remaining_in_runs done p.runs same p.waiting
+        ∙ remaining-ids_in done p.runs same p.waiting
 
     executed_is_ready : (x : Id) → Contains executed x
         → IsReady (remaining (ids_in p.runs) p.waiting) x
@@ -149,10 +150,10 @@ module _ (p : StateParts) (ordered : AreInOrder p) (done : List Id)
     done_is_ready e h there = elim ((commit.done e.id).0 there)
         [ inl old ↦ absurd (is_left e h old) | inr new ↦ executed_is_ready e.id new ]
 
-    pub first_is_ready : (position line : ℕ)
+    pub IsFirstReady-first_among : (position line : ℕ)
         → IsFirstAmong after.done (ids_of p.waiting) position
         → line ≡ 2 + length p.runs + position → IsFirstReady p line
-    first_is_ready position line h at =
+    IsFirstReady-first_among position line h at =
         let e = slice_get-from_map (λ (i : Instance). i.id) p.waiting position h.id h.there in
         record {
           number = position;
@@ -187,8 +188,8 @@ module _ (p : StateParts) (ordered : AreInOrder p) (done : List Id)
       run_is_empty = ap (λ (ids : List Id).
           execute (commands_in (remaining done commit.other) ids) store) none_executed
 
-      pub holds_parts : contents.entries store ≡ p.stored → HoldsState p after
-      holds_parts entries = record {
+      pub HoldsState-parts : contents.entries store ≡ p.stored → HoldsState p after
+      HoldsState-parts entries = record {
         done = λ x. (
           λ h. elim ((commit.done x).0 h) [
             | inl old ↦ (same x).0 old
@@ -204,20 +205,20 @@ module _ (p : StateParts) (ordered : AreInOrder p) (done : List Id)
       }
 
 -- the store of pairs whose keys rise has these pairs
-pub store_has_pairs : (ps : List (List ℕ × ℤ)) (store : Contents)
+pub entries-put_rising : (ps : List (List ℕ × ℤ)) (store : Contents)
     → store ≡ put_pairs ps contents.empty → IsTrue (is_sorted key_cmp ps)
     → contents.entries store ≡ ps
-store_has_pairs ps store is rises =
-    ap contents.entries is ∙ entries_put ps (subst T (sym rises) tt)
+entries-put_rising ps store is rises =
+    ap contents.entries is ∙ entries-put_pairs ps (subst T (sym rises) tt)
 
 -- ---- the first executed instance
 
 -- the Id at a position is the first one that is among the done ones
-pub first_among : (done ids : List Id) (position : ℕ) (d : Id) → position < length ids
+pub IsFirstAmong-at : (done ids : List Id) (position : ℕ) (d : Id) → position < length ids
     → Contains done (get_or ids position d)
     → ((k : ℕ) (e : Id) → k < position → k < length ids → ¬ Contains done (get_or ids k e))
     → IsFirstAmong done ids position
-first_among done ids position d l h none = record {
+IsFirstAmong-at done ids position d l h none = record {
   id = get_or ids position d;
   there = slice_get-get_or ids position d l;
   among = h;
@@ -226,11 +227,11 @@ first_among done ids position d l h none = record {
 }
 
 -- one more Id is not among them
-pub none_further : (done ids : List Id) (n : ℕ) (d : Id) (b : Bool)
+pub Contains-none_further : (done ids : List Id) (n : ℕ) (d : Id) (b : Bool)
     → (IsTrue b ↔ Contains done (get_or ids n d)) → b ≡ false → n < length ids
     → ((k : ℕ) (e : Id) → k < n → k < length ids → ¬ Contains done (get_or ids k e))
     → (k : ℕ) (e : Id) → k < n + 1 → k < length ids → ¬ Contains done (get_or ids k e)
-none_further done ids n d b same fails l none k e low m among =
+Contains-none_further done ids n d b same fails l none k e low m among =
     elim (cases_lt k n) [
       | inl before ↦ none k e before m among
       | inr from ↦
@@ -242,10 +243,10 @@ none_further done ids n d b same fails l none k e low m among =
 
 -- ---- faults
 
-pub restore_fault_is_state_fault : (bytes : List ℕ) (p : StateParts) (f : Fault)
+pub IsStateFault-from_restore : (bytes : List ℕ) (p : StateParts) (f : Fault)
     → IsState bytes p → IsRestoreFault p f → IsStateFault bytes f
-restore_fault_is_state_fault bytes p Memory is h = tt
-restore_fault_is_state_fault bytes p (BadBase line) is h = inr (inr (record {
+IsStateFault-from_restore bytes p Memory is h = tt
+IsStateFault-from_restore bytes p (BadBase line) is h = inr (inr (record {
   parts = p;
   whole = is;
   number = h.number;
@@ -255,10 +256,10 @@ restore_fault_is_state_fault bytes p (BadBase line) is h = inr (inr (record {
   first = h.first;
   line_is = h.line_is;
 }))
-restore_fault_is_state_fault bytes p TooManyInstances is h = (p, is, h)
-restore_fault_is_state_fault bytes p (Disagree id first second) is h = absurd h
-restore_fault_is_state_fault bytes p TooManyLogs is h = absurd h
-restore_fault_is_state_fault bytes p (LogTooLong log) is h = absurd h
-restore_fault_is_state_fault bytes p (BadLine place why) is h = absurd h
-restore_fault_is_state_fault bytes p (Read log) is h = absurd h
-restore_fault_is_state_fault bytes p Write is h = absurd h
+IsStateFault-from_restore bytes p TooManyInstances is h = (p, is, h)
+IsStateFault-from_restore bytes p (Disagree id first second) is h = absurd h
+IsStateFault-from_restore bytes p TooManyLogs is h = absurd h
+IsStateFault-from_restore bytes p (LogTooLong log) is h = absurd h
+IsStateFault-from_restore bytes p (BadLine place why) is h = absurd h
+IsStateFault-from_restore bytes p (Read log) is h = absurd h
+IsStateFault-from_restore bytes p Write is h = absurd h

@@ -38,9 +38,9 @@ after_stored : (rs ws ss : List (List ℕ)) (l : List ℕ)
 after_stored rs ws ss l =
     append_assoc rs (ws ++ ss) (l ∷ []) ∙ ap (λ ls. rs ++ ls) (append_assoc ws ss (l ∷ []))
 
-pub first_said : (l : List ℕ) (c : StateCounts) → counts_of_line l ≡ Some c
+pub SayState-counts : (l : List ℕ) (c : StateCounts) → counts_of_line l ≡ Some c
     → SayState (l ∷ []) c (record { runs = []; waiting = []; stored = [] })
-first_said l c e = record {
+SayState-counts l c e = record {
   first = l;
   runs = [];
   waiting = [];
@@ -54,10 +54,10 @@ first_said l c e = record {
 
 module _ (ls : List (List ℕ)) (c : StateCounts) (p : StateParts) (s : SayState ls c p)
     (l : List ℕ) where
-  pub run_said : (r : Run) → run_of_line l ≡ Some r → p.waiting ≡ [] → p.stored ≡ []
+  pub SayState-run : (r : Run) → run_of_line l ≡ Some r → p.waiting ≡ [] → p.stored ≡ []
       → SayState (ls ++ l ∷ []) c
       (record { runs = p.runs ++ r ∷ []; waiting = p.waiting; stored = p.stored })
-  run_said r e none_waits none_stored = record {
+  SayState-run r e none_waits none_stored = record {
     first = s.first;
     runs = s.runs ++ l ∷ [];
     waiting = s.waiting;
@@ -72,10 +72,10 @@ module _ (ls : List (List ℕ)) (c : StateCounts) (p : StateParts) (s : SayState
     stored_said = s.stored_said;
   }
 
-  pub entry_said : (e : Instance) → entry_of_line l ≡ Some e → p.stored ≡ []
+  pub SayState-entry : (e : Instance) → entry_of_line l ≡ Some e → p.stored ≡ []
       → SayState (ls ++ l ∷ []) c
       (record { runs = p.runs; waiting = p.waiting ++ e ∷ []; stored = p.stored })
-  entry_said e is none_stored = record {
+  SayState-entry e is none_stored = record {
     first = s.first;
     runs = s.runs;
     waiting = s.waiting ++ l ∷ [];
@@ -89,10 +89,10 @@ module _ (ls : List (List ℕ)) (c : StateCounts) (p : StateParts) (s : SayState
     stored_said = s.stored_said;
   }
 
-  pub pair_said : (q : List ℕ × ℤ) → pair_of_line l ≡ Some q
+  pub SayState-pair : (q : List ℕ × ℤ) → pair_of_line l ≡ Some q
       → SayState (ls ++ l ∷ []) c
       (record { runs = p.runs; waiting = p.waiting; stored = p.stored ++ q ∷ [] })
-  pair_said q e = record {
+  SayState-pair q e = record {
     first = s.first;
     runs = s.runs;
     waiting = s.waiting;

@@ -9,7 +9,7 @@ use Rattle.epx_executor.specs.Runs.{IsInRuns}
 use Rattle.epx_state.specs.declared.forms.StateCounts.{StateCounts}
 use Rattle.epx_state.specs.StateForms.{StateParts, state_counts, entry_of_line}
 use Rattle.epx_state.specs.StateForms.{pair_of_line, run_of_line}
-use Rattle.epx_state.specs.StateLaws.{RestoredHoldTheSame, StateIsOne}
+use Rattle.epx_state.specs.StateLaws.{RestoredHoldTheSame, StateIsUnique}
 
 -- ---- one section
 
@@ -44,8 +44,8 @@ module _ {A : Type 0} (form : List ℕ → Option A) where
 
 -- ---- a state
 
-pub state_is_one : StateIsOne
-state_is_one bytes p q x y =
+pub StateIsUnique-holds : StateIsUnique
+StateIsUnique-holds bytes p q x y =
     let a = x.said in
     let b = y.said in
     let same : a.first ∷ (a.runs ++ (a.waiting ++ a.stored))
@@ -61,9 +61,9 @@ state_is_one bytes p q x y =
     b.stored_said waiting.1 in
     λ i. record { runs = runs.0 i; waiting = waiting.0 i; stored = stored i }
 
-pub restored_hold_the_same : RestoredHoldTheSame
-restored_hold_the_same bytes p q v w x hv y hw =
-    let same = state_is_one bytes p q x y in record {
+pub RestoredHoldTheSame-holds : RestoredHoldTheSame
+RestoredHoldTheSame-holds bytes p q v w x hv y hw =
+    let same = StateIsUnique-holds bytes p q x y in record {
       done = λ id. (
         λ h. (hw.done id).1 (subst (λ (s : StateParts). IsInRuns s.runs id) same
             ((hv.done id).0 h)),

@@ -15,7 +15,7 @@ use Rattle.epx_lines.specs.Meaning.{json_of, max_line_bytes}
 use Rattle.epx_report.specs.Bases.{IsBase, lines_in_order}
 use Rattle.epx_report.specs.Forms.{base_line_of, form_of, form_of_list}
 use Rattle.epx_report.specs.declared.base.BaseFault.TheVariants as why
-use Rattle.epx_report.proofs.BaseLemmas.{base_says_one_thing}
+use Rattle.epx_report.proofs.BaseLemmas.{BaseSaysOneThing-holds}
 use Rattle.epx_executor.specs.CallLines.{call_lines}
 use Rattle.epx_executor.specs.Commits.{AllWait, ExecutorView, IsCommit}
 use Rattle.epx_executor.specs.ExecutorLaws.{HoldTheSame, RestartedExecutorHoldsTheSame}
@@ -25,8 +25,8 @@ use Rattle.epx_state.specs.StateLaws.{StartedHoldTheSame}
 use Rattle.epx_state.specs.Starts.{BeginsAsState, HoldsReport, IsReportFault}
 use Rattle.epx_state.specs.Starts.{IsStartFault}
 use Rattle.epx_state.specs.States.{IsState}
-use Rattle.epx_state.proofs.RestoreLemmas.{only_memory}
-use Rattle.epx_state.proofs.SectionLemmas.{restored_hold_the_same}
+use Rattle.epx_state.proofs.RestoreLemmas.{IsMergeFault-is_memory}
+use Rattle.epx_state.proofs.SectionLemmas.{RestoredHoldTheSame-holds}
 
 -- ---- no line is of both kinds
 
@@ -75,8 +75,9 @@ report_is_no_state bytes executed stored is begins =
     ap (map base_line_of) (sym begins.cut) ∙ is.said in
     cc (said, none)
 
-pub state_begins : (bytes : List ℕ) (p : StateParts) → IsState bytes p → BeginsAsState bytes
-state_begins bytes p is = record {
+pub BeginsAsState-if_state : (bytes : List ℕ) (p : StateParts) → IsState bytes p
+    → BeginsAsState bytes
+BeginsAsState-if_state bytes p is = record {
   first = is.said.first;
   rest = _;
   counts = _;
@@ -98,31 +99,31 @@ same_reports a b s t v w same hv hw = record {
   pending = hv.pending ∙ sym hw.pending;
 }
 
-pub started_hold_the_same : StartedHoldTheSame
-started_hold_the_same bytes v w line other (inl x) (inl y) =
-    restored_hold_the_same bytes x.0 y.0 v w x.1 x.2 y.1 y.2
-started_hold_the_same bytes v w line other (inl x) (inr y) =
-    absurd (report_is_no_state bytes y.0 y.1 y.2 (state_begins bytes x.0 x.1))
-started_hold_the_same bytes v w line other (inr x) (inl y) =
-    absurd (report_is_no_state bytes x.0 x.1 x.2 (state_begins bytes y.0 y.1))
-started_hold_the_same bytes v w line other (inr x) (inr y) =
+pub StartedHoldTheSame-holds : StartedHoldTheSame
+StartedHoldTheSame-holds bytes v w line other (inl x) (inl y) =
+    RestoredHoldTheSame-holds bytes x.0 y.0 v w x.1 x.2 y.1 y.2
+StartedHoldTheSame-holds bytes v w line other (inl x) (inr y) =
+    absurd (report_is_no_state bytes y.0 y.1 y.2 (BeginsAsState-if_state bytes x.0 x.1))
+StartedHoldTheSame-holds bytes v w line other (inr x) (inl y) =
+    absurd (report_is_no_state bytes x.0 x.1 x.2 (BeginsAsState-if_state bytes y.0 y.1))
+StartedHoldTheSame-holds bytes v w line other (inr x) (inr y) =
     same_reports x.0 y.0 x.1 y.1 v w
-    (base_says_one_thing bytes x.0 y.0 x.1 y.1 x.2 y.2) x.3 y.3
+    (BaseSaysOneThing-holds bytes x.0 y.0 x.1 y.1 x.2 y.2) x.3 y.3
 
 -- ---- the first line
 
-pub nothing_begins : (bytes : List ℕ) → lines_of bytes ≡ [] → ¬ BeginsAsState bytes
-nothing_begins bytes none begins = cc (none, begins.cut)
+pub BeginsAsState-not_nil : (bytes : List ℕ) → lines_of bytes ≡ [] → ¬ BeginsAsState bytes
+BeginsAsState-not_nil bytes none begins = cc (none, begins.cut)
 
 -- the test of the first line
-pub begins_if_read : (bytes first : List ℕ) (rest : List (List ℕ)) (o : Option StateCounts)
+pub BeginsAsState-iff_read : (bytes first : List ℕ) (rest : List (List ℕ)) (o : Option StateCounts)
     → lines_of bytes ≡ first ∷ rest → o ≡ counts_of_line first
     → IsTrue (is_some o) ↔ BeginsAsState bytes
-begins_if_read bytes first rest (Some c) cut is = (
+BeginsAsState-iff_read bytes first rest (Some c) cut is = (
   λ h. record { first = first; rest = rest; counts = c; cut = cut; said = sym is },
   λ begins. refl,
 )
-begins_if_read bytes first rest None cut is = (
+BeginsAsState-iff_read bytes first rest None cut is = (
   λ h. absurd (cc h),
   λ begins.
       let same : first ≡ begins.first = cc (cut, begins.cut) in
@@ -130,20 +131,20 @@ begins_if_read bytes first rest None cut is = (
 )
 
 -- memory says nothing about the bytes
-pub memory_is_start_fault : (bytes : List ℕ) → IsStartFault bytes Memory
-memory_is_start_fault bytes = by_lines (lines_of bytes) refl
+pub IsStartFault-memory : (bytes : List ℕ) → IsStartFault bytes Memory
+IsStartFault-memory bytes = by_lines (lines_of bytes) refl
   where
     by_counts : (first : List ℕ) (rest : List (List ℕ)) (o : Option StateCounts)
         → lines_of bytes ≡ first ∷ rest → o ≡ counts_of_line first → IsStartFault bytes Memory
     by_counts first rest (Some c) cut is =
-        inl ((begins_if_read bytes first rest (Some c) cut is).0 refl, tt)
+        inl ((BeginsAsState-iff_read bytes first rest (Some c) cut is).0 refl, tt)
     by_counts first rest None cut is = inr (
-      λ begins. absurd (cc ((begins_if_read bytes first rest None cut is).1 begins)),
+      λ begins. absurd (cc ((BeginsAsState-iff_read bytes first rest None cut is).1 begins)),
       (why.Memory, tt, refl),
     )
 
     by_lines : (lines : List (List ℕ)) → lines_of bytes ≡ lines → IsStartFault bytes Memory
-    by_lines [] none = inr (nothing_begins bytes none, (why.Memory, tt, refl))
+    by_lines [] none = inr (BeginsAsState-not_nil bytes none, (why.Memory, tt, refl))
     by_lines (first ∷ rest) cut = by_counts first rest (counts_of_line first) cut refl
 
 -- ---- the executor of a report
@@ -157,12 +158,12 @@ nothing_waits done store = record {
 }
 
 -- no instance is given to it, so it executes none
-pub report_is_held : RestartedExecutorHoldsTheSame → (executed done : List Id)
+pub HoldsReport-commit : RestartedExecutorHoldsTheSame → (executed done : List Id)
     (stored : Contents) → ((x : Id) → Contains done x ↔ Contains executed x)
     → (after : ExecutorView) (replies : List (Id × Reply))
     → IsCommit (record { done = done; store = stored; pending = [] }) [] after replies
     → HoldsReport executed stored after
-report_is_held restarted executed done stored each after replies commit =
+HoldsReport-commit restarted executed done stored each after replies commit =
     let same : HoldTheSame after (record { done = done; store = stored; pending = [] }) =
     (restarted (record { done = done; store = stored; pending = [] }) (nothing_waits done stored)
     done (λ x. (λ h. h, λ h. h)) after replies commit).1 in
@@ -176,10 +177,10 @@ report_is_held restarted executed done stored each after replies commit =
     }
 
 -- Ids that are put into a new set
-pub added_to_none : (before done ids : List Id) → before ≡ []
+pub Contains-added_to_none : (before done ids : List Id) → before ≡ []
     → ((x : Id) → Contains done x ↔ (Contains before x ⊎ Contains ids x))
     → (x : Id) → Contains done x ↔ Contains ids x
-added_to_none before done ids none each x = (
+Contains-added_to_none before done ids none each x = (
   λ h. elim ((each x).0 h) [
     | inl old ↦ absurd (Contains-nil x (subst (λ (xs : List Id). Contains xs x) none old))
     | inr new ↦ new
@@ -187,6 +188,6 @@ added_to_none before done ids none each x = (
   λ h. (each x).1 (inr h),
 )
 
-pub merge_fault_is_report_fault : (bytes : List ℕ) (done : List Id) (f : Fault)
+pub IsReportFault-from_merge : (bytes : List ℕ) (done : List Id) (f : Fault)
     → IsMergeFault (call_lines done [] []) f → IsReportFault bytes f
-merge_fault_is_report_fault bytes done f h = (why.Memory, tt, only_memory done f h)
+IsReportFault-from_merge bytes done f h = (why.Memory, tt, IsMergeFault-is_memory done f h)

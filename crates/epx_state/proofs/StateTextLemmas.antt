@@ -11,7 +11,7 @@ use Rattle.epx_lines.specs.Lines.{lines_of}
 use Rattle.epx_lines.specs.Text.{line_text, object_of}
 use Rattle.epx_report.specs.ReportLines.{array_of, line_of, store_data, store_line}
 use Rattle.epx_report.proofs.LineFeedLemmas.{is_unbroken, lines_of-unbroken, lines_of-each}
-use Rattle.epx_report.proofs.RisingListLemmas.{is_true}
+use Rattle.epx_report.proofs.RisingListLemmas.{T-true}
 use Rattle.epx_executor.specs.Commits.{AllWait, ExecutorView}
 use Rattle.epx_executor.specs.Runs.{AreRuns}
 use Rattle.epx_executor.specs.declared.done_runs.Run.{Run}
@@ -69,9 +69,9 @@ module _ (p : StateParts) where
       (all_waiting ∙ ap (λ ls. map line_text p.waiting ++ ls)
       (ap lines_of (sym (append-nil stored)) ∙ all_stored ∙ append-nil _)))
 
-  pub state_written : EachIsRead p → AreInOrder p → IsState (text_of_state p) p
+  pub IsState-text_of_state : EachIsRead p → AreInOrder p → IsState (text_of_state p) p
   unfolding texts
-  state_written h ordered = record {
+  IsState-text_of_state h ordered = record {
     said = record {
       first = text_of (state_data (state_counts p));
       runs = map (λ (r : Run). text_of (run_data r)) p.runs;
@@ -92,24 +92,26 @@ module _ (p : StateParts) where
 -- ---- the state of an executor
 
 -- the runs, the instances that wait and the store of an executor are in order
-pub ordered : (p : StateParts) (v : ExecutorView) → HoldsState p v → AllWait v → AreRuns p.runs
+pub AreInOrder-held : (p : StateParts) (v : ExecutorView) → HoldsState p v → AllWait v
+    → AreRuns p.runs
     → AreInOrder p
-ordered p v holds wait runs = record {
+AreInOrder-held p v holds wait runs = record {
   runs = runs;
   waiting = subst (λ (es : List Instance). IsRising (ids_of es)) holds.pending wait.rising;
   left = λ e there among.
       wait.not_done e (subst (λ (es : List Instance). Contains es e) (sym holds.pending) there)
       ((holds.done e.id).1 among);
-  stored = is_true _ (subst (λ (es : List (List ℕ × ℤ)). T (is_sorted key_cmp es)) holds.store
+  stored = T-true _ (subst (λ (es : List (List ℕ × ℤ)). T (is_sorted key_cmp es)) holds.store
       (contents.entries_sorted v.store));
 }
 
 -- the sections, written one after another
-pub text_written : (p : StateParts) (c : StateCounts) (none first runs waiting text : List ℕ)
+pub text_of_state-written : (p : StateParts) (c : StateCounts)
+    (none first runs waiting text : List ℕ)
     → none ≡ [] → c ≡ state_counts p → first ≡ none ++ line_of (state_data c)
     → runs ≡ first ++ flat_map run_line p.runs → waiting ≡ runs ++ flat_map entry_line p.waiting
     → text ≡ waiting ++ flat_map store_line p.stored → text ≡ text_of_state p
-text_written p c none first runs waiting text start counted h r w s =
+text_of_state-written p c none first runs waiting text start counted h r w s =
     let head = line_of (state_data (state_counts p)) in
     let all_runs = flat_map run_line p.runs in
     let all_waiting = flat_map entry_line p.waiting in
@@ -119,13 +121,14 @@ text_written p c none first runs waiting text start counted h r w s =
     ∙ append_assoc (head ++ all_runs) all_waiting all_stored
     ∙ append_assoc head all_runs (all_waiting ++ all_stored)
 
-pub written : (p : StateParts) (v : ExecutorView) (text : List ℕ) → HoldsState p v → AllWait v
+pub HoldsState-written : (p : StateParts) (v : ExecutorView) (text : List ℕ) → HoldsState p v
+    → AllWait v
     → AreRuns p.runs → EachIsRead p → text ≡ text_of_state p
     → (q : StateParts) × HoldsState q v × (text ≡ text_of_state q) × IsState text q
-written p v text holds wait runs read is = (
+HoldsState-written p v text holds wait runs read is = (
   p,
   holds,
   is,
   subst (λ (t : List ℕ). IsState t p) (sym is)
-      (state_written p read (ordered p v holds wait runs)),
+      (IsState-text_of_state p read (AreInOrder-held p v holds wait runs)),
 )

@@ -8,7 +8,7 @@ use Rattle.serde_json.specs.Data.{string, array, object, Items, no_items, item, 
 use Rattle.serde_json.specs.Data.{no_members, member}
 use Rattle.serde_json.specs.Written.{number_text, compact_text, items_text, members_text}
 use Rattle.json.specs.Print.{quoted}
-use Rattle.epx_report.proofs.LineFeedLemmas.{is_unbroken, both_unbroken, is_unbroken-quoted}
+use Rattle.epx_report.proofs.LineFeedLemmas.{is_unbroken, is_unbroken-append, is_unbroken-quoted}
 
 -- ---- numbers
 
@@ -60,22 +60,22 @@ mutual
   is_unbroken-items : (later : Bool) (ds : Items) → is_unbroken (items_text later ds) ≡ true
   is_unbroken-items later no_items = refl
   is_unbroken-items true (item d ds) =
-      both_unbroken (compact_text d) (items_text true ds) (is_unbroken-value d)
+      is_unbroken-append (compact_text d) (items_text true ds) (is_unbroken-value d)
       (is_unbroken-items true ds)
   is_unbroken-items false (item d ds) =
-      both_unbroken (compact_text d) (items_text true ds) (is_unbroken-value d)
+      is_unbroken-append (compact_text d) (items_text true ds) (is_unbroken-value d)
       (is_unbroken-items true ds)
 
   is_unbroken-members : (later : Bool) (ms : Members)
       → is_unbroken (members_text later ms) ≡ true
   is_unbroken-members later no_members = refl
   is_unbroken-members true (member k d ms) =
-      both_unbroken (quoted k) (58 ∷ (compact_text d ++ members_text true ms))
+      is_unbroken-append (quoted k) (58 ∷ (compact_text d ++ members_text true ms))
       (is_unbroken-quoted k)
-      (both_unbroken (compact_text d) (members_text true ms) (is_unbroken-value d)
+      (is_unbroken-append (compact_text d) (members_text true ms) (is_unbroken-value d)
       (is_unbroken-members true ms))
   is_unbroken-members false (member k d ms) =
-      both_unbroken (quoted k) (58 ∷ (compact_text d ++ members_text true ms))
+      is_unbroken-append (quoted k) (58 ∷ (compact_text d ++ members_text true ms))
       (is_unbroken-quoted k)
-      (both_unbroken (compact_text d) (members_text true ms) (is_unbroken-value d)
+      (is_unbroken-append (compact_text d) (members_text true ms) (is_unbroken-value d)
       (is_unbroken-members true ms))

@@ -11,8 +11,8 @@ use Rattle.epx_state.specs.Starts.{GoesOnFrom}
 use Rattle.epx_state.specs.States.{HoldsState, IsState}
 
 -- bytes are a state in only one way
-abbrev pub StateIsOne : Type 0
-StateIsOne = (bytes : List ℕ) (p q : StateParts) → IsState bytes p → IsState bytes q → p ≡ q
+abbrev pub StateIsUnique : Type 0
+StateIsUnique = (bytes : List ℕ) (p q : StateParts) → IsState bytes p → IsState bytes q → p ≡ q
 
 -- two executors that hold the parts of one state hold the same
 abbrev pub RestoredHoldTheSame : Type 0

@@ -10,6 +10,7 @@ ghost use Rattle.epx_state.specs.StateForms.{run_of_line, run_of_list};
 
 use epx_executor::Run;
 use epx_lines::{Line, LineFault, LineReader, read_id_parts, read_json, read_key, read_number};
+use epx_report::has_text;
 use epx_types::{Entry, Id, Key, Memory};
 use serde_json::Value;
 use std::alloc::Global;
@@ -20,16 +21,6 @@ pub(crate) struct StateCounts {
     pub(crate) runs: u64,
     pub(crate) waiting: u64,
     pub(crate) stored: u64,
-}
-
-/// Whether a value is this text.
-fn has_text(value: &Value, text: &str) -> bool
-    ensures { result ≡ is_text text.now (view value.now) }
-{
-    match value.as_str() {
-        Some(found) => found == text,
-        None => false,
-    }
 }
 
 /// Whether the names of the counts are these texts.

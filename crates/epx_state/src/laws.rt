@@ -1,10 +1,10 @@
 //! Laws of states. Each contract is a law.
-ghost use Rattle.epx_state.specs.StateLaws.{StateIsOne, RestoredHoldTheSame};
+ghost use Rattle.epx_state.specs.StateLaws.{StateIsUnique, RestoredHoldTheSame};
 ghost use Rattle.epx_state.specs.StateLaws.{StartedHoldTheSame, StateOfAnExecutorIsGood};
 
 /// Bytes are a state in at most one way.
-pub fn state_is_one()
-    ensures { StateIsOne }
+pub fn state_is_unique()
+    ensures { StateIsUnique }
 {}
 
 /// Executors that hold the parts of one state hold the same, whatever the order of their executed

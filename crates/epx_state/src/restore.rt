@@ -1,31 +1,18 @@
 //! Makes an executor of the parts of a state.
 ghost use Rattle.std.specs.Prelude.{◌≡◌, ◌+◌, All, Contains, IfOk, IfErr, IfNone, IfSome};
 ghost use Rattle.std.specs.Prelude.{length};
-ghost use Rattle.std.specs.FinMap as contents;
 ghost use Rattle.epx_types.specs.CommittedMap.{ids_of};
-ghost use Rattle.epx_report.specs.inner.BaseReadings.{put_pairs};
 ghost use Rattle.epx_state.specs.States.{AreInOrder, HoldsState};
 ghost use Rattle.epx_state.specs.inner.StateProgress.{parts_of};
 ghost use Rattle.epx_state.specs.inner.Restoring.{IsFirstAmong, IsRestoreFault};
 
 use crate::progress::StateProgress;
 use epx_executor::Executor;
-use epx_txn::Store;
-use epx_types::{Entry, Fault, Id, Key, Memory, Plan};
+use epx_report::store_of;
+use epx_types::{Entry, Fault, Id, Memory, Plan};
 use std::alloc::Global;
 use std::random::RandomSource;
 use std::thread::Threads;
-
-/// Puts the values into a new store, one after another.
-fn store_of(alloc: Global, pairs: Vec<(Key, i64)>) -> Result<Store, Memory>
-    ensures { IfOk result (λ s. s ≡ put_pairs pairs.items contents.empty) }
-{
-    let mut store = Store::new(alloc);
-    for (key, value) in pairs {
-        store.put(key, value)?;
-    }
-    Ok(store)
-}
 
 /// The Ids of instances, in the order of these.
 fn list_ids(alloc: Global, entries: &[Entry]) -> Result<Vec<Id>, Memory>

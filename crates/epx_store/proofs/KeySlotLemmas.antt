@@ -7,16 +7,17 @@ use Rattle.std.proofs.Math.ListN.{get_or-map}
 use Rattle.epx_types.proofs.Common.{take_more, take_all, drop_all, length-map, map-append}
 use Rattle.epx_types.proofs.Common.{get_or_default, Less, Equal, Greater, FinMap, is_sorted}
 use Rattle.epx_types.proofs.Common.{entries_sorted, get-from_entries, below_all, Contents, key_cmp}
-use Rattle.epx_types.proofs.Common.{apply_writes, key_cmp_total, key_cmp-IsAntisymmetric, first_of}
-use Rattle.epx_types.proofs.Common.{find_below, entries-from_entries, write_all}
+use Rattle.epx_types.proofs.Common.{apply_writes, key_cmp-IsTotalOrder, key_cmp-IsAntisymmetric}
+use Rattle.epx_types.proofs.Common.{and-first}
+use Rattle.epx_types.proofs.Common.{find-below_all, entries-from_entries, write_all}
 use Rattle.epx_types.proofs.Common.{insert_all-from_entries}
 use Rattle.std.proofs.lemmas.List.{set_split, map-set}
 use Rattle.std.specs.FinMap as contents
 use Rattle.std.specs.FinMap.{find, put, entries-insert, same_entries_map}
 use Rattle.std.specs.FinMap.Entries.{by_order}
 use Rattle.epx_store.specs.inner.KeySlots.{IsAtSlot, IsInsertedAt}
-use Rattle.epx_store.proofs.DropLemmas.{drop_at_index}
-use Rattle.epx_store.proofs.RisingEntryLemmas.{below_all_trans, is_sorted-drop}
+use Rattle.epx_store.proofs.DropLemmas.{drop-at_index}
+use Rattle.epx_store.proofs.RisingEntryLemmas.{below_all-trans, is_sorted-drop}
 
 abbrev pub Entries : Type 0
 Entries = List (List ℕ × Option ℤ)
@@ -26,13 +27,13 @@ pub record AreLowerBefore (es : Entries) (k : List ℕ) (i : ℕ) : Type 0 where
   pub found : find key_cmp k es ≡ find key_cmp k (drop i es)
   pub put : (v : Option ℤ) → put key_cmp k v es ≡ take i es ++ put key_cmp k v (drop i es)
 
-pub lower_none : (es : Entries) (k : List ℕ) → AreLowerBefore es k 0
-lower_none es k = record { found = refl; put = λ v. refl }
+pub AreLowerBefore-none : (es : Entries) (k : List ℕ) → AreLowerBefore es k 0
+AreLowerBefore-none es k = record { found = refl; put = λ v. refl }
 
 module _ (es : Entries) (k : List ℕ) (i : ℕ) (past : AreLowerBefore es k i) where
   module _ (e : List ℕ × Option ℤ) (within : i < length es) (here : e ≡ get_or es i e) where
     left : drop i es ≡ e ∷ drop (i + 1) es
-    left = drop_at_index es i e within here
+    left = drop-at_index es i e within here
 
     find_here : find key_cmp k es ≡ cond (is_eq (key_cmp k e.0)) (Some e.1)
         (find key_cmp k (drop (i + 1) es))
@@ -43,17 +44,17 @@ module _ (es : Entries) (k : List ℕ) (i : ℕ) (past : AreLowerBefore es k i) 
         ((e.0, v) ∷ drop (i + 1) es) (e ∷ put key_cmp k v (drop (i + 1) es))
     put_here v = past.put v ∙ ap (λ xs. take i es ++ put key_cmp k v xs) left
 
-    pub slot_absent : T (is_sorted key_cmp es) → key_cmp k e.0 ≡ Less → IsInsertedAt es k i
-    slot_absent rises less =
+    pub IsInsertedAt-if_less : T (is_sorted key_cmp es) → key_cmp k e.0 ≡ Less → IsInsertedAt es k i
+    IsInsertedAt-if_less rises less =
         let above : T (is_sorted key_cmp (e ∷ drop (i + 1) es)) =
         subst (λ xs. T (is_sorted key_cmp xs)) left (is_sorted-drop es i rises) in
         let all : T (below_all key_cmp k (drop (i + 1) es)) =
-        below_all_trans k e.0 (drop (i + 1) es) less (first_of _ _ above) in
+        below_all-trans k e.0 (drop (i + 1) es) less (and-first _ _ above) in
         record {
           within = omega arith;
           absent = find_here
               ∙ ap (λ o. cond (is_eq o) (Some e.1) (find key_cmp k (drop (i + 1) es))) less
-              ∙ find_below k (drop (i + 1) es) all;
+              ∙ find-below_all k (drop (i + 1) es) all;
           put = λ v.
               put_here v
               ∙ ap (λ o. take i es ++ by_order o ((k, v) ∷ e ∷ drop (i + 1) es)
@@ -61,8 +62,8 @@ module _ (es : Entries) (k : List ℕ) (i : ℕ) (past : AreLowerBefore es k i) 
               ∙ ap (λ xs. take i es ++ (k, v) ∷ xs) (sym left);
         }
 
-    pub slot_found : key_cmp k e.0 ≡ Equal → IsAtSlot es k i
-    slot_found equal =
+    pub IsAtSlot-if_equal : key_cmp k e.0 ≡ Equal → IsAtSlot es k i
+    IsAtSlot-if_equal equal =
         record {
           within = within;
           found = λ d.
@@ -79,8 +80,8 @@ module _ (es : Entries) (k : List ℕ) (i : ℕ) (past : AreLowerBefore es k i) 
               ∙ sym (set_split es i (k, v) within);
         }
 
-    pub lower_here : key_cmp k e.0 ≡ Greater → AreLowerBefore es k (i + 1)
-    lower_here greater =
+    pub AreLowerBefore-step : key_cmp k e.0 ≡ Greater → AreLowerBefore es k (i + 1)
+    AreLowerBefore-step greater =
         record {
           found = find_here
               ∙ ap (λ o. cond (is_eq o) (Some e.1) (find key_cmp k (drop (i + 1) es))) greater;
@@ -94,8 +95,8 @@ module _ (es : Entries) (k : List ℕ) (i : ℕ) (past : AreLowerBefore es k i) 
         }
 
   -- no entry is left to compare
-  pub slot_last : (n : ℕ) → n ≡ i → length es ≡ n → IsInsertedAt es k n
-  slot_last n same last =
+  pub IsInsertedAt-at_end : (n : ℕ) → n ≡ i → length es ≡ n → IsInsertedAt es k n
+  IsInsertedAt-at_end n same last =
       let none : drop n es ≡ [] = drop_all n es (omega arith) in
       let after : AreLowerBefore es k n = subst (AreLowerBefore es k) (sym same) past in
       record {
@@ -110,47 +111,48 @@ module _ (es : Entries) (k : List ℕ) (i : ℕ) (past : AreLowerBefore es k i) 
 module _ (es : Entries) (rises : T (is_sorted key_cmp es)) (k : List ℕ) (v : Option ℤ) where
   entries_put : contents.entries (contents.insert (contents.from_entries {R = key_cmp} es) k v)
       ≡ put key_cmp k v es
-  entries_put = entries-insert key_cmp_total (contents.from_entries es) k v
+  entries_put = entries-insert key_cmp-IsTotalOrder (contents.from_entries es) k v
       ∙ ap (put key_cmp k v) (entries-from_entries es rises)
 
   module _ (fs : Entries) (is : fs ≡ put key_cmp k v es) where
-    pub rises_put : T (is_sorted key_cmp fs)
-    rises_put = subst (λ xs. T (is_sorted key_cmp xs)) (entries_put ∙ sym is)
+    pub is_sorted-put : T (is_sorted key_cmp fs)
+    is_sorted-put = subst (λ xs. T (is_sorted key_cmp xs)) (entries_put ∙ sym is)
         (entries_sorted (contents.insert (contents.from_entries {R = key_cmp} es) k v))
 
     -- an entry that is put at its slot is inserted
-    pub inserted_put : (m : FinMap key_cmp (Option ℤ)) → contents.from_entries es ≡ m
+    pub from_entries-put : (m : FinMap key_cmp (Option ℤ)) → contents.from_entries es ≡ m
         → contents.from_entries fs ≡ contents.insert m k v
-    inserted_put m view_is =
-        same_entries_map _ _ (entries-from_entries fs rises_put ∙ is ∙ sym entries_put)
+    from_entries-put m view_is =
+        same_entries_map _ _ (entries-from_entries fs is_sorted-put ∙ is ∙ sym entries_put)
         ∙ ap (λ n. contents.insert n k v) view_is
 
 -- the value at the slot of a key
 module _ (es : Entries) (m : FinMap key_cmp (Option ℤ)) (view_is : contents.from_entries es ≡ m)
     (k : List ℕ) where
   got_at : find key_cmp k es ≡ contents.get m k
-  got_at = sym (get-from_entries key_cmp_total es k) ∙ ap (λ n. contents.get n k) view_is
+  got_at = sym (get-from_entries key_cmp-IsTotalOrder es k) ∙ ap (λ n. contents.get n k) view_is
 
-  pub get_at_slot : (i : ℕ) (d : List ℕ × Option ℤ) → IsAtSlot es k i
+  pub get-at_slot : (i : ℕ) (d : List ℕ × Option ℤ) → IsAtSlot es k i
       → Some (get_or es i d).1 ≡ contents.get m k
-  get_at_slot i d h = sym (h.found d) ∙ got_at
+  get-at_slot i d h = sym (h.found d) ∙ got_at
 
-  pub get_absent : (i : ℕ) → IsInsertedAt es k i → None ≡ contents.get m k
-  get_absent i h = sym h.absent ∙ got_at
+  pub get-absent : (i : ℕ) → IsInsertedAt es k i → None ≡ contents.get m k
+  get-absent i h = sym h.absent ∙ got_at
 
 -- ---- entries that are the views of other values, such as borrowed keys with values
 
 module _ {A : Type 0} (shown : A → List ℕ × Option ℤ) (xs : List A) where
-  pub shown_at : (i : ℕ) (x : A) → x ≡ get_or xs i x → shown x ≡ get_or (map shown xs) i (shown x)
-  shown_at i x here = ap shown here ∙ sym (get_or-map shown xs i x)
+  pub get_or-shown : (i : ℕ) (x : A) → x ≡ get_or xs i x
+      → shown x ≡ get_or (map shown xs) i (shown x)
+  get_or-shown i x here = ap shown here ∙ sym (get_or-map shown xs i x)
 
-  pub shown_within : (i : ℕ) → i < length xs → i < length (map shown xs)
-  shown_within i within = omega (arith, length-map xs shown)
+  pub map-within : (i : ℕ) → i < length xs → i < length (map shown xs)
+  map-within i within = omega (arith, length-map xs shown)
 
   -- the map has as many keys as there are entries
-  pub len_shown : (m : FinMap key_cmp (Option ℤ)) → T (is_sorted key_cmp (map shown xs))
+  pub len-shown : (m : FinMap key_cmp (Option ℤ)) → T (is_sorted key_cmp (map shown xs))
       → contents.from_entries (map shown xs) ≡ m → contents.len m ≡ length xs
-  len_shown m rises view_is =
+  len-shown m rises view_is =
       ap contents.len (sym view_is)
       ∙ contents.len-entries (contents.from_entries (map shown xs))
       ∙ ap length (entries-from_entries (map shown xs) rises)
@@ -158,13 +160,13 @@ module _ {A : Type 0} (shown : A → List ℕ × Option ℤ) (xs : List A) where
 
   -- an entry that replaces the one with its key, or is inserted at its slot, is inserted into the
   -- map
-  pub set_at_slot : (i : ℕ) (x : A) → IsAtSlot (map shown xs) (shown x).0 i
+  pub map-set_at_slot : (i : ℕ) (x : A) → IsAtSlot (map shown xs) (shown x).0 i
       → map shown (set xs i x) ≡ put key_cmp (shown x).0 (shown x).1 (map shown xs)
-  set_at_slot i x there = map-set shown xs i x ∙ sym (there.put (shown x).1)
+  map-set_at_slot i x there = map-set shown xs i x ∙ sym (there.put (shown x).1)
 
-  pub insert_at_slot : (i : ℕ) (x : A) (ys : List A) → IsInsertedAt (map shown xs) (shown x).0 i
+  pub map-insert_at_slot : (i : ℕ) (x : A) (ys : List A) → IsInsertedAt (map shown xs) (shown x).0 i
       → ys ≡ insert xs i x → map shown ys ≡ put key_cmp (shown x).0 (shown x).1 (map shown xs)
-  insert_at_slot i x ys there is =
+  map-insert_at_slot i x ys there is =
       ap (map shown) is
       ∙ map-append shown (take i xs) (x ∷ drop i xs)
       ∙ ap (λ zs. map shown (take i xs) ++ shown x ∷ zs) (sym (drop-map shown i xs))
@@ -172,62 +174,62 @@ module _ {A : Type 0} (shown : A → List ℕ × Option ℤ) (xs : List A) where
       ∙ sym (there.put (shown x).1)
 
   -- a loop that lists all entries
-  pub listed_more : (i : ℕ) (x : A) (before after : Entries) → i < length xs → x ≡ get_or xs i x
+  pub map-take_step : (i : ℕ) (x : A) (before after : Entries) → i < length xs → x ≡ get_or xs i x
       → before ≡ map shown (take i xs) → after ≡ before ++ shown x ∷ []
       → after ≡ map shown (take (i + 1) xs)
-  listed_more i x before after within here so_far is =
+  map-take_step i x before after within here so_far is =
       is
       ∙ ap (λ es. es ++ shown x ∷ []) so_far
       ∙ sym (map-append shown (take i xs) (x ∷ []))
       ∙ ap (map shown) (sym (take_more xs i x within ∙ ap (λ y. take i xs ++ y ∷ []) (sym here)))
 
   -- a loop that inserts all entries
-  pub inserted_more : (i : ℕ) (x : A) (before after all : FinMap key_cmp (Option ℤ))
+  pub write_all-step : (i : ℕ) (x : A) (before after all : FinMap key_cmp (Option ℤ))
       → i < length xs → x ≡ get_or xs i x
       → write_all contents.insert (map shown (drop i xs)) before ≡ all
       → after ≡ contents.insert before (shown x).0 (shown x).1
       → write_all contents.insert (map shown (drop (i + 1) xs)) after ≡ all
-  inserted_more i x before after all within here so_far is =
+  write_all-step i x before after all within here so_far is =
       ap (write_all contents.insert (map shown (drop (i + 1) xs))) is
       ∙ ap (λ ys. write_all contents.insert (map shown ys) before)
-      (sym (drop_at_index xs i x within here))
+      (sym (drop-at_index xs i x within here))
       ∙ so_far
 
   module _ (items : List A) (same : xs ≡ items)
       (rises : T (is_sorted key_cmp (map shown items))) where
-    pub listed_all : (m : FinMap key_cmp (Option ℤ)) (i : ℕ) (done : Entries)
+    pub entries-all_listed : (m : FinMap key_cmp (Option ℤ)) (i : ℕ) (done : Entries)
         → contents.from_entries (map shown items) ≡ m → length xs ≤ i
         → done ≡ map shown (take i xs) → done ≡ contents.entries m
-    listed_all m i done view_is past so_far =
+    entries-all_listed m i done view_is past so_far =
         so_far
         ∙ ap (map shown) (take_all i xs past ∙ same)
         ∙ sym (entries-from_entries (map shown items) rises)
         ∙ ap contents.entries view_is
 
     -- all entries are put into the contents
-    pub put_all_listed : (m : FinMap key_cmp (Option ℤ)) (i : ℕ) (before after : Contents)
+    pub apply_writes-entries : (m : FinMap key_cmp (Option ℤ)) (i : ℕ) (before after : Contents)
         → contents.from_entries (map shown items) ≡ m → length xs ≤ i
         → apply_writes (map shown (drop i xs)) after ≡ apply_writes (map shown xs) before
         → after ≡ apply_writes (contents.entries m) before
-    put_all_listed m i before after view_is past so_far =
+    apply_writes-entries m i before after view_is past so_far =
         ap (λ ys. apply_writes (map shown ys) after) (sym (drop_all i xs past))
         ∙ so_far
         ∙ ap (λ ws. apply_writes ws before)
         (ap (map shown) same ∙ sym (entries-from_entries (map shown items) rises)
         ∙ ap contents.entries view_is)
 
-    pub inserted_first : (t : FinMap key_cmp (Option ℤ)) → t ≡ contents.empty
+    pub write_all-from_empty : (t : FinMap key_cmp (Option ℤ)) → t ≡ contents.empty
         → write_all contents.insert (map shown xs) t ≡ contents.from_entries (map shown xs)
-    inserted_first t none =
+    write_all-from_empty t none =
         ap (write_all contents.insert (map shown xs)) none
         ∙ insert_all-from_entries (map shown xs)
         (subst (λ ys. T (is_sorted key_cmp (map shown ys))) (sym same) rises)
 
-    pub inserted_all : (m t : FinMap key_cmp (Option ℤ)) (i : ℕ)
+    pub write_all-at_end : (m t : FinMap key_cmp (Option ℤ)) (i : ℕ)
         → contents.from_entries (map shown items) ≡ m → length xs ≤ i
         → write_all contents.insert (map shown (drop i xs)) t
         ≡ contents.from_entries (map shown xs) → t ≡ m
-    inserted_all m t i view_is past so_far =
+    write_all-at_end m t i view_is past so_far =
         ap (λ ys. write_all contents.insert (map shown ys) t) (sym (drop_all i xs past))
         ∙ so_far
         ∙ ap (λ ys. contents.from_entries (map shown ys)) same

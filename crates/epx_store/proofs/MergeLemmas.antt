@@ -5,7 +5,7 @@ use Rattle.epx_types.proofs.Common.{Contents, writes_of, apply_writes, HasDistin
 use Rattle.epx_types.proofs.Common.{apply_writes-append, writes_of-distinct}
 use Rattle.epx_types.specs.declared.op.Op.{Op}
 use Rattle.epx_types.specs.Writes.{Write}
-use Rattle.epx_store.proofs.DropLemmas.{drop_at_index}
+use Rattle.epx_store.proofs.DropLemmas.{drop-at_index}
 use Rattle.epx_store.specs.declared.effect.Effect.{Effect}
 
 -- the writes of all effects, one after another
@@ -13,20 +13,21 @@ abbrev pub writes_in : List Effect → List Write
 writes_in effects = flat_map (λ e. e.writes) effects
 
 -- one more effect is put in
-pub after_effect : (effects : List Effect) (i : ℕ) (e : Effect) (before after all : Contents)
+pub apply_writes-effect : (effects : List Effect) (i : ℕ) (e : Effect) (before after all : Contents)
     → i < length effects → e ≡ get_or effects i e → after ≡ apply_writes e.writes before
     → apply_writes (writes_in (drop i effects)) before ≡ all
     → apply_writes (writes_in (drop (i + 1) effects)) after ≡ all
-after_effect effects i e before after all within here put so_far =
+apply_writes-effect effects i e before after all within here put so_far =
     ap (apply_writes (writes_in (drop (i + 1) effects))) put
     ∙ sym (apply_writes-append e.writes (writes_in (drop (i + 1) effects)) before)
-    ∙ ap (λ es. apply_writes (writes_in es) before) (sym (drop_at_index effects i e within here))
+    ∙ ap (λ es. apply_writes (writes_in es) before) (sym (drop-at_index effects i e within here))
     ∙ so_far
 
 -- the effect of one command writes no key twice
-pub no_key_twice : (ops : List Op) (before : Contents) (effects : List Effect) (e : Effect)
+pub HasDistinctKeys-one_effect : (ops : List Op) (before : Contents) (effects : List Effect)
+    (e : Effect)
     → effects ≡ e ∷ [] → e.writes ≡ writes_of ops before → HasDistinctKeys (writes_in effects)
-no_key_twice ops before effects e alone writes =
+HasDistinctKeys-one_effect ops before effects e alone writes =
     let P : List Write → Type 0 = λ ws. HasDistinctKeys ws in
     subst P (sym (ap writes_in alone ∙ append-nil e.writes ∙ writes))
     (writes_of-distinct ops before)

@@ -4,10 +4,10 @@ use Rattle.std.proofs.Common.{◌++◌, length, flat_map, get_or, Some, None, re
 use Rattle.std.proofs.Common.{inr, All, arith}
 use Rattle.epx_types.proofs.Common.{eq_by_cmp, cases_lt, get_or_default, get_or_past}
 use Rattle.epx_types.proofs.Common.{get-from_entries, get-entries, get-empty, key_cmp, Contents}
-use Rattle.epx_types.proofs.Common.{key_cmp_total, same_contents}
+use Rattle.epx_types.proofs.Common.{key_cmp-IsTotalOrder, Contents-extensional}
 use Rattle.std.specs.FinMap as contents
 use Rattle.std.specs.FinMap.{find}
-use Rattle.epx_store.specs.inner.Shards.{shard_of, AreShards, all_contents}
+use Rattle.epx_store.specs.Shards.{shard_of, AreShards, all_contents}
 
 -- ---- a key among lists of entries
 
@@ -63,7 +63,7 @@ pub get-all_contents : (shards : List Contents) (q : List ℕ) → AreShards sha
     → contents.get (all_contents shards) q ≡ contents.get (get_or shards (shard_of q) no_contents)
     q
 get-all_contents shards q h =
-    get-from_entries key_cmp_total (flat_map contents.entries shards) q
+    get-from_entries key_cmp-IsTotalOrder (flat_map contents.entries shards) q
     ∙ find-in_one q shards (shard_of q) (λ m apart. h.own m q apart)
 
 -- a look-up in the shard of a key is a look-up in the store
@@ -94,5 +94,6 @@ module _ (shards : List Contents) (h : All (λ c. c ≡ contents.empty) shards) 
   -- empty maps contain nothing together
   pub all_contents-empty : all_contents shards ≡ contents.empty
   all_contents-empty =
-      same_contents _ _ (λ q. get-from_entries key_cmp_total (flat_map contents.entries shards) q
+      Contents-extensional _ _
+      (λ q. get-from_entries key_cmp-IsTotalOrder (flat_map contents.entries shards) q
       ∙ find-nowhere q shards (λ n. nothing n q) ∙ sym (get-empty key_cmp q))

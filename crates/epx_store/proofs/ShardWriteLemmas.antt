@@ -3,7 +3,8 @@ use Rattle.std.proofs.Common.{◌≡◌, ◌≢◌, ℕ, ◌<◌, ℤ, cond, Lis
 use Rattle.std.proofs.Common.{refl, sym, ap, subst, OnOk, OnErr, ◌∙◌, inl, inr, arith}
 use Rattle.epx_types.proofs.Common.{cases_lt, eqb_tells, get_or_default, get_or_past}
 use Rattle.epx_types.proofs.Common.{get_or-set_same, get_or-set_other, length-set, get-empty}
-use Rattle.epx_types.proofs.Common.{Contents, assign, apply_writes, same_contents, get-assign_cases}
+use Rattle.epx_types.proofs.Common.{Contents, assign, apply_writes, Contents-extensional}
+use Rattle.epx_types.proofs.Common.{get-assign_cases}
 use Rattle.epx_types.proofs.Common.{get-assign_agree}
 use Rattle.std.proofs.lemmas.List.{set-get_or}
 use Rattle.std.specs.declared.result.Result.{Result}
@@ -11,7 +12,7 @@ use Rattle.std.specs.declared.result.Result.TheVariants.{Ok, Err}
 use Rattle.std.specs.FinMap as contents
 use Rattle.epx_types.specs.declared.memory.Memory.{Memory}
 use Rattle.epx_types.specs.Writes.{Write}
-use Rattle.epx_store.specs.inner.Shards.{shard_of, AreShards, all_contents, writes_to}
+use Rattle.epx_store.specs.Shards.{shard_of, AreShards, all_contents, writes_to}
 use Rattle.epx_store.proofs.ShardLookupLemmas.{no_contents, shard_of-below, get-all_contents}
 
 -- a write under another key changes nothing under this one
@@ -81,7 +82,7 @@ module _ (ws : List Write) (before after : List Contents) (h : AreShards before)
   -- the results together have all writes put in
   pub all_contents-taken : all_contents after ≡ apply_writes ws (all_contents before)
   all_contents-taken =
-      same_contents _ _ (λ q.
+      Contents-extensional _ _ (λ q.
       get-all_contents after q AreShards-taken
       ∙ ap (λ c. contents.get c q) (taken.each (shard_of q) (shard_of-below q))
       ∙ sym (get-writes_to_own ws (all_contents before) (get_or before (shard_of q) no_contents) q

@@ -7,19 +7,20 @@ use Rattle.epx_types.proofs.Common.{eq_by_cmp, ordering_then, ordering_reverse, 
 use Rattle.epx_types.proofs.Common.{Greater, IsPermutation-sym, IsPermutation-map}
 use Rattle.epx_types.proofs.Common.{Contains-permutation, drop_all, map-append, sum_by-cons}
 use Rattle.epx_types.proofs.Common.{is_sorted, entries_sorted, get-entries, get-from_entries}
-use Rattle.epx_types.proofs.Common.{below_all, key_cmp, Contents, key_cmp_total}
-use Rattle.epx_types.proofs.Common.{key_cmp-IsAntisymmetric, key_cases, Contains-nil, Contains-head}
-use Rattle.epx_types.proofs.Common.{Contains-cons, Contains-cons_cases, first_of, second_of}
-use Rattle.epx_types.proofs.Common.{less_from_is_lt, entries-from_entries, same_contents}
+use Rattle.epx_types.proofs.Common.{below_all, key_cmp, Contents, key_cmp-IsTotalOrder}
+use Rattle.epx_types.proofs.Common.{key_cmp-IsAntisymmetric, key_cmp-cases, Contains-nil}
+use Rattle.epx_types.proofs.Common.{Contains-head}
+use Rattle.epx_types.proofs.Common.{Contains-cons, Contains-cons_cases, and-first, and-second}
+use Rattle.epx_types.proofs.Common.{Less-from_is_lt, entries-from_entries, Contents-extensional}
 use Rattle.std.specs.Ordering.{int_cmp}
 use Rattle.std.specs.List.Sorted.{IsSortedBy}
 use Rattle.std.specs.Cmp.{tied_itself}
 use Rattle.std.proofs.lemmas.List.Sorted.{sum_by-IsPermutation}
 use Rattle.std.specs.FinMap as contents
 use Rattle.std.specs.FinMap.{find, len-empty, len-insert, len-entries}
-use Rattle.epx_store.specs.inner.Shards.{shard_of, AreShards, all_contents}
+use Rattle.epx_store.specs.Shards.{shard_of, AreShards, all_contents}
 use Rattle.epx_store.proofs.ShardLookupLemmas.{no_contents, find-nowhere}
-use Rattle.epx_store.proofs.RisingEntryLemmas.{both_of, below_all_trans}
+use Rattle.epx_store.proofs.RisingEntryLemmas.{T-both, below_all-trans}
 
 abbrev pub Entries : Type 0
 Entries = List (List ℕ × ℤ)
@@ -34,7 +35,7 @@ abbrev pub HasUniqueKeys : Entries → Type 0
 HasUniqueKeys es = (q : List ℕ) → key_count q es ≤ 1
 
 itself : (k : List ℕ) → eq_by_cmp key_cmp k k ≡ true
-itself k = ap is_eq (tied_itself key_cmp_total k)
+itself k = ap is_eq (tied_itself key_cmp-IsTotalOrder k)
 
 key_count-append : (q : List ℕ) (es fs : Entries)
     → key_count q (es ++ fs) ≡ key_count q es + key_count q fs
@@ -73,20 +74,20 @@ key_count-below : (k : List ℕ) (es : Entries) → T (below_all key_cmp k es) �
 key_count-below k [] h = refl
 key_count-below k (e ∷ es) h =
     ap (λ o. cond (is_eq o) 1 0 + key_count k es)
-    (less_from_is_lt (key_cmp k e.0) (first_of _ _ h))
-    ∙ omega (arith, key_count-below k es (second_of _ _ h))
+    (Less-from_is_lt (key_cmp k e.0) (and-first _ _ h))
+    ∙ omega (arith, key_count-below k es (and-second _ _ h))
 
 -- entries whose keys rise have no key twice
 HasUniqueKeys-sorted : (es : Entries) → T (is_sorted key_cmp es) → HasUniqueKeys es
 HasUniqueKeys-sorted [] h q = omega arith
 HasUniqueKeys-sorted (e ∷ es) h q =
-    elim (key_cases q e.0) [
+    elim (key_cmp-cases q e.0) [
       | inl tied ↦
           let none : key_count q es ≡ 0 = ap (λ k. key_count k es) tied.1 ∙ key_count-below e.0 es
-          (first_of (below_all key_cmp e.0 es) (is_sorted key_cmp es) h) in
+          (and-first (below_all key_cmp e.0 es) (is_sorted key_cmp es) h) in
           omega (arith, ap {B = ℕ} (λ b. cond b 1 0) tied.0, none)
       | inr other ↦ let rest : key_count q es ≤ 1 =
-          HasUniqueKeys-sorted es (second_of (below_all key_cmp e.0 es) (is_sorted key_cmp es) h)
+          HasUniqueKeys-sorted es (and-second (below_all key_cmp e.0 es) (is_sorted key_cmp es) h)
           q in omega (arith, ap {B = ℕ} (λ b. cond b 1 0) other.0, rest)
     ]
 
@@ -141,8 +142,8 @@ len-from_entries [] h = len-empty key_cmp ℤ
 len-from_entries (e ∷ es) h =
     let rest = len-from_entries es (HasUniqueKeys-tail e es h) in
     let none : contents.get (contents.from_entries {R = key_cmp} es) e.0 ≡ None =
-    get-from_entries key_cmp_total es e.0 ∙ find-none e.0 es (first_alone e es h) in
-    len-insert key_cmp_total (contents.from_entries es) e.0 e.1
+    get-from_entries key_cmp-IsTotalOrder es e.0 ∙ find-none e.0 es (first_alone e es h) in
+    len-insert key_cmp-IsTotalOrder (contents.from_entries es) e.0 e.1
     ∙ ap (λ o. cond (is_some o) (contents.len (contents.from_entries {R = key_cmp} es))
     (contents.len (contents.from_entries {R = key_cmp} es) + 1)) none
     ∙ omega (arith, rest)
@@ -180,7 +181,7 @@ find-Contains (e ∷ es) h q v c =
           (ap (λ p. eq_by_cmp key_cmp q p.0) first ∙ itself q) ∙ ap (λ p. Some p.1) first
       | inr rest ↦
           let found = find-Contains es (HasUniqueKeys-tail e es h) q v rest in
-          elim (key_cases q e.0) [
+          elim (key_cmp-cases q e.0) [
             | inl tied ↦ absurd
                 (cc (
                   found,
@@ -196,7 +197,7 @@ Contains-find : (es : Entries) (q : List ℕ) (v : ℤ) → find key_cmp q es �
     → Contains es (q, v)
 Contains-find [] q v h = absurd (cc h)
 Contains-find (e ∷ es) q v h =
-    elim (key_cases q e.0) [
+    elim (key_cmp-cases q e.0) [
       | inl tied ↦
           let value : Some e.1 ≡ Some v =
           sym (ap (λ b. cond b (Some e.1) (find key_cmp q es)) tied.0) ∙ h in
@@ -228,8 +229,8 @@ module _ (es fs : Entries) (moved : IsPermutation es fs) (once : HasUniqueKeys e
       → contents.from_entries {R = key_cmp} es ≡ c → fs ≡ contents.entries c
   entries-moved rises c is =
       let same : contents.from_entries {R = key_cmp} fs ≡ contents.from_entries {R = key_cmp} es =
-      same_contents _ _ (λ q. get-from_entries key_cmp_total fs q
-      ∙ find-moved q (find key_cmp q fs) refl ∙ sym (get-from_entries key_cmp_total es q)) in
+      Contents-extensional _ _ (λ q. get-from_entries key_cmp-IsTotalOrder fs q
+      ∙ find-moved q (find key_cmp q fs) refl ∙ sym (get-from_entries key_cmp-IsTotalOrder es q)) in
       sym (entries-from_entries fs rises) ∙ ap contents.entries (same ∙ is)
 
 -- ---- entries sorted by key and then by value
@@ -257,7 +258,7 @@ module _ {A : Type 0} (key : A → List ℕ) (value : A → ℤ) where
             ap (λ b. cond b 1 0 + key_count (key x) es)
             (ap (λ k. eq_by_cmp key_cmp k (key y)) (sym tied) ∙ itself (key y)) in
             absurd (omega (arith, none, some))
-        | Greater ↦ λ e wrong. key_cmp_total.antisymm (key x) (key y) ∙ ap ordering_reverse e
+        | Greater ↦ λ e wrong. key_cmp-IsTotalOrder.antisymm (key x) (key y) ∙ ap ordering_reverse e
       ] refl h
 
   ascending_tail : (x y : A) (xs : List A) → IsSortedBy lower (x ∷ y ∷ xs)
@@ -275,8 +276,8 @@ module _ {A : Type 0} (key : A → List ℕ) (value : A → ℤ) where
       let rest = rises-sorted (y ∷ xs) (ascending_tail x y xs h)
       (HasUniqueKeys-tail (shown x) (shown y ∷ map shown xs) once) in
       let below = next_below x y (map shown xs) (h 0 x (omega arith) (omega arith)) once in
-      both_of _ _ (both_of _ _ (subst T (sym (ap is_lt below)) tt)
-      (below_all_trans (key x) (key y) (map shown xs) below (first_of _ _ rest))) rest
+      T-both _ _ (T-both _ _ (subst T (sym (ap is_lt below)) tt)
+      (below_all-trans (key x) (key y) (map shown xs) below (and-first _ _ rest))) rest
 
   -- the entries of all shards in any order are those of the store if their keys rise
   pub entries-rising : (shards : List Contents) (ys : List A) → AreShards shards

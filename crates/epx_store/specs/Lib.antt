@@ -1,1 +1,2 @@
+pub mod Shards
 pub mod inner

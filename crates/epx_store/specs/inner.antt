@@ -1,5 +1,4 @@
 -- Words of private clauses: no public contract speaks of them.
 pub mod KeySlots
-pub mod Shards
 pub mod Routes
 pub mod Rises

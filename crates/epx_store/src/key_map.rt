@@ -1,5 +1,5 @@
 //! A map from keys to values.
-ghost use Rattle.std.specs.Prelude.{◌≡◌, ◌++◌, IfOk, OnOk, OnErr, map};
+ghost use Rattle.std.specs.Prelude.{◌≡◌, IfOk, OnOk, OnErr, map};
 ghost use Rattle.std.specs.FinMap as contents;
 ghost use Rattle.epx_types.specs.Keys.{key_cmp};
 ghost use Rattle.epx_types.specs.Contents.{assign};

@@ -1,7 +1,7 @@
 //! The shards of a store.
 ghost use Rattle.std.specs.Prelude.{◌≡◌, All, IfOk, map};
 ghost use Rattle.std.specs.FinMap as contents;
-ghost use Rattle.epx_store.specs.inner.Shards.{shard_of};
+ghost use Rattle.epx_store.specs.Shards.{shard_of};
 
 use crate::key_map::KeyMap;
 use crate::tournament::Pairs;

@@ -6,7 +6,7 @@ ghost use Rattle.std.specs.FinMap.{is_sorted};
 ghost use Rattle.epx_types.specs.Contents.{Contents, assign};
 ghost use Rattle.epx_types.specs.Keys.{key_cmp};
 ghost use Rattle.epx_types.specs.Writes.{apply_writes};
-ghost use Rattle.epx_store.specs.inner.Shards.{AreShards, all_contents};
+ghost use Rattle.epx_store.specs.Shards.{AreShards, all_contents};
 
 use crate::effect::Effect;
 use crate::key_map::KeyMap;
@@ -30,7 +30,7 @@ impl Model for Store {
     ghost use Rattle.std.specs.FinMap as contents;
     ghost use Rattle.std.specs.Coded.{coded_list, coded_ℕ, coded_ℤ};
     ghost use Rattle.epx_types.specs.Contents.{Contents};
-    ghost use Rattle.epx_store.specs.inner.Shards.{AreShards, all_contents};
+    ghost use Rattle.epx_store.specs.Shards.{AreShards, all_contents};
 
     ghost Value = { Contents };
 

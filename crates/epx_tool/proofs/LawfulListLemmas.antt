@@ -12,20 +12,21 @@ use Rattle.epx_tool.specs.CheckAnswers.{Checks}
 use Rattle.epx_tool.specs.LawfulLists.{LawfulListExecutesAlike}
 use Rattle.epx_tool.specs.Verdicts.{IsVerdict}
 use Rattle.epx_tool.proofs.CheckLemmas.{verdict-of_logs}
-use Rattle.epx_tool.proofs.CoveredTextLemmas.{covered_if_reported}
+use Rattle.epx_tool.proofs.CoveredTextLemmas.{IsCovered-if_reported}
 use Rattle.epx_tool.proofs.VerdictLemmas.{lawful-from_verdict}
 
-pub lawful_if_reported : (list : List ℕ) (logs : List (List ℕ)) (ids : List Id) (m : List Instance)
+pub IsLawful-if_reported : (list : List ℕ) (logs : List (List ℕ)) (ids : List Id)
+    (m : List Instance)
     → IsList list ids → IsAccepted logs m → Checks list logs (Ok lawful_line) → IsLawful m ids
-lawful_if_reported list logs ids m is accepted said =
+IsLawful-if_reported list logs ids m is accepted said =
     lawful-from_verdict m ids
     (verdict-of_logs IsVerdict list ids is logs m accepted lawful_line said.1)
 
-pub lawful_list_executes_alike : LawfulListExecutesAlike
-lawful_list_executes_alike list logs said audited ids m is accepted order ordered =
-    let covered = covered_if_reported logs m accepted audited in
+pub LawfulListExecutesAlike-holds : LawfulListExecutesAlike
+LawfulListExecutesAlike-holds list logs said audited ids m is accepted order ordered =
+    let covered = IsCovered-if_reported logs m accepted audited in
     let rising = accepted.committed.rising in
-    let of_list = lawful_if_reported list logs ids m is accepted said in
+    let of_list = IsLawful-if_reported list logs ids m is accepted said in
     let of_order = IsExecutionOrder-IsLawful m order ordered in
     record {
       final = final-lawful m rising covered (ranked_ids order) ids of_order of_list contents.empty;

@@ -14,7 +14,7 @@ use Rattle.epx_merge.specs.ReadingRefusals.{NoneTooLongBefore, IsReadingRefusal}
 use Rattle.epx_tool.specs.WithInput.{IsShort, IsRefusalWithInput}
 use Rattle.epx_tool.specs.RunsWithInput.{IsReadingRefusalWithInput, IsRunFaultWithInput}
 use Rattle.epx_merge.specs.SourceEndings.{StopsAt}
-use Rattle.epx_merge.proofs.SourceLemmas.{longer}
+use Rattle.epx_merge.proofs.SourceLemmas.{Consumes-length}
 
 -- ---- positions of the texts
 
@@ -48,9 +48,10 @@ from_input logs input bytes k l there =
 -- ---- the first text that is too long
 
 module _ (logs : List (List ℕ)) (input : List ℕ) where
-  pub first_too_long_before : (log : ℕ) → IsShort input → IsFirstTooLong (logs ++ input ∷ []) log
+  pub IsFirstTooLong-without_input : (log : ℕ) → IsShort input
+      → IsFirstTooLong (logs ++ input ∷ []) log
       → IsFirstTooLong logs log
-  first_too_long_before log short h =
+  IsFirstTooLong-without_input log short h =
       elim (input_cases logs input h.long.0 log h.long.1) [
         | inl among ↦ record {
           long = (h.long.0, among, h.long.2);
@@ -60,18 +61,18 @@ module _ (logs : List (List ℕ)) (input : List ℕ) where
         | inr last ↦ absurd (omega (arith, short, h.long.2, ap length last.1))
       ]
 
-  pub first_too_long_with_input : (log : ℕ) → IsFirstTooLong logs log
+  pub IsFirstTooLong-with_input : (log : ℕ) → IsFirstTooLong logs log
       → IsFirstTooLong (logs ++ input ∷ []) log
-  first_too_long_with_input log h = record {
+  IsFirstTooLong-with_input log h = record {
     long = (h.long.0, log_of_input logs input h.long.0 log h.long.1, h.long.2);
     first = λ k bytes lower there. h.first k bytes lower
         (from_input logs input bytes k
         (omega (arith, lower, slice_get_within logs log h.long.0 h.long.1)) there);
   }
 
-  pub last_too_long : NoneTooLong logs → max_log_bytes < length input
+  pub IsFirstTooLong-input : NoneTooLong logs → max_log_bytes < length input
       → IsFirstTooLong (logs ++ input ∷ []) (length logs)
-  last_too_long none long = record {
+  IsFirstTooLong-input none long = record {
     long = (input, text_of_input logs input, long);
     first = λ k bytes lower there. none k bytes (from_input logs input bytes k lower there);
   }
@@ -83,86 +84,92 @@ module _ (logs : List (List ℕ)) (input : List ℕ) where
 
   -- ---- refusals
 
-  pub reading_refusal_with_input : (fault : Fault) → IsReadingRefusal logs fault
+  pub IsReadingRefusalWithInput-of_logs : (fault : Fault) → IsReadingRefusal logs fault
       → IsReadingRefusalWithInput input logs fault
-  reading_refusal_with_input Memory h = h
-  reading_refusal_with_input TooManyLogs h = h
-  reading_refusal_with_input (LogTooLong log) h = (h.0, first_too_long_with_input log h.1)
-  reading_refusal_with_input (Read log) h =
+  IsReadingRefusalWithInput-of_logs Memory h = h
+  IsReadingRefusalWithInput-of_logs TooManyLogs h = h
+  IsReadingRefusalWithInput-of_logs (LogTooLong log) h = (h.0, IsFirstTooLong-with_input log h.1)
+  IsReadingRefusalWithInput-of_logs (Read log) h =
       (h.0, omega (arith, h.1), none_before_input log (omega (arith, h.1)) h.2)
-  reading_refusal_with_input (BadLine place why) h = absurd h
-  reading_refusal_with_input TooManyInstances h = absurd h
-  reading_refusal_with_input (Disagree id first second) h = absurd h
-  reading_refusal_with_input Write h = absurd h
-  reading_refusal_with_input (BadBase line) h = absurd h
+  IsReadingRefusalWithInput-of_logs (BadLine place why) h = absurd h
+  IsReadingRefusalWithInput-of_logs TooManyInstances h = absurd h
+  IsReadingRefusalWithInput-of_logs (Disagree id first second) h = absurd h
+  IsReadingRefusalWithInput-of_logs Write h = absurd h
+  IsReadingRefusalWithInput-of_logs (BadBase line) h = absurd h
 
   -- if all logs fit, the extra input may be the one that cannot be read or is too long
-  pub unread_input : FitLimits logs → IsReadingRefusalWithInput input logs (Read (length logs))
-  unread_input fits = (
+  pub IsReadingRefusalWithInput-unread : FitLimits logs
+      → IsReadingRefusalWithInput input logs (Read (length logs))
+  IsReadingRefusalWithInput-unread fits = (
     fits.0,
     omega arith,
     none_before_input (length logs) (omega arith)
         (λ k bytes lower there. fits.1 k bytes there),
   )
 
-  pub too_long_input : FitLimits logs → max_log_bytes < length input
+  pub IsReadingRefusalWithInput-long : FitLimits logs → max_log_bytes < length input
       → IsReadingRefusalWithInput input logs (LogTooLong (length logs))
-  too_long_input fits long = (fits.0, last_too_long fits.1 long)
+  IsReadingRefusalWithInput-long fits long = (fits.0, IsFirstTooLong-input fits.1 long)
 
   -- the faults of reading the extra input, after the logs are read
-  pub refusal_of_reading_with_input : {T : Type 0} (n : ℕ) (later : Option (List ℕ))
+  pub IsReadingRefusalWithInput-at_input : {T : Type 0} (n : ℕ) (later : Option (List ℕ))
       (fault : Fault) → n ≡ length logs → FitLimits logs → IsReadLogFault n fault
       → (IsErrOf {T = T} (Err fault) (LogTooLong n)
       → ConsumesExactly (Some input) later (max_log_bytes + 1))
       → IsReadingRefusalWithInput input logs fault
-  refusal_of_reading_with_input n later Memory many fits of_text long = tt
-  refusal_of_reading_with_input n later TooManyLogs many fits of_text long = absurd of_text
-  refusal_of_reading_with_input n later (LogTooLong log) many fits of_text long =
+  IsReadingRefusalWithInput-at_input n later Memory many fits of_text long = tt
+  IsReadingRefusalWithInput-at_input n later TooManyLogs many fits of_text long = absurd of_text
+  IsReadingRefusalWithInput-at_input n later (LogTooLong log) many fits of_text long =
       let taken = long (ap (λ k. Err (LogTooLong k)) of_text) in
       let P : ℕ → Type 0 = λ k. IsReadingRefusalWithInput input logs (LogTooLong k) in
       subst P (sym (of_text ∙ many))
-      (too_long_input fits (omega (arith, longer later input taken.0 taken.1, taken.2)))
-  refusal_of_reading_with_input n later (BadLine place why) many fits of_text long = absurd of_text
-  refusal_of_reading_with_input n later TooManyInstances many fits of_text long = absurd of_text
-  refusal_of_reading_with_input n later (Disagree id first second) many fits of_text long =
+      (IsReadingRefusalWithInput-long fits
+      (omega (arith, Consumes-length later input taken.0 taken.1, taken.2)))
+  IsReadingRefusalWithInput-at_input n later (BadLine place why) many fits of_text long =
       absurd of_text
-  refusal_of_reading_with_input n later (Read log) many fits of_text long =
+  IsReadingRefusalWithInput-at_input n later TooManyInstances many fits of_text long =
+      absurd of_text
+  IsReadingRefusalWithInput-at_input n later (Disagree id first second) many fits of_text long =
+      absurd of_text
+  IsReadingRefusalWithInput-at_input n later (Read log) many fits of_text long =
       let P : ℕ → Type 0 = λ k. IsReadingRefusalWithInput input logs (Read k) in
-      subst P (sym (of_text ∙ many)) (unread_input fits)
-  refusal_of_reading_with_input n later Write many fits of_text long = absurd of_text
-  refusal_of_reading_with_input n later (BadBase line) many fits of_text long = absurd of_text
+      subst P (sym (of_text ∙ many)) (IsReadingRefusalWithInput-unread fits)
+  IsReadingRefusalWithInput-at_input n later Write many fits of_text long = absurd of_text
+  IsReadingRefusalWithInput-at_input n later (BadBase line) many fits of_text long = absurd of_text
 
   module _ (IsBad : List ℕ → ℕ → Type 0) where
     -- the faults of reading are faults of the run
-    pub run_fault_of_reading : (Is : List ℕ → List Instance → List ℕ → Type 0) (fault : Fault)
+    pub IsRunFaultWithInput-reading : (Is : List ℕ → List Instance → List ℕ → Type 0)
+        (fault : Fault)
         → IsReadingRefusalWithInput input logs fault
         → IsRunFaultWithInput IsBad Is input logs fault
-    run_fault_of_reading Is Memory h = h
-    run_fault_of_reading Is TooManyLogs h = h
-    run_fault_of_reading Is (LogTooLong log) h = h
-    run_fault_of_reading Is (Read log) h = h
-    run_fault_of_reading Is fault h = absurd h
+    IsRunFaultWithInput-reading Is Memory h = h
+    IsRunFaultWithInput-reading Is TooManyLogs h = h
+    IsRunFaultWithInput-reading Is (LogTooLong log) h = h
+    IsRunFaultWithInput-reading Is (Read log) h = h
+    IsRunFaultWithInput-reading Is fault h = absurd h
 
-    pub refusal_of_logs : (fault : Fault) → IsShort input → IsRefusal logs fault
+    pub IsRefusalWithInput-of_logs : (fault : Fault) → IsShort input → IsRefusal logs fault
         → IsRefusalWithInput IsBad input logs fault
-    refusal_of_logs Memory short h = h
-    refusal_of_logs TooManyLogs short h = h
-    refusal_of_logs (LogTooLong log) short h = (h.0, first_too_long_with_input log h.1)
-    refusal_of_logs (BadLine place why) short h = (short, h)
-    refusal_of_logs TooManyInstances short h = (short, h)
-    refusal_of_logs (Disagree id first second) short h = (short, h)
-    refusal_of_logs (Read log) short h = (short, h)
-    refusal_of_logs Write short h = (short, h)
-    refusal_of_logs (BadBase line) short h = absurd h
+    IsRefusalWithInput-of_logs Memory short h = h
+    IsRefusalWithInput-of_logs TooManyLogs short h = h
+    IsRefusalWithInput-of_logs (LogTooLong log) short h = (h.0, IsFirstTooLong-with_input log h.1)
+    IsRefusalWithInput-of_logs (BadLine place why) short h = (short, h)
+    IsRefusalWithInput-of_logs TooManyInstances short h = (short, h)
+    IsRefusalWithInput-of_logs (Disagree id first second) short h = (short, h)
+    IsRefusalWithInput-of_logs (Read log) short h = (short, h)
+    IsRefusalWithInput-of_logs Write short h = (short, h)
+    IsRefusalWithInput-of_logs (BadBase line) short h = absurd h
 
     -- if all texts fit, no refusal stops the reading
-    pub no_stop : {T : Type 0} (fault : Fault) (log : ℕ) → FitLimits logs → IsShort input
+    pub StopsAt-not_refusal : {T : Type 0} (fault : Fault) (log : ℕ) → FitLimits logs
+        → IsShort input
         → IsRefusalWithInput IsBad input logs fault → ¬ StopsAt {T = T} (Err fault) log
-    no_stop fault log fits short h (inl long) =
+    StopsAt-not_refusal fault log fits short h (inl long) =
         let named : fault ≡ LogTooLong log = cc long in
-        let first = first_too_long_before log short
+        let first = IsFirstTooLong-without_input log short
         (subst (IsRefusalWithInput IsBad input logs) named h).1 in
         omega (arith, fits.1 log first.long.0 first.long.1, first.long.2)
-    no_stop fault log fits short h (inr unread) =
+    StopsAt-not_refusal fault log fits short h (inr unread) =
         let named : fault ≡ Read log = cc unread in
         (subst (IsRefusalWithInput IsBad input logs) named h).1

@@ -15,7 +15,7 @@ use Rattle.epx_tool.specs.TaskAnswers.{AnswersTask, IsBadInput}
 use Rattle.epx_tool.specs.TaskTexts.{IsTaskText}
 use Rattle.epx_tool.specs.WithInput.{AnswersWithInput, IsRefusalWithInput}
 use Rattle.epx_tool.specs.inner.TaskReadings.{EndsMakingBoth}
-use Rattle.epx_tool.proofs.QuestionLemmas.{answers_with_input, refuses_with_input}
+use Rattle.epx_tool.proofs.QuestionLemmas.{AnswersTask-with_input, AnswersTask-refused_input}
 
 module _ (input last : List ℕ) (logs new : List (List ℕ)) where
   no_read_fails : (log : ℕ)
@@ -39,29 +39,29 @@ module _ (input last : List ℕ) (logs new : List (List ℕ)) where
   limit_refusal IsBad (BadBase line) stops h = absurd h
 
   module _ (task : Task) (has : HasInput task) where
-    pub text_of_memory : (answer : Answer)
+    pub AnswersTask-memory_text : (answer : Answer)
         → EndsMakingBoth memory_source memory_source (AnswersWithInput (IsBadInput task)
         (IsFindingText task answer.has_findings)) input last logs new (Ok answer.text.items)
         → AnswersTask task input logs (Ok answer.text.items)
-    text_of_memory answer (given, lines, read, h) =
+    AnswersTask-memory_text answer (given, lines, read, h) =
         let text = answer.text.items in
         let found = answer.has_findings in
         let Answered : List ℕ → List (List ℕ) → Type 0 = λ i l.
         AnswersWithInput (IsBadInput task) (IsFindingText task found) i l (Ok text) in
-        answers_with_input task has found input logs text
+        AnswersTask-with_input task has found input logs text
         (subst (λ i. Answered i logs) (read.text input refl)
         (subst (λ l. Answered given l) (read.bytes logs refl) h))
 
-    pub refusal_of_memory : (fault : Fault)
+    pub AnswersTask-memory_refusal : (fault : Fault)
         → EndsMakingBoth {T = List ℕ} memory_source memory_source (AnswersWithInput
         (IsBadInput task) (IsTaskText task)) input last logs new (Err fault)
         → AnswersTask task input logs (Err fault)
-    refusal_of_memory fault (inl read) =
-        refuses_with_input task has input logs fault
+    AnswersTask-memory_refusal fault (inl read) =
+        AnswersTask-refused_input task has input logs fault
         (limit_refusal (IsBadInput task) fault read.stopped (read.refusal input logs refl refl))
-    refusal_of_memory fault (inr (given, lines, read, h)) =
+    AnswersTask-memory_refusal fault (inr (given, lines, read, h)) =
         let Refused : List ℕ → List (List ℕ) → Type 0 = λ i l.
         IsRefusalWithInput (IsBadInput task) i l fault in
-        refuses_with_input task has input logs fault
+        AnswersTask-refused_input task has input logs fault
         (subst (λ i. Refused i logs) (read.text input refl)
         (subst (λ l. Refused given l) (read.bytes logs refl) h))

@@ -8,46 +8,47 @@ use Rattle.epx_devices.specs.Models.{SinkModel, SourceModel}
 use Rattle.epx_devices.specs.Transfers.{AppendsPrefix}
 use Rattle.epx_tool.specs.Runs.{IsFaultOfRun}
 use Rattle.epx_tool.specs.RunEndings.{EndsRun}
-use Rattle.epx_merge.specs.SourceReadings.{EndsMaking}
-use Rattle.epx_tool.proofs.ReturnedFaultLemmas.{IsLogAnswer, same_error, HasRead-of_lines}
-use Rattle.epx_tool.proofs.ReturnedFaultLemmas.{HasRead-written, of_lines_not_write}
-use Rattle.epx_tool.proofs.ReturnedFaultLemmas.{run_fault_of_lines}
-use Rattle.epx_tool.proofs.RunEndingLemmas.{leaves_again, leaves_after, writes_nothing, writes_text}
+use Rattle.epx_merge.specs.between.SourceReadings.{EndsMaking}
+use Rattle.epx_tool.proofs.ReturnedFaultLemmas.{IsLogAnswer, IsErrOf-again, HasRead-of_lines}
+use Rattle.epx_tool.proofs.ReturnedFaultLemmas.{HasRead-written, IsErrOf-lines_not_write}
+use Rattle.epx_tool.proofs.ReturnedFaultLemmas.{IsFaultOfRun-of_lines}
+use Rattle.epx_tool.proofs.RunEndingLemmas.{LeavesSources-again, LeavesSources-after}
+use Rattle.epx_tool.proofs.RunEndingLemmas.{WritesAnswer-nothing, WritesAnswer-text}
 
 module _ {S T : Type 0} (D : SourceModel S) (W : SinkModel T)
     (Answer : List (List ℕ) → Result (List ℕ) Fault → Type 0) (old new : List S) (was : T) where
   -- the sources could not be read, or their logs are refused
-  pub run_refused : (fault : Fault) → IsLogAnswer Answer → W.has_failed was ≡ false
+  pub EndsRun-refused : (fault : Fault) → IsLogAnswer Answer → W.has_failed was ≡ false
       → EndsMaking D Answer old new (Err fault) → EndsRun D W Answer old new was was (Err fault)
-  run_refused fault own well (inl read) = record {
-    sink = writes_nothing _ _ _ _ _ _ _ fault well
-        (λ is. read.nothing_written (same_error fault Write is))
+  EndsRun-refused fault own well (inl read) = record {
+    sink = WritesAnswer-nothing _ _ _ _ _ _ _ fault well
+        (λ is. read.nothing_written (IsErrOf-again fault Write is))
         (λ logs are. own.of_reading logs fault (read.refusal logs are))
         (inl read.stopped);
-    sources = leaves_again D old new fault read.sources;
+    sources = LeavesSources-again D old new fault read.sources;
   }
-  run_refused fault own well (inr (logs, read, refused)) =
+  EndsRun-refused fault own well (inr (logs, read, refused)) =
       let of_lines = own.of_lines logs fault read.fit refused in
       let has = HasRead-of_lines {T = Unit {0}} (length old) fault of_lines in record {
-        sink = writes_nothing _ _ _ _ _ _ _ fault well
-            (of_lines_not_write (length old) fault of_lines)
+        sink = WritesAnswer-nothing _ _ _ _ _ _ _ fault well
+            (IsErrOf-lines_not_write (length old) fault of_lines)
             (λ given are. subst (λ ls. IsFaultOfRun Answer ls fault) (read.bytes given are)
-            (run_fault_of_lines Answer logs fault of_lines refused))
+            (IsFaultOfRun-of_lines Answer logs fault of_lines refused))
             (inr (record { logs = logs; delivered = read.delivered; refusal = refused }));
-        sources = leaves_after D old new (length old) logs (Err fault) (omega arith) has
+        sources = LeavesSources-after D old new (length old) logs (Err fault) (omega arith) has
             read.sources;
       }
 
   -- the text was written, whole or in part
-  pub run_written : (now : T) (text : List ℕ) (done : Result (Unit {0}) Fault)
+  pub EndsRun-written : (now : T) (text : List ℕ) (done : Result (Unit {0}) Fault)
       → EndsMaking D Answer old new (Ok text)
       → OnOk done (Appends (W.contents was) (W.contents now) text)
       → OnOk done (W.is_flushed now ≡ true)
       → IfErr done (λ fault. fault ≡ Write) → IsErr done ↔ (W.has_failed now ≡ true)
       → AppendsPrefix (W.contents was) (W.contents now) text
       → EndsRun D W Answer old new was now done
-  run_written now text done (logs, read, answer) bytes flushed faults failed prefix = record {
-    sink = writes_text _ _ _ _ _ _ _ now text done
+  EndsRun-written now text done (logs, read, answer) bytes flushed faults failed prefix = record {
+    sink = WritesAnswer-text _ _ _ _ _ _ _ now text done
         (λ P known given are. known given
         (subst (λ (ls : List (List ℕ)). Answer ls (Ok text)) (read.bytes given are) answer))
         (λ Written written. record {
@@ -57,6 +58,6 @@ module _ {S T : Type 0} (D : SourceModel S) (W : SinkModel T)
           answer = answer;
           written = written;
         }) (λ given answered. (text, answered)) bytes flushed faults failed prefix;
-    sources = leaves_after D old new (length old) logs done (omega arith)
+    sources = LeavesSources-after D old new (length old) logs done (omega arith)
         (HasRead-written (length old) done faults) read.sources;
   }

@@ -13,17 +13,17 @@ use Rattle.epx_types.specs.declared.reply.Reply.{Reply}
 use Rattle.epx_report.specs.Bases.{IsBase}
 use Rattle.epx_report.specs.ReportLines.{header_line, done_line, reply_line, waiting_line}
 use Rattle.epx_report.specs.ReportLines.{store_line}
-use Rattle.epx_report.specs.ReportBases.{AreLinesInOrder, AreDoneAfter}
+use Rattle.epx_report.specs.between.ReportBases.{AreLinesInOrder, AreDoneAfter}
 use Rattle.epx_report.specs.ReportReadings.{ReportData, FitsReportData, replied_ids, text_of_report}
-use Rattle.epx_report.proofs.ReportBaseLemmas.{report_is_a_base}
+use Rattle.epx_report.proofs.ReportBaseLemmas.{ReportIsABase-holds}
 use Rattle.epx_tool.specs.Report.{IsReport, report_text}
 use Rattle.epx_tool.specs.ResumedReport.{IsReportAfter}
 use Rattle.epx_tool.specs.ReportedRuns.{reported_of, run_in}
-use Rattle.epx_tool.proofs.ReportLemmas.{executed_is_left}
+use Rattle.epx_tool.proofs.ReportLemmas.{Contains-not_done_yet}
 
-pub after_nothing : (m : List Instance) (text : List ℕ) → IsReport m text
+pub IsReportAfter-nil : (m : List Instance) (text : List ℕ) → IsReport m text
     → IsReportAfter [] contents.empty m text
-after_nothing m text p =
+IsReportAfter-nil m text p =
     let whole = sym (remaining-nil m) in record {
       order = p.order;
       waiting = p.waiting;
@@ -55,11 +55,11 @@ module _ (done : List Id) (stored : Contents) (m : List Instance) (text : List �
       length-replies (commands_in (remaining done m) (ranked_ids p.order)) stored
       ∙ length-map (ranked_ids p.order) (λ x. ops_or_empty (instance_of (remaining done m) x))
 
-  pub replied : replied_ids written.replies ≡ ranked_ids p.order
-  replied = replied_ids-zip (ranked_ids p.order) run.replies as_many
+  pub replied_ids-written : replied_ids written.replies ≡ ranked_ids p.order
+  replied_ids-written = replied_ids-zip (ranked_ids p.order) run.replies as_many
 
-  pub count : length written.replies ≡ length p.order
-  count = sym (length-map written.replies (λ q. q.0)) ∙ ap length replied
+  pub length-written : length written.replies ≡ length p.order
+  length-written = sym (length-map written.replies (λ q. q.0)) ∙ ap length replied_ids-written
       ∙ length-map p.order (λ (r : Ranked). r.id)
 
   text_is : text ≡ text_of_report written
@@ -67,7 +67,7 @@ module _ (done : List Id) (stored : Contents) (m : List Instance) (text : List �
       ++ (flat_map done_line done
       ++ (flat_map reply_line written.replies
       ++ (flat_map waiting_line p.waiting ++ flat_map store_line (contents.entries run.final)))))
-      (sym count)
+      (sym length-written)
 
   -- an instance that waits is neither done nor executed
   still_waits : (x : Id) → Contains (waiting_ids p.waiting) x
@@ -78,7 +78,7 @@ module _ (done : List Id) (stored : Contents) (m : List Instance) (text : List �
       let left = ((Contains-remaining_iff done m w.0.id).0 waits.committed).1 in (
         subst (λ (y : Id). ¬ Contains done y) w.2 left,
         λ executed.
-            let here = subst (λ (xs : List Id). Contains xs x) replied executed in
+            let here = subst (λ (xs : List Id). Contains xs x) replied_ids-written executed in
             let ready = (IsExecutionOrder-IsLawful (remaining done m) p.order p.ordered).only x
             here in
             let again = subst (λ (y : Id). Contains (ranked_ids p.order) y) (sym w.2) here in
@@ -90,10 +90,10 @@ module _ (done : List Id) (stored : Contents) (m : List Instance) (text : List �
   in_order : IsRising done → AreLinesInOrder written
   in_order rising = record {
     done_rise = rising;
-    replied_once = subst (AllPairs (λ x y. x ≢ y)) (sym replied)
+    replied_once = subst (AllPairs (λ x y. x ≢ y)) (sym replied_ids-written)
         (IsExecutionOrder-IsLawful (remaining done m) p.order p.ordered).once;
-    replied_new = λ x h. executed_is_left done m p.order p.ordered (ranked_ids p.order) refl x
-        (subst (λ (xs : List Id). Contains xs x) replied h);
+    replied_new = λ x h. Contains-not_done_yet done m p.order p.ordered (ranked_ids p.order) refl x
+        (subst (λ (xs : List Id). Contains xs x) replied_ids-written h);
     waiting_rise = p.listed.rising;
     waiting_left = still_waits;
   }
@@ -104,18 +104,18 @@ module _ (done : List Id) (stored : Contents) (m : List Instance) (text : List �
   done_after now rising each = record {
     rising = rising;
     each = λ x. subst (λ (xs : List Id). Contains now x ↔ Contains done x ⊎ Contains xs x)
-        (sym replied) (each x);
+        (sym replied_ids-written) (each x);
   }
 
 -- a report whose numbers and texts fit their types is a base
-pub report_is_base : (done : List Id) (stored : Contents) (m : List Instance) (text : List ℕ)
+pub IsBase-report : (done : List Id) (stored : Contents) (m : List Instance) (text : List ℕ)
     (p : IsReportAfter done stored m text) → IsRising done
     → FitsReportData (written done stored m text p) → (now : List Id) → IsRising now
     → ((x : Id) → Contains now x ↔ Contains done x ⊎ Contains (ranked_ids p.order) x)
     → IsBase text now (run done stored m text p).final
-report_is_base done stored m text p rising fits now nows each =
+IsBase-report done stored m text p rising fits now nows each =
     subst (λ (bytes : List ℕ). IsBase bytes now (run_in done stored m text p).final)
     (sym (text_is done stored m text p))
-    (report_is_a_base (written done stored m text p) now (run_in done stored m text p).final fits
+    (ReportIsABase-holds (written done stored m text p) now (run_in done stored m text p).final fits
     (in_order done stored m text p rising) (done_after done stored m text p now nows each)
     refl)

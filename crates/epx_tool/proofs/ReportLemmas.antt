@@ -5,7 +5,8 @@ use Rattle.std.specs.FinMap as contents
 use Rattle.epx_types.proofs.Common.{length-map, Contents, Instance, remaining, execute, Ranked}
 use Rattle.epx_types.proofs.Common.{IsExecutionOrder, ranked_ids, Waiting, IsWaitingList}
 use Rattle.epx_types.proofs.Common.{max_instances, commands_in, IsCovered, Contains-remaining_iff}
-use Rattle.epx_types.proofs.Common.{remaining-nil, IsExecutionOrder-IsLawful, ordered_are_few}
+use Rattle.epx_types.proofs.Common.{remaining-nil, IsExecutionOrder-IsLawful}
+use Rattle.epx_types.proofs.Common.{IsExecutionOrder-length}
 use Rattle.epx_types.proofs.Common.{commands-left, length-remaining}
 use Rattle.epx_types.specs.declared.id.Id.{Id}
 use Rattle.epx_types.specs.declared.op.Op.{Op}
@@ -23,19 +24,19 @@ module _ (done : List Id) (m : List Instance) (order : List Ranked)
   few_ordered few = omega (
     arith,
     few,
-    ordered_are_few (remaining done m) order ordered,
+    IsExecutionOrder-length (remaining done m) order ordered,
     length-remaining done m,
   )
 
-  pub few_ids : length m ≤ max_instances → length ids ≤ 2 ^ 40
-  few_ids few =
+  pub length-ids_within : length m ≤ max_instances → length ids ≤ 2 ^ 40
+  length-ids_within few =
       let many : length ids ≡ length order =
       ap length are ∙ length-map order (λ (r : Ranked). r.id) in
       omega (arith, many, few_ordered few)
 
   -- an instance that is executed is not done
-  pub executed_is_left : (x : Id) → Contains ids x → ¬ Contains done x
-  executed_is_left x there =
+  pub Contains-not_done_yet : (x : Id) → Contains ids x → ¬ Contains done x
+  Contains-not_done_yet x there =
       let ready = (IsExecutionOrder-IsLawful (remaining done m) order ordered).only x
       (subst (λ (xs : List Id). Contains xs x) are there) in
       ((Contains-remaining_iff done m x).0 ready.committed).1
@@ -59,7 +60,7 @@ module _ (done : List Id) (m : List Instance) (order : List Ranked)
             (e_final ∙ ap (λ cs. (execute cs stored).final) all);
       } where
         all : commands ≡ commands_in (remaining done m) (ranked_ids order)
-        all = e_commands ∙ sym (commands-left done m ids executed_is_left)
+        all = e_commands ∙ sym (commands-left done m ids Contains-not_done_yet)
             ∙ ap (commands_in (remaining done m)) are
 
 -- a report after nothing is done, from the empty store, is the report of the map

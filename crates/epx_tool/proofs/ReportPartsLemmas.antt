@@ -8,7 +8,7 @@ use Rattle.std.specs.FinMap as contents
 use Rattle.epx_report.specs.ReportLines.{header_line, done_line, reply_line, store_line}
 use Rattle.epx_report.specs.ReportLines.{waiting_line}
 use Rattle.epx_tool.specs.ResumedReport.{resumed_text}
-use Rattle.epx_views.specs.OpeningText.{opening_text}
+use Rattle.epx_views.specs.between.OpeningText.{opening_text}
 
 pub resumed_text-parts : (done : List Id) (order : List Ranked) (waiting : List Waiting)
     (ids : List Id) (replies : List Reply) (final : Contents) (front middle more whole : List ℕ)

@@ -7,12 +7,14 @@ use Rattle.epx_types.proofs.Common.{All-from_recursion, count_by-le-length, id_c
 use Rattle.epx_types.proofs.Common.{key_cmp, Contents, Instance, Placed, ids_of, instance_of}
 use Rattle.epx_types.proofs.Common.{ops_or_empty, IsCommitted, commands_in, DependsOn, IsPath}
 use Rattle.epx_types.proofs.Common.{Reaches, remaining, Ranked, ranked_ids, Waiting, waiting_ids}
-use Rattle.epx_types.proofs.Common.{Contains-remaining_iff, DependsOn-remaining, from_remaining}
-use Rattle.epx_types.proofs.Common.{IsExecutionOrder-IsLawful, key_cmp_total, Contains-nil}
+use Rattle.epx_types.proofs.Common.{Contains-remaining_iff, DependsOn-remaining, remaining-from_map}
+use Rattle.epx_types.proofs.Common.{IsExecutionOrder-IsLawful, key_cmp-IsTotalOrder, Contains-nil}
 use Rattle.epx_types.proofs.Common.{Contains-head, Contains-cons, Contains-cons_cases}
-use Rattle.epx_types.proofs.Common.{Contains-from_map, Contains-from_flat_map, rising_once}
-use Rattle.epx_types.proofs.Common.{same_key, find_below, first_of, second_of, max_instances}
-use Rattle.epx_types.proofs.Common.{length-remaining, fewer, ordered_are_few}
+use Rattle.epx_types.proofs.Common.{Contains-from_map, Contains-from_flat_map}
+use Rattle.epx_types.proofs.Common.{AllPairs-rising_distinct}
+use Rattle.epx_types.proofs.Common.{eq_by_cmp-same_key, find-below_all, and-first, and-second}
+use Rattle.epx_types.proofs.Common.{max_instances}
+use Rattle.epx_types.proofs.Common.{length-remaining, length-at_most, IsExecutionOrder-length}
 use Rattle.epx_types.specs.declared.id.Id.{Id}
 use Rattle.epx_types.specs.declared.reply.Reply.{Reply}
 use Rattle.epx_types.specs.declared.place.Place.{Place}
@@ -27,20 +29,20 @@ use Rattle.epx_lines.specs.declared.Line.TheVariants.{Blank, Entry}
 use Rattle.epx_merge.specs.LogLines.{MeaningAt, meanings_in, meanings_from, meanings_of, placed_at}
 use Rattle.epx_merge.specs.Acceptance.{IsAccepted}
 use Rattle.epx_report.specs.ReportReadings.{FitsNumbers, FitsReply, FitsReportData}
-use Rattle.epx_report.proofs.JsonStringLemmas.{by_test}
+use Rattle.epx_report.proofs.JsonStringLemmas.{cond-cases}
 use Rattle.epx_report.proofs.LineRangeLemmas.{IsStoreKey, FitsCommand, FitsInstance, IfEntry}
-use Rattle.epx_report.proofs.LineRangeLemmas.{line_fits, of_all}
+use Rattle.epx_report.proofs.LineRangeLemmas.{IfEntry-meaning_of, AllByRecursion-contains}
 use Rattle.epx_report.proofs.BaseRangeLemmas.{FitsBase}
-use Rattle.epx_report.proofs.ExecutionRangeLemmas.{execute_fits}
+use Rattle.epx_report.proofs.ExecutionRangeLemmas.{FitsExecution-execute}
 use Rattle.epx_tool.specs.ResumedReport.{IsReportAfter}
 use Rattle.epx_tool.specs.ReportedRuns.{reported_of, run_in}
-use Rattle.epx_tool.proofs.ReportBaseLemmas.{count}
+use Rattle.epx_tool.proofs.ReportBaseLemmas.{length-written}
 
-pub each_holds : {A : Type 0} (P : A → Type 0) (xs : List A)
+pub AllByRecursion-each : {A : Type 0} (P : A → Type 0) (xs : List A)
     → ((x : A) → Contains xs x → P x) → AllByRecursion P xs
-each_holds P [] h = tt
-each_holds P (x ∷ xs) h =
-    (h x (Contains-head x xs), each_holds P xs (λ y c. h y (Contains-cons x xs y c)))
+AllByRecursion-each P [] h = tt
+AllByRecursion-each P (x ∷ xs) h =
+    (h x (Contains-head x xs), AllByRecursion-each P xs (λ y c. h y (Contains-cons x xs y c)))
 
 -- ---- the instances of accepted logs
 
@@ -65,7 +67,7 @@ unfolding CommitsFitting
 lines_fit log n [] = tt
 lines_fit log n (l ∷ ls) =
     let place : Place = record { log = log; line = n } in
-    (placed_fits place (meaning_of l) (line_fits l), lines_fit log (suc n) ls)
+    (placed_fits place (meaning_of l) (IfEntry-meaning_of l), lines_fit log (suc n) ls)
 
 append_fits : (xs ys : List MeaningAt) → AllByRecursion CommitsFitting xs
     → AllByRecursion CommitsFitting ys → AllByRecursion CommitsFitting (xs ++ ys)
@@ -78,14 +80,15 @@ logs_fit n (log ∷ logs) =
     append_fits (meanings_in n 1 (lines_of log)) (meanings_from (suc n) logs)
     (lines_fit n 1 (lines_of log)) (logs_fit (suc n) logs)
 
-pub accepted_fit : (logs : List (List ℕ)) (m : List Instance) → IsAccepted logs m
+pub FitsInstance-accepted : (logs : List (List ℕ)) (m : List Instance) → IsAccepted logs m
     → (e : Instance) → Contains m e → FitsInstance e
 unfolding CommitsFitting
-accepted_fit logs m accepted e c =
+FitsInstance-accepted logs m accepted e c =
     let p = accepted.committed.given e c in
     let placed = λ (l : MeaningAt). placed_at l.place l.meaning in
     let l = Contains-from_flat_map placed (meanings_of logs) p.0 p.1 in
-    let fits = of_all CommitsFitting (meanings_of logs) l.0 (logs_fit 0 logs) l.1 in
+    let fits =
+    AllByRecursion-contains CommitsFitting (meanings_of logs) l.0 (logs_fit 0 logs) l.1 in
     subst FitsInstance p.2 (fits p.0 l.2)
 
 -- ---- the entries of contents
@@ -97,11 +100,11 @@ found_later : (q : List ℕ) (v : ℤ) (e : List ℕ × ℤ) (es : List (List �
     → T (is_sorted key_cmp (e ∷ es)) → find key_cmp q es ≡ Some v
     → find key_cmp q (e ∷ es) ≡ Some v
 found_later q v e es rises is =
-    let lower = find_below e.0 es (first_of _ _ rises) in
-    by_test (λ (o : Option ℤ). o ≡ Some v) (is_eq (key_cmp q e.0)) (Some e.1) (find key_cmp q es)
+    let lower = find-below_all e.0 es (and-first _ _ rises) in
+    cond-cases (λ (o : Option ℤ). o ≡ Some v) (is_eq (key_cmp q e.0)) (Some e.1) (find key_cmp q es)
     (λ tied.
     let none : find key_cmp q es ≡ None =
-    ap (λ k. find key_cmp k es) (same_key q e.0 tied) ∙ lower in
+    ap (λ k. find key_cmp k es) (eq_by_cmp-same_key q e.0 tied) ∙ lower in
     absurd (cc (none, is)))
     (λ _. is)
 
@@ -112,10 +115,11 @@ unfolding IsStoredPair
 entries_fit [] rises h = tt
 entries_fit (e ∷ es) rises h =
     let here : find key_cmp e.0 (e ∷ es) ≡ Some e.1 =
-    ap (λ o. cond (is_eq o) (Some e.1) (find key_cmp e.0 es)) (tied_itself key_cmp_total e.0) in
+    ap (λ o. cond (is_eq o) (Some e.1) (find key_cmp e.0 es))
+    (tied_itself key_cmp-IsTotalOrder e.0) in
     let fits = h e.0 e.1 here in (
       (fits.0.0, fits.0.1, fits.1),
-      entries_fit es (second_of _ _ rises) (λ k v is. h k v (found_later k v e es rises is)),
+      entries_fit es (and-second _ _ rises) (λ k v is. h k v (found_later k v e es rises is)),
     )
 
 -- ---- the report
@@ -138,13 +142,15 @@ ops_fit : (l : List Instance) → AllByRecursion CommandFits l → (x : Id)
 unfolding CommandFits
 ops_fit [] h x = record { each = tt; few = omega arith }
 ops_fit (e ∷ l) h x =
-    by_test (λ (o : Option Instance). FitsCommand (ops_or_empty o)) (is_eq (id_cmp e.id x)) (Some e)
+    cond-cases (λ (o : Option Instance). FitsCommand (ops_or_empty o)) (is_eq (id_cmp e.id x))
+    (Some e)
     (instance_of l x) (λ _. h.0) (λ _. ops_fit l h.1 x)
 
-pub command_fits : (m : List Instance) → ((e : Instance) → Contains m e → FitsInstance e)
+pub FitsCommand-instance_of : (m : List Instance) → ((e : Instance) → Contains m e → FitsInstance e)
     → (x : Id) → FitsCommand (ops_or_empty (instance_of m x))
 unfolding CommandFits
-command_fits m fits = ops_fit m (each_holds CommandFits m (λ e c. (fits e c).command))
+FitsCommand-instance_of m fits =
+    ops_fit m (AllByRecursion-each CommandFits m (λ e c. (fits e c).command))
 
 commands_fit : (l : List Instance) → AllByRecursion CommandFits l → (order : List Ranked)
     → AllByRecursion FitsCommand (commands_in l (ranked_ids order))
@@ -179,19 +185,19 @@ module _ (done : List Id) (stored : Contents) (m : List Instance) (text : List �
 
   left_fits : AllByRecursion CommandFits left
   unfolding CommandFits
-  left_fits = each_holds CommandFits left (λ e c.
-      let d = from_remaining done m e c in
+  left_fits = AllByRecursion-each CommandFits left (λ e c.
+      let d = remaining-from_map done m e c in
       subst (λ (e : Instance). FitsCommand e.ops) d.3 (fits d.0 d.1).command)
 
   ids_fit : AllByRecursion FitsNumbers (ranked_ids p.order)
   ids_fit =
       let lawful = IsExecutionOrder-IsLawful left p.order p.ordered in
-      each_holds FitsNumbers (ranked_ids p.order)
+      AllByRecursion-each FitsNumbers (ranked_ids p.order)
       (λ x c. committed_fits x (lawful.only x c).committed)
 
   waiting_fits : AllByRecursion FitsWaiting p.waiting
   unfolding FitsWaiting
-  waiting_fits = each_holds FitsWaiting p.waiting (λ w c.
+  waiting_fits = AllByRecursion-each FitsWaiting p.waiting (λ w c.
       let waits = p.listed.waits w c in (
         committed_fits w.id waits.committed,
         reached_fits w.id w.missing waits.committed waits.reached,
@@ -203,20 +209,22 @@ module _ (done : List Id) (stored : Contents) (m : List Instance) (text : List �
       let within : (x : Id) → Contains ids x → Contains (ids_of left) x = λ x c.
       let w = Contains-from_map (λ (w : Waiting). w.id) p.waiting x c in
       subst (Contains (ids_of left)) w.2 (p.listed.waits w.0 w.1).committed in
-      let few = fewer ids (ids_of left) (rising_once ids p.listed.rising) within in
+      let few =
+      length-at_most ids (ids_of left) (AllPairs-rising_distinct ids p.listed.rising) within in
       let waiting = length-map p.waiting (λ (w : Waiting). w.id) in
       omega (arith, few, waiting, length-map left (λ (e : Instance). e.id))
 
-  pub reported_fit : length m ≤ max_instances
+  pub FitsReportData-reported : length m ≤ max_instances
       → FitsReportData (reported_of done p.order p.waiting (run_in done stored m text p))
   unfolding IsStoredPair FitsReplied FitsWaiting
-  reported_fit few =
+  FitsReportData-reported few =
       let commands = commands_fit left left_fits p.order in
-      let run = execute_fits (commands_in left (ranked_ids p.order)) stored commands base.stored in
+      let run = FitsExecution-execute (commands_in left (ranked_ids p.order)) stored commands
+      base.stored in
       let final = (run_in done stored m text p).final in
-      let many = count done stored m text p in
+      let many = length-written done stored m text p in
       let fewer_left = length-remaining done m in
-      let ordered = ordered_are_few left p.order p.ordered in
+      let ordered = IsExecutionOrder-length left p.order p.ordered in
       let leads = λ (r : Ranked). is_eq (id_cmp r.id r.leader) in
       let components = count_by-le-length leads p.order in
       let waiting = waiting_are_few in
@@ -227,7 +235,8 @@ module _ (done : List Id) (stored : Contents) (m : List Instance) (text : List �
         replies_counted = omega (arith, many, fewer_left, ordered, few);
         waiting_counted = omega (arith, fewer_left, waiting, few);
         few_components = omega (arith, many, components);
-        done_fit = All-from_recursion FitsNumbers done (each_holds FitsNumbers done base.done);
+        done_fit =
+            All-from_recursion FitsNumbers done (AllByRecursion-each FitsNumbers done base.done);
         replies_fit = All-from_recursion FitsReplied _
             (zip_fits (ranked_ids p.order) _ ids_fit run.replies);
         waiting_fit = All-from_recursion FitsWaiting p.waiting waiting_fits;

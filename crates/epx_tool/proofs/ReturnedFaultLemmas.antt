@@ -14,44 +14,45 @@ use Rattle.epx_merge.specs.ReadingRefusals.{IsReadingRefusal}
 use Rattle.epx_tool.specs.Runs.{IsFaultOfRun}
 use Rattle.epx_tool.specs.RunsWithInput.{IsRunFaultWithInput}
 use Rattle.epx_merge.specs.SourceEndings.{StopsAt}
-use Rattle.epx_merge.proofs.ReturnedFaultLemmas.{fault_is, ok_is_no_fault, ok_does_not_stop}
-use Rattle.epx_merge.proofs.ReturnedFaultLemmas.{input_not_too_many, stops_at_input}
+use Rattle.epx_merge.proofs.ReturnedFaultLemmas.{IsErrOf-same, IsErrOf-not_ok, StopsAt-not_ok}
+use Rattle.epx_merge.proofs.ReturnedFaultLemmas.{IsErrOf-input_not_too_many, StopsAt-input}
 use Rattle.epx_names.specs.declared.task.Task.{Task}
 use Rattle.epx_names.specs.declared.task.Task.TheVariants.{Compare}
 use Rattle.epx_tool.specs.WithInput.{IsShort, IsRefusalWithInput}
-use Rattle.epx_tool.proofs.LogsWithInputLemmas.{no_stop}
+use Rattle.epx_tool.proofs.LogsWithInputLemmas.{StopsAt-not_refusal}
 
 -- ---- a fault that is returned again
 
 module _ {T V : Type 0} (fault : Fault) where
-  pub same_error : (other : Fault) → IsErrOf {T = T} (Err fault) other
+  pub IsErrOf-again : (other : Fault) → IsErrOf {T = T} (Err fault) other
       → IsErrOf {T = V} (Err fault) other
-  same_error other is = ap Err (fault_is fault other is)
+  IsErrOf-again other is = ap Err (IsErrOf-same fault other is)
 
-  pub same_stop : (log : ℕ) → StopsAt {T = T} (Err fault) log → StopsAt {T = V} (Err fault) log
-  same_stop log (inl is) = inl (ap Err (fault_is fault (LogTooLong log) is))
-  same_stop log (inr is) = inr (ap Err (fault_is fault (Read log) is))
+  pub StopsAt-again : (log : ℕ) → StopsAt {T = T} (Err fault) log → StopsAt {T = V} (Err fault) log
+  StopsAt-again log (inl is) = inl (ap Err (IsErrOf-same fault (LogTooLong log) is))
+  StopsAt-again log (inr is) = inr (ap Err (IsErrOf-same fault (Read log) is))
 
-  pub same_error_iff : (other : Fault) (P : Type 0) → IsErrOf {T = T} (Err fault) other ↔ P
+  pub IsErrOf-again_iff : (other : Fault) (P : Type 0) → IsErrOf {T = T} (Err fault) other ↔ P
       → IsErrOf {T = V} (Err fault) other ↔ P
-  same_error_iff other P h = (
-    λ is. h.0 (ap Err (fault_is fault other is)),
-    λ p. ap Err (fault_is fault other (h.1 p)),
+  IsErrOf-again_iff other P h = (
+    λ is. h.0 (ap Err (IsErrOf-same fault other is)),
+    λ p. ap Err (IsErrOf-same fault other (h.1 p)),
   )
 
-pub ok_failed_iff : {T V : Type 0} (x : T) (y : V) (fault other : Fault) (P : Type 0)
+pub IsErrOf-ok_iff : {T V : Type 0} (x : T) (y : V) (fault other : Fault) (P : Type 0)
     → IsErrOf (Ok x) fault ↔ P → IsErrOf (Ok y) other ↔ P
-ok_failed_iff x y fault other P h = (
-  λ is. absurd (ok_is_no_fault y other is),
-  λ p. absurd (ok_is_no_fault x fault (h.1 p)),
+IsErrOf-ok_iff x y fault other P h = (
+  λ is. absurd (IsErrOf-not_ok y other is),
+  λ p. absurd (IsErrOf-not_ok x fault (h.1 p)),
 )
 
 -- a fault that this result is not, and that the call before it did not return
-pub other_iff : {T V : Type 0} (result : Result T Fault) (x : V) (fault : Fault) (P : Type 0)
+pub IsErrOf-other_iff : {T V : Type 0} (result : Result T Fault) (x : V) (fault : Fault)
+    (P : Type 0)
     → ¬ IsErrOf result fault → IsErrOf (Ok x) fault ↔ P → IsErrOf result fault ↔ P
-other_iff result x fault P other h = (
+IsErrOf-other_iff result x fault P other h = (
   λ is. absurd (other is),
-  λ p. absurd (ok_is_no_fault x fault (h.1 p)),
+  λ p. absurd (IsErrOf-not_ok x fault (h.1 p)),
 )
 
 -- ---- results after the sources were read
@@ -65,7 +66,7 @@ pub record HasRead {T : Type 0} (n : ℕ) (result : Result T Fault) : Type 0 whe
 pub HasRead-written : {T : Type 0} (n : ℕ) (result : Result T Fault)
     → IfErr result (λ f. f ≡ Write) → HasRead n result
 HasRead-written n (Ok x) only = record {
-  not_stopped = λ log stops. absurd (ok_does_not_stop x log stops);
+  not_stopped = λ log stops. absurd (StopsAt-not_ok x log stops);
   not_too_many = λ is. cc is;
 }
 HasRead-written n (Err fault) only = record {
@@ -83,7 +84,7 @@ IsOfLines _ = ⊥
 
 module _ {T : Type 0} (n : ℕ) (fault : Fault) (of_lines : IsOfLines fault) where
   named : (other : Fault) → IsErrOf {T = T} (Err fault) other → IsOfLines other
-  named other is = subst IsOfLines (fault_is fault other is) of_lines
+  named other is = subst IsOfLines (IsErrOf-same fault other is) of_lines
 
   pub HasRead-of_lines : HasRead {T = T} n (Err fault)
   HasRead-of_lines = record {
@@ -94,8 +95,8 @@ module _ {T : Type 0} (n : ℕ) (fault : Fault) (of_lines : IsOfLines fault) whe
     not_too_many = λ is. absurd (named TooManyLogs is);
   }
 
-  pub of_lines_not_write : ¬ IsErrOf {T = T} (Err fault) Write
-  of_lines_not_write is = named Write is
+  pub IsErrOf-lines_not_write : ¬ IsErrOf {T = T} (Err fault) Write
+  IsErrOf-lines_not_write is = named Write is
 
 module _ {T : Type 0} (n : ℕ) (logs : List (List ℕ)) (fault : Fault)
     (fits : FitLimits logs) where
@@ -104,9 +105,9 @@ module _ {T : Type 0} (n : ℕ) (logs : List (List ℕ)) (fault : Fault)
       → IsRefusalWithInput IsBad input logs fault → HasRead {T = T} n (Err fault)
   HasRead-refused_with_input IsBad input short refused = record {
     not_stopped = λ log stops.
-        absurd (no_stop logs input IsBad fault log fits short refused stops);
+        absurd (StopsAt-not_refusal logs input IsBad fault log fits short refused stops);
     not_too_many = λ is.
-        let named = fault_is fault TooManyLogs is in
+        let named = IsErrOf-same fault TooManyLogs is in
         omega (arith, fits.0, subst (IsRefusalWithInput IsBad input logs) named refused);
   }
 
@@ -116,43 +117,45 @@ module _ {T : Type 0} (n : ℕ) (fault : Fault) (of_input : IsReadLogFault n fau
   -- the extra input comes after all logs
   pub HasRead-input : HasRead {T = T} n (Err fault)
   HasRead-input = record {
-    not_stopped = λ log stops. omega (arith, stops_at_input n fault of_input log stops);
-    not_too_many = input_not_too_many n fault of_input;
+    not_stopped = λ log stops. omega (arith, StopsAt-input n fault of_input log stops);
+    not_too_many = IsErrOf-input_not_too_many n fault of_input;
   }
 
 -- the number of the extra input is the number of logs
-pub input_failed_iff : {T V : Type 0} (fault : Fault) (n m : ℕ) (P : Type 0) → n ≡ m
+pub IsErrOf-read_iff : {T V : Type 0} (fault : Fault) (n m : ℕ) (P : Type 0) → n ≡ m
     → IsErrOf {T = T} (Err fault) (Read n) ↔ P → IsErrOf {T = V} (Err fault) (Read m) ↔ P
-input_failed_iff {T} fault n m P same h =
-    same_error_iff fault (Read m) P (subst (λ k. IsErrOf {T = T} (Err fault) (Read k) ↔ P) same h)
+IsErrOf-read_iff {T} fault n m P same h =
+    IsErrOf-again_iff fault (Read m) P
+    (subst (λ k. IsErrOf {T = T} (Err fault) (Read k) ↔ P) same h)
 
 -- both lists end before this position
-pub same_past_end : {S : Type 0} (new old : List S) (log : ℕ) → length new ≡ length old
+pub drop-past_end : {S : Type 0} (new old : List S) (log : ℕ) → length new ≡ length old
     → length new ≤ log → drop (log + 1) new ≡ drop (log + 1) old
-same_past_end new old log same at =
+drop-past_end new old log same at =
     drop_all (log + 1) new (omega (arith, at)) ∙ sym
     (drop_all (log + 1) old (omega (arith, same, at)))
 
 -- ---- the fault of the sink
 
-pub refusal_with_input_not_write : {T : Type 0} (IsBad : List ℕ → ℕ → Type 0) (input : List ℕ)
+pub IsErrOf-refusal_not_write : {T : Type 0} (IsBad : List ℕ → ℕ → Type 0) (input : List ℕ)
     (logs : List (List ℕ)) (fault : Fault) → IsRefusalWithInput IsBad input logs fault
     → ¬ IsErrOf {T = T} (Err fault) Write
-refusal_with_input_not_write IsBad input logs fault refused is =
-    (subst (IsRefusalWithInput IsBad input logs) (fault_is fault Write is) refused).1
+IsErrOf-refusal_not_write IsBad input logs fault refused is =
+    (subst (IsRefusalWithInput IsBad input logs) (IsErrOf-same fault Write is) refused).1
 
-pub written_iff : {T : Type 0} (result : Result T Fault) (P : Type 0)
+pub IsErrOf-write_iff : {T : Type 0} (result : Result T Fault) (P : Type 0)
     → IfErr result (λ f. f ≡ Write) → IsErr result ↔ P → IsErrOf result Write ↔ P
-written_iff (Ok x) P only h = (λ is. absurd (cc is), λ p. let never = h.1 p in absurd (cc never))
-written_iff (Err fault) P only h = (λ is. h.0 refl, λ p. ap Err only)
+IsErrOf-write_iff (Ok x) P only h =
+    (λ is. absurd (cc is), λ p. let never = h.1 p in absurd (cc never))
+IsErrOf-write_iff (Err fault) P only h = (λ is. h.0 refl, λ p. ap Err only)
 
-pub on_ok : {T : Type 0} (result : Result T Fault) (P : Type 0) → P → OnOk result P
-on_ok (Ok x) P p = p
-on_ok (Err fault) P p = tt
+pub OnOk-always : {T : Type 0} (result : Result T Fault) (P : Type 0) → P → OnOk result P
+OnOk-always (Ok x) P p = p
+OnOk-always (Err fault) P p = tt
 
-pub keeps_itself : (known : Option (List ℕ)) → Keeps known known
-keeps_itself None = tt
-keeps_itself (Some bytes) = refl
+pub Keeps-refl : (known : Option (List ℕ)) → Keeps known known
+Keeps-refl None = tt
+Keeps-refl (Some bytes) = refl
 
 -- ---- the faults of a run
 
@@ -195,27 +198,27 @@ reading_refusal task logs (LogTooLong log) h = h
 reading_refusal task logs (Read log) h = h
 reading_refusal task logs fault h = absurd h
 
-pub task_answer : (task : Task) → IsLogAnswer (AnswersLogs task)
-task_answer Compare = record {
+pub IsLogAnswer-task : (task : Task) → IsLogAnswer (AnswersLogs task)
+IsLogAnswer-task Compare = record {
   of_reading = reading_refusal Compare;
   of_lines = comparison_refusal_of_lines;
 }
-task_answer task = record {
+IsLogAnswer-task task = record {
   of_reading = reading_refusal task;
   of_lines = merge_refusal_of_lines;
 }
 
-pub run_fault_of_lines : (Answer : List (List ℕ) → Result (List ℕ) Fault → Type 0)
+pub IsFaultOfRun-of_lines : (Answer : List (List ℕ) → Result (List ℕ) Fault → Type 0)
     (logs : List (List ℕ)) (fault : Fault) → IsOfLines fault → Answer logs (Err fault)
     → IsFaultOfRun Answer logs fault
-run_fault_of_lines Answer logs (Read log) of_lines h = absurd of_lines
-run_fault_of_lines Answer logs Write of_lines h = absurd of_lines
-run_fault_of_lines Answer logs fault of_lines h = h
+IsFaultOfRun-of_lines Answer logs (Read log) of_lines h = absurd of_lines
+IsFaultOfRun-of_lines Answer logs Write of_lines h = absurd of_lines
+IsFaultOfRun-of_lines Answer logs fault of_lines h = h
 
-pub run_fault_of_refusal_with_input : (IsBad : List ℕ → ℕ → Type 0)
+pub IsRunFaultWithInput-refusal : (IsBad : List ℕ → ℕ → Type 0)
     (Is : List ℕ → List Instance → List ℕ → Type 0) (input : List ℕ) (logs : List (List ℕ))
     (fault : Fault) → IsRefusalWithInput IsBad input logs fault
     → IsRunFaultWithInput IsBad Is input logs fault
-run_fault_of_refusal_with_input IsBad Is input logs (Read log) h = absurd h.1
-run_fault_of_refusal_with_input IsBad Is input logs Write h = absurd h.1
-run_fault_of_refusal_with_input IsBad Is input logs fault h = h
+IsRunFaultWithInput-refusal IsBad Is input logs (Read log) h = absurd h.1
+IsRunFaultWithInput-refusal IsBad Is input logs Write h = absurd h.1
+IsRunFaultWithInput-refusal IsBad Is input logs fault h = h

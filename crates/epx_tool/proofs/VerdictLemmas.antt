@@ -10,9 +10,9 @@ use Rattle.epx_ranking.specs.declared.order_fault.OrderFault.TheVariants.{Missin
 use Rattle.epx_ranking.specs.PrefixFaults.{IsPrefixFault}
 use Rattle.epx_ranking.specs.OrderFaults.{IsOrderFault}
 use Rattle.epx_ranking.proofs.PrefixFaultLemmas as prefix
-use Rattle.epx_ranking.proofs.PrefixLemmas.{prefix_has_no_fault}
-use Rattle.epx_ranking.proofs.OrderFaultLemmas.{lawful_or_fault}
-use Rattle.epx_ranking.proofs.UniqueFaultLemmas.{fault_is_unique, lawful_has_no_fault}
+use Rattle.epx_ranking.proofs.PrefixLemmas.{IsPrefixFault-not_lawful}
+use Rattle.epx_ranking.proofs.OrderFaultLemmas.{IsLawful-or_fault}
+use Rattle.epx_ranking.proofs.UniqueFaultLemmas.{IsOrderFault-is_unique, IsOrderFault-not_lawful}
 use Rattle.epx_report.specs.ViewLines.{lawful_line}
 use Rattle.epx_tool.specs.Verdicts.{order_fault_text, IsVerdict, IsPrefixVerdict}
 
@@ -59,14 +59,14 @@ module _ (Good : Type 0) (IsFault : OrderFault → Type 0) where
 module _ (m : List Instance) (ids : List Id) where
   -- ---- as an order
 
-  pub verdict_exists : IsRising (ids_of m) → (text : List ℕ) × IsVerdict m ids text
-  verdict_exists rising =
-      verdict_exists_by (IsLawful m ids) (IsOrderFault m ids) (lawful_or_fault m ids rising)
+  pub IsVerdict-exists : IsRising (ids_of m) → (text : List ℕ) × IsVerdict m ids text
+  IsVerdict-exists rising =
+      verdict_exists_by (IsLawful m ids) (IsOrderFault m ids) (IsLawful-or_fault m ids rising)
 
-  pub verdict_is_unique : (text other : List ℕ) → IsVerdict m ids text → IsVerdict m ids other
+  pub IsVerdict-is_unique : (text other : List ℕ) → IsVerdict m ids text → IsVerdict m ids other
       → text ≡ other
-  verdict_is_unique = verdict_is_one_by (IsLawful m ids) (IsOrderFault m ids)
-      (lawful_has_no_fault m ids) (fault_is_unique m ids)
+  IsVerdict-is_unique = verdict_is_one_by (IsLawful m ids) (IsOrderFault m ids)
+      (IsOrderFault-not_lawful m ids) (IsOrderFault-is_unique m ids)
 
   pub lawful-from_verdict : IsVerdict m ids lawful_line → IsLawful m ids
   lawful-from_verdict = good-from_verdict (IsLawful m ids) (IsOrderFault m ids)
@@ -74,18 +74,18 @@ module _ (m : List Instance) (ids : List Id) where
   pub lawful_line-from_lawful : (text : List ℕ) → IsVerdict m ids text → IsLawful m ids
       → text ≡ lawful_line
   lawful_line-from_lawful =
-      lawful_line-from_good (IsLawful m ids) (IsOrderFault m ids) (lawful_has_no_fault m ids)
+      lawful_line-from_good (IsLawful m ids) (IsOrderFault m ids) (IsOrderFault-not_lawful m ids)
 
   -- ---- as a prefix
 
-  pub prefix_verdict_exists : IsRising (ids_of m) → (text : List ℕ) × IsPrefixVerdict m ids text
-  prefix_verdict_exists rising = verdict_exists_by (IsLawfulPrefix m ids)
-      (IsPrefixFault m ids) (prefix.prefix_or_fault m ids rising)
+  pub IsPrefixVerdict-exists : IsRising (ids_of m) → (text : List ℕ) × IsPrefixVerdict m ids text
+  IsPrefixVerdict-exists rising = verdict_exists_by (IsLawfulPrefix m ids)
+      (IsPrefixFault m ids) (prefix.IsLawfulPrefix-or_fault m ids rising)
 
-  pub prefix_verdict_is_unique : (text other : List ℕ) → IsPrefixVerdict m ids text
+  pub IsPrefixVerdict-is_unique : (text other : List ℕ) → IsPrefixVerdict m ids text
       → IsPrefixVerdict m ids other → text ≡ other
-  prefix_verdict_is_unique = verdict_is_one_by (IsLawfulPrefix m ids) (IsPrefixFault m ids)
-      (prefix_has_no_fault m ids) (prefix.fault_is_unique m ids)
+  IsPrefixVerdict-is_unique = verdict_is_one_by (IsLawfulPrefix m ids) (IsPrefixFault m ids)
+      (IsPrefixFault-not_lawful m ids) (prefix.IsPrefixFault-is_unique m ids)
 
   pub lawful_prefix-from_verdict : IsPrefixVerdict m ids lawful_line → IsLawfulPrefix m ids
   lawful_prefix-from_verdict = good-from_verdict (IsLawfulPrefix m ids) (IsPrefixFault m ids)
@@ -93,7 +93,7 @@ module _ (m : List Instance) (ids : List Id) where
   pub lawful_line-from_prefix : (text : List ℕ) → IsPrefixVerdict m ids text
       → IsLawfulPrefix m ids → text ≡ lawful_line
   lawful_line-from_prefix = lawful_line-from_good (IsLawfulPrefix m ids)
-      (IsPrefixFault m ids) (prefix_has_no_fault m ids)
+      (IsPrefixFault m ids) (IsPrefixFault-not_lawful m ids)
 
   -- one that finds something is a fault
   pub prefix_fault-from_verdict : (text : List ℕ) → IsPrefixVerdict m ids text

@@ -11,7 +11,7 @@ ghost use Rattle.epx_tool.specs.TaskAnswers.{AnswersLogs, IsBadInput};
 ghost use Rattle.epx_tool.specs.TaskTexts.{IsTaskText};
 ghost use Rattle.epx_tool.specs.WithInput.{AnswersWithInput};
 ghost use Rattle.epx_tool.specs.inner.MapQuestions.{FindsOf, IsFindingOf, IsTextOf};
-ghost use Rattle.epx_merge.specs.SourceReadings.{EndsMaking};
+ghost use Rattle.epx_merge.specs.between.SourceReadings.{EndsMaking};
 ghost use Rattle.epx_tool.specs.inner.TaskReadings.{EndsAnswering, EndsMakingBoth};
 
 use crate::findings::Answer;

@@ -9,7 +9,7 @@ ghost use Rattle.epx_linear.specs.ClientCalls.{calls_at};
 ghost use Rattle.epx_linear.specs.LateCalls.{AreFoundLate};
 ghost use Rattle.epx_linear.specs.LinearTexts.{IsLinearText, linear_line};
 
-use crate::findings::{Answer, is_other};
+use crate::findings::{Answer, is_not_line};
 use epx_apply::run_from;
 use epx_claims::FreeGate;
 use epx_graph::build;
@@ -126,6 +126,6 @@ pub(crate) fn linear_of<R: Threads + RandomSource + Sync>(
     let places = history.places(rt, alloc, order.ids(), plan)?;
     let (replies, late) = run_and_find(rt, alloc, merged, order.ids(), history, &places, plan)?;
     let text = linear_text(alloc, order.ids(), &replies, history, &places, &late)?;
-    let has_findings = is_other(alloc, &text, "linear")?;
+    let has_findings = is_not_line(alloc, &text, "linear")?;
     Ok(Answer::new(text, has_findings))
 }

@@ -49,7 +49,7 @@ impl Answer {
 }
 
 /// Whether a text is not the line of this name alone.
-pub(crate) fn is_other(alloc: Global, text: &[u8], name: &str) -> Result<bool, Memory>
+pub(crate) fn is_not_line(alloc: Global, text: &[u8], name: &str) -> Result<bool, Memory>
     ensures { IfOk result (λ other. (other ≡ true) ↔ (text.now ≢ name_line name.now)) }
 {
     let line = name_line(alloc, name)?;

@@ -7,7 +7,6 @@ ghost use Rattle.epx_report.specs.ViewLines.{covered_line};
 ghost use Rattle.epx_views.specs.OrderText.{IsOrderText};
 ghost use Rattle.epx_views.specs.LevelText.{IsLevelText};
 ghost use Rattle.epx_tool.specs.AuditText.{IsAuditText};
-ghost use Rattle.epx_tool.specs.Report.{IsReport};
 ghost use Rattle.epx_tool.specs.ResumedReport.{IsReportAfter};
 ghost use Rattle.epx_tool.specs.Findings.{SomeWaits};
 ghost use Rattle.epx_tool.specs.inner.MapQuestions.{FindsOf, IsTextOf};
@@ -17,7 +16,7 @@ ghost use Rattle.epx_why.specs.WhyTexts.{IsWhyText};
 ghost use Rattle.epx_trace.specs.TraceTexts.{IsTraceText};
 
 use crate::client_calls::linear_of;
-use crate::findings::{Answer, is_other, some_wait};
+use crate::findings::{Answer, is_not_line, some_wait};
 use crate::question::MapQuestion;
 use crate::verdict::{prefix_verdict_of, said_verdict_of, verdict_of};
 use epx_audit::audit;
@@ -141,7 +140,7 @@ fn audit_of<R: Threads + Sync>(
     let order = order(rt, alloc, merged, &graph)?;
     let found = audit(alloc, merged, &graph, &order)?;
     let text = audit_line(alloc, found)?;
-    let has_findings = is_other(alloc, &text, "covered")?;
+    let has_findings = is_not_line(alloc, &text, "covered")?;
     Ok(Answer::new(text, has_findings))
 }
 
@@ -159,7 +158,7 @@ fn audit_all_of<R: Threads + Sync>(
     let graph = build(rt, alloc, merged, plan)?;
     let order = order(rt, alloc, merged, &graph)?;
     let text = uncovered_text(alloc, merged, &graph, &order)?;
-    let has_pairs = is_other(alloc, &text, "covered")?;
+    let has_pairs = is_not_line(alloc, &text, "covered")?;
     Ok(Answer::new(text, has_pairs))
 }
 

@@ -2,9 +2,9 @@
 ghost use Rattle.std.specs.Prelude.{◌≡◌, ℕ, true, false, All, List, MatchResult};
 ghost use Rattle.std.specs.Thread.{IsSync};
 ghost use Rattle.epx_merge.specs.Acceptance.{IsAccepted};
-ghost use Rattle.epx_merge.specs.LedgerNotes.{AreReadUpTo};
+ghost use Rattle.epx_merge.specs.between.LedgerNotes.{AreReadUpTo};
 ghost use Rattle.epx_merge.specs.LogLines.{meanings_of};
-ghost use Rattle.epx_merge.specs.LogReaders.{IsNoting};
+ghost use Rattle.epx_merge.specs.between.LogReaders.{IsNoting};
 ghost use Rattle.epx_merge.specs.Refusals.{FitLimits, IsRefusal};
 ghost use Rattle.epx_names.specs.Tasks.{HasInput};
 ghost use Rattle.epx_tool.specs.WithInput.{IsShort};

@@ -1,5 +1,5 @@
 //! Runs over logs: they read logs from sources, and write the answer to a sink.
-ghost use Rattle.std.specs.Prelude.{◌≡◌, ◌≢◌, ◌↔◌, ◌+◌, ◌<◌, ℕ, true, false, map, drop, length};
+ghost use Rattle.std.specs.Prelude.{◌≡◌, ◌≢◌, ◌↔◌, ◌+◌, ◌<◌, ℕ, true, false, drop, length};
 ghost use Rattle.std.specs.Prelude.{All, Some, slice_get, Ok, Err, OnOk, IfErr, IsErrOf};
 ghost use Rattle.std.specs.Io.KnownBytes.{Appends, Keeps, IsAtEnd};
 ghost use Rattle.epx_types.specs.Limits.{max_logs, max_log_bytes};

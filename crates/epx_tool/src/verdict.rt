@@ -4,7 +4,7 @@ ghost use Rattle.epx_report.specs.ViewLines.{lawful_line};
 ghost use Rattle.epx_tool.specs.Verdicts.{IsPrefixVerdict, IsSaidVerdict, IsVerdict};
 ghost use Rattle.epx_tool.specs.Verdicts.{order_fault_text};
 
-use crate::findings::{Answer, is_other};
+use crate::findings::{Answer, is_not_line};
 use epx_graph::build;
 use epx_merge::Merged;
 use epx_ranking::{OrderFault, check_order, check_prefix};
@@ -55,7 +55,7 @@ pub(crate) fn verdict_of<R: Threads + Sync>(
     let graph = build(rt, alloc, merged, plan)?;
     let found = check_order(alloc, merged, &graph, ids);
     let text = verdict_line(alloc, found)?;
-    let has_findings = is_other(alloc, &text, "lawful")?;
+    let has_findings = is_not_line(alloc, &text, "lawful")?;
     Ok(Answer::new(text, has_findings))
 }
 
@@ -75,7 +75,7 @@ pub(crate) fn prefix_verdict_of<R: Threads + Sync>(
     let graph = build(rt, alloc, merged, plan)?;
     let found = check_prefix(alloc, merged, &graph, ids);
     let text = verdict_line(alloc, found)?;
-    let has_findings = is_other(alloc, &text, "lawful")?;
+    let has_findings = is_not_line(alloc, &text, "lawful")?;
     Ok(Answer::new(text, has_findings))
 }
 
@@ -100,6 +100,6 @@ pub(crate) fn said_verdict_of<R: Threads + Sync>(
     }
     let mut text = verdict.text;
     text.extend_from_slice(&differences_text(alloc, merged, said)?)?;
-    let has_findings = is_other(alloc, &text, "lawful")?;
+    let has_findings = is_not_line(alloc, &text, "lawful")?;
     Ok(Answer::new(text, has_findings))
 }

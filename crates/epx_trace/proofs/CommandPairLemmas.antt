@@ -10,10 +10,10 @@ zip-maps : {A B C : Type 0} (f : A → B) (g : A → C) (xs : List A)
 zip-maps f g [] = refl
 zip-maps f g (x ∷ xs) = ap (λ rest. (f x, g x) ∷ rest) (zip-maps f g xs)
 
-pub commands_paired : (m : List Instance) (ids : List Id) (commands : List Command)
+pub map-command_of : (m : List Instance) (ids : List Id) (commands : List Command)
     → map (λ c. c.id) commands ≡ ids → map (λ c. c.ops.now) commands ≡ commands_in m ids
     → map (λ c. (c.id, c.ops.now)) commands ≡ map (command_of m) ids
-commands_paired m ids commands same found =
+map-command_of m ids commands same found =
     sym (zip-maps (λ (c : Command). c.id) (λ (c : Command). c.ops.now) commands)
     ∙ ap₂ zip (same ∙ sym (map-id ids)) found
     ∙ zip-maps (λ (x : Id). x) (λ x. ops_or_empty (instance_of m x)) ids

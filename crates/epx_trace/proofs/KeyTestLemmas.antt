@@ -4,9 +4,11 @@ use Rattle.std.proofs.Common.{Option, map, Contains, refl, sym, ap, ◌∙◌, t
 use Rattle.epx_types.proofs.Common.{list_any, eq_by_cmp, cases_Bool, Contains-from_any}
 use Rattle.epx_types.proofs.Common.{list_any-from_Contains, key_cmp, rising_keys, touched_by}
 use Rattle.epx_types.proofs.Common.{written_by, touched_keys, written_keys, command_on, Contents}
-use Rattle.epx_types.proofs.Common.{writes_by, written_or_same, written_keys-touched, after-abort}
-use Rattle.epx_types.proofs.Common.{Contains-rising_keys, Contains-from_rising_keys, key_cmp_total}
-use Rattle.epx_types.proofs.Common.{same_key}
+use Rattle.epx_types.proofs.Common.{writes_by, written_keys-or_same, written_keys-touched}
+use Rattle.epx_types.proofs.Common.{after-abort}
+use Rattle.epx_types.proofs.Common.{Contains-rising_keys, Contains-from_rising_keys}
+use Rattle.epx_types.proofs.Common.{key_cmp-IsTotalOrder}
+use Rattle.epx_types.proofs.Common.{eq_by_cmp-same_key}
 use Rattle.epx_types.specs.declared.op.Op.{Op}
 use Rattle.epx_types.specs.declared.reply.Reply.{Reply}
 use Rattle.epx_types.specs.declared.reply.Reply.TheVariants.{Values, Abort}
@@ -18,10 +20,10 @@ use Rattle.epx_types.specs.Writes.{Write}
 use Rattle.epx_trace.specs.Traces.{has_key, writes_key}
 
 Contains-from_has_key : (ks : List (List ℕ)) (k : List ℕ) → has_key ks k ≡ true → Contains ks k
-Contains-from_has_key ks k = Contains-from_any {eq = eq_by_cmp key_cmp} same_key k ks
+Contains-from_has_key ks k = Contains-from_any {eq = eq_by_cmp key_cmp} eq_by_cmp-same_key k ks
 
 has_key-from_Contains : (ks : List (List ℕ)) (k : List ℕ) → Contains ks k → has_key ks k ≡ true
-has_key-from_Contains ks k h = list_any-from_Contains (eq_by_cmp_equiv key_cmp_total) k ks h
+has_key-from_Contains ks k h = list_any-from_Contains (eq_by_cmp_equiv key_cmp-IsTotalOrder) k ks h
 
 no_key : (ks : List (List ℕ)) (k : List ℕ) → has_key ks k ≡ false → ¬ Contains ks k
 no_key ks k none h = true≢false (sym (has_key-from_Contains ks k h) ∙ none)
@@ -51,13 +53,13 @@ any_op keys_by ops k =
     has_key-flat_map keys_by ops k ∙ sym (has_key-rising_keys (flat_map keys_by ops) k)
 
 -- a command touches a key if one of its operations does
-pub any_touches : (ops : List Op) (k : List ℕ)
+pub list_any-touches : (ops : List Op) (k : List ℕ)
     → list_any (λ op. has_key (touched_by op) k) ops ≡ has_key (touched_keys ops) k
-any_touches ops k = any_op touched_by ops k
+list_any-touches ops k = any_op touched_by ops k
 
-pub any_writes : (ops : List Op) (k : List ℕ)
+pub list_any-writes : (ops : List Op) (k : List ℕ)
     → list_any (λ op. has_key (written_by op) k) ops ≡ has_key (written_keys ops) k
-any_writes ops k = any_op written_by ops k
+list_any-writes ops k = any_op written_by ops k
 
 keys_of_writes : (ks : List (List ℕ)) (after : Contents)
     → map (λ (w : Write). w.0) (map (λ k. (k, contents.get after k)) ks) ≡ ks
@@ -74,24 +76,24 @@ has_key-writes_by reply got is ops after k =
 
 -- ---- a key that a command does not touch, or does not write, keeps its value
 
-pub untouched_stays : (ops : List Op) (c : Contents) (k : List ℕ)
+pub get-untouched : (ops : List Op) (c : Contents) (k : List ℕ)
     → has_key (touched_keys ops) k ≡ false
     → contents.get (command_on ops c).after k ≡ contents.get c k
-untouched_stays ops c k none =
-    elim (written_or_same ops c k) [
+get-untouched ops c k none =
+    elim (written_keys-or_same ops c k) [
       | inl written ↦ absurd (no_key (touched_keys ops) k none (written_keys-touched ops k written))
       | inr same ↦ same
     ]
 
-pub unwritten_stays : (ops : List Op) (c : Contents) (k : List ℕ) → writes_key ops c k ≡ false
+pub get-unwritten : (ops : List Op) (c : Contents) (k : List ℕ) → writes_key ops c k ≡ false
     → contents.get (command_on ops c).after k ≡ contents.get c k
-unwritten_stays ops c k none = by (command_on ops c).reply refl none where
+get-unwritten ops c k none = by (command_on ops c).reply refl none where
   by : (reply : Reply) → (command_on ops c).reply ≡ reply
       → has_key (map (λ w. w.0) (writes_by reply ops (command_on ops c).after)) k ≡ false
       → contents.get (command_on ops c).after k ≡ contents.get c k
   by (Abort j) is no_write = ap (λ d. contents.get d k) (after-abort ops c j is)
   by (Values got) is no_write =
-      elim (written_or_same ops c k) [
+      elim (written_keys-or_same ops c k) [
         | inl written ↦ absurd (no_key (written_keys ops) k
             (sym (has_key-writes_by (Values got) got refl ops (command_on ops c).after k)
             ∙ no_write) written)

@@ -3,23 +3,23 @@ use Rattle.std.proofs.Common.{◌≡◌, inl, inr, ℕ, ℤ, List, [], ◌∷◌
 use Rattle.std.proofs.Common.{ap, subst, ◌∙◌}
 use Rattle.std.specs.FinMap as contents
 use Rattle.epx_types.proofs.Common.{cases_Bool, command_on, touched_keys, Contents, Ranked}
-use Rattle.epx_types.proofs.Common.{IsExecutionOrder-unique, execution_order_exists}
+use Rattle.epx_types.proofs.Common.{IsExecutionOrder-unique, IsExecutionOrder-exists}
 use Rattle.epx_trace.specs.Traces.{IdCommand, has_key, writes_key, touch_of, trace_of}
 use Rattle.epx_trace.specs.TraceLaws.{value_before, value_left, FindLastWrites, TraceTextExists}
 use Rattle.epx_trace.specs.TraceLaws.{TraceTextIsUnique, TouchesFindLastWrites, LastWriteIsStored}
 use Rattle.epx_trace.specs.TraceLines.{touch_line}
 use Rattle.epx_trace.specs.TraceTexts.{ordered_commands}
-use Rattle.epx_trace.proofs.KeyTestLemmas.{untouched_stays, unwritten_stays}
+use Rattle.epx_trace.proofs.KeyTestLemmas.{get-untouched, get-unwritten}
 
-pub trace_text_exists : TraceTextExists
-trace_text_exists m key reads rising =
-    let order = execution_order_exists m rising in (
+pub TraceTextExists-holds : TraceTextExists
+TraceTextExists-holds m key reads rising =
+    let order = IsExecutionOrder-exists m rising in (
       flat_map (touch_line reads) (trace_of (ordered_commands m order.0) contents.empty key),
       record { order = order.0; ordered = order.1; printed = refl },
     )
 
-pub trace_text_is_unique : TraceTextIsUnique
-trace_text_is_unique m key reads text other p q =
+pub TraceTextIsUnique-holds : TraceTextIsUnique
+TraceTextIsUnique-holds m key reads text other p q =
     p.printed
     ∙ ap (λ (order : List Ranked). flat_map (touch_line reads)
     (trace_of (ordered_commands m order) contents.empty key))
@@ -38,16 +38,16 @@ touch_value_left : (p : IdCommand) (c : Contents) (k : List ℕ)
 touch_value_left p c k =
     elim (cases_Bool (writes_key p.1 c k)) [
       | inl w ↦ rw w refl
-      | inr r ↦ rw r (sym (unwritten_stays p.1 c k r))
+      | inr r ↦ rw r (sym (get-unwritten p.1 c k r))
     ]
 
 -- ---- the laws
 
-pub touches_find_last_writes : TouchesFindLastWrites
-touches_find_last_writes [] c k = tt
-touches_find_last_writes (p ∷ rest) c k =
+pub TouchesFindLastWrites-holds : TouchesFindLastWrites
+TouchesFindLastWrites-holds [] c k = tt
+TouchesFindLastWrites-holds (p ∷ rest) c k =
     let after = (command_on p.1 c).after in
-    let later = touches_find_last_writes rest after k in
+    let later = TouchesFindLastWrites-holds rest after k in
     elim (cases_Bool (has_key (touched_keys p.1) k)) [
       | inl touched ↦ rw touched (
         touch_value_before p c k,
@@ -55,16 +55,16 @@ touches_find_last_writes (p ∷ rest) c k =
             (sym (touch_value_left p c k)) later,
       )
       | inr none ↦ rw none (subst (λ (v : Option ℤ). FindLastWrites v (trace_of rest after k))
-          (untouched_stays p.1 c k none) later)
+          (get-untouched p.1 c k none) later)
     ]
 
-pub last_write_is_stored : LastWriteIsStored
-last_write_is_stored [] c k = refl
-last_write_is_stored (p ∷ rest) c k =
+pub LastWriteIsStored-holds : LastWriteIsStored
+LastWriteIsStored-holds [] c k = refl
+LastWriteIsStored-holds (p ∷ rest) c k =
     let after = (command_on p.1 c).after in
-    let later = last_write_is_stored rest after k in
+    let later = LastWriteIsStored-holds rest after k in
     let from : Option ℤ → Option ℤ = λ v. fold value_left v (trace_of rest after k) in
     elim (cases_Bool (has_key (touched_keys p.1) k)) [
       | inl touched ↦ rw touched (later ∙ ap from (sym (touch_value_left p c k)))
-      | inr none ↦ rw none (later ∙ ap from (untouched_stays p.1 c k none))
+      | inr none ↦ rw none (later ∙ ap from (get-untouched p.1 c k none))
     ]

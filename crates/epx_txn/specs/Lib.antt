@@ -1,2 +1,2 @@
-pub mod ReplyLengths
+pub mod between
 pub mod inner

@@ -104,7 +104,7 @@ pub(crate) enum Step {
 }
 
 /// Returns the value under a key as the command sees it: from the draft, or else from the store.
-fn read(draft: &Draft, store: &Store, key: &Key) -> Option<i64>
+fn value_before(draft: &Draft, store: &Store, key: &Key) -> Option<i64>
     ensures { result ≡ contents.get (contents_through draft.now store.now) key.now }
 {
     match draft.get(key) {
@@ -118,7 +118,7 @@ fn read_used(draft: &Draft, store: &Store, op: &Op) -> Option<i64>
     ensures { result ≡ value_used op.now (contents_through draft.now store.now) }
 {
     match key_used(op) {
-        Some(key) => read(draft, store, key),
+        Some(key) => value_before(draft, store, key),
         None => None,
     }
 }

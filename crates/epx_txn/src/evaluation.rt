@@ -3,7 +3,7 @@ ghost use Rattle.std.specs.Prelude.{◌≡◌, IfOk, OnOk};
 ghost use Rattle.std.specs.FinMap as contents;
 ghost use Rattle.epx_types.specs.Commands.{command_on};
 ghost use Rattle.epx_types.specs.Writes.{writes_of};
-ghost use Rattle.epx_txn.specs.ReplyLengths.{reply_length};
+ghost use Rattle.epx_txn.specs.between.ReplyLengths.{reply_length};
 
 use crate::draft::{Draft, Step, operate};
 use crate::lone_op::apply_lone;

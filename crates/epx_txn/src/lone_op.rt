@@ -9,7 +9,7 @@ use epx_types::{Memory, Op, Reply, Values};
 use std::alloc::Global;
 
 /// Returns the value in the store that an operation uses.
-fn read(store: &Store, op: &Op) -> Option<i64>
+fn value_before(store: &Store, op: &Op) -> Option<i64>
     ensures { result ≡ value_used op.now store.now }
 {
     match key_used(op) {
@@ -30,7 +30,7 @@ pub(crate) fn apply_lone(
     ensures after { OnOk result (store.new ≡ (command_on (op.now ∷ []) store.old).after) }
 {
     let mut got = Vec::with_capacity(alloc, room)?;
-    match action_of(op, read(store, op)) {
+    match action_of(op, value_before(store, op)) {
         Action::Read(value) => got.push(value)?,
         Action::Write(key, value) => store.write(key, value)?,
         Action::Pass => {}

@@ -1,6 +1,6 @@
 -- The names that the crates above cite, of this crate and of the kit, passed on from one place.
 -- Declares nothing.
-pub use Rattle.epx_types.specs.Accesses.{access_of, accesses_in}
+pub use Rattle.epx_types.specs.between.Accesses.{access_of, accesses_in}
 pub use Rattle.epx_types.specs.Agreement.{Agree, Differ, IsFirstDisagreement}
 pub use Rattle.epx_types.specs.CommandKeys.{accesses_of, touched_by, touched_keys, written_by}
 pub use Rattle.epx_types.specs.CommandKeys.{written_keys}
@@ -61,15 +61,15 @@ pub use Rattle.epx_types.proofs.commands.CommandLemmas.{after-abort, apply_write
 pub use Rattle.epx_types.proofs.commands.CommandLemmas.{command_on-HasSameOutcome, reply-abort}
 pub use Rattle.epx_types.proofs.commands.CommandLemmas.{writes_of-abort, writes_of-alike}
 pub use Rattle.epx_types.proofs.commands.CommandLemmas.{writes_of-distinct, writes_of-written}
-pub use Rattle.epx_types.proofs.commands.CommandLemmas.{written_keys-touched, written_or_same}
+pub use Rattle.epx_types.proofs.commands.CommandLemmas.{written_keys-touched, written_keys-or_same}
 pub use Rattle.epx_types.proofs.commands.ConflictLemmas.{Conflict-symm, after-exchanged}
 pub use Rattle.epx_types.proofs.commands.ConflictLemmas.{reply-no_conflict}
 pub use Rattle.epx_types.proofs.commands.ConflictListLemmas.{distinct_keys-none_conflict}
 pub use Rattle.epx_types.proofs.commands.ConflictListLemmas.{final-none_conflict}
 pub use Rattle.epx_types.proofs.commands.ConflictListLemmas.{replies-none_conflict, writes_over}
 pub use Rattle.epx_types.proofs.commands.ContentsLemmas.{get-assign, get-assign_agree}
-pub use Rattle.epx_types.proofs.commands.ContentsLemmas.{get-assign_cases, same_contents}
-pub use Rattle.epx_types.proofs.commands.EqualityLemmas.{ids_decide, ids_flip, ops_decide}
+pub use Rattle.epx_types.proofs.commands.ContentsLemmas.{get-assign_cases, Contents-extensional}
+pub use Rattle.epx_types.proofs.commands.EqualityLemmas.{id_eq-Decides, id_eq-sym, op_eq-Decides}
 pub use Rattle.epx_types.proofs.commands.ExecutionLemmas.{execute-append, length-replies}
 pub use Rattle.epx_types.proofs.commands.RearrangedListLemmas.{IsRearranged, Once}
 pub use Rattle.epx_types.proofs.commands.RearrangedListLemmas.{execute-rearranged}
@@ -80,13 +80,14 @@ pub use Rattle.epx_types.proofs.commands.RearrangementLemmas.{Precedes-from_Befo
 pub use Rattle.epx_types.proofs.commands.RearrangementLemmas.{final-rearranged, list_positions}
 pub use Rattle.epx_types.proofs.commands.RearrangementLemmas.{replies-rearranged, reply-rearranged}
 pub use Rattle.epx_types.proofs.commands.WriteLemmas.{apply_writes-append, get-put_entries}
-pub use Rattle.epx_types.proofs.commands.WriteLemmas.{put_entries-insert, read_after_writes}
+pub use Rattle.epx_types.proofs.commands.WriteLemmas.{put_entries-insert, apply_writes-read_back}
 pub use Rattle.epx_types.proofs.committed.AgreementLemmas.{IsCommittedBy-Agree}
 pub use Rattle.epx_types.proofs.committed.AgreementLemmas.{IsCommittedBy-unique}
 pub use Rattle.epx_types.proofs.committed.AgreementLemmas.{IsFirstDisagreement-not_Agree}
 pub use Rattle.epx_types.proofs.committed.AgreementLemmas.{IsFirstDisagreement-unique}
 pub use Rattle.epx_types.proofs.committed.AgreementLemmas.{IsRising-same, instance_of-finds}
-pub use Rattle.epx_types.proofs.committed.AgreementLemmas.{instance_of-found, instance_of_iff}
+pub use Rattle.epx_types.proofs.committed.AgreementLemmas.{instance_of-found}
+pub use Rattle.epx_types.proofs.committed.AgreementLemmas.{instance_of-iff_contains}
 pub use Rattle.epx_types.proofs.committed.PositionLemmas.{instance_of-position, position_of-found}
 pub use Rattle.epx_types.proofs.committed.PositionLemmas.{position_of-instance, position_of-within}
 pub use Rattle.epx_types.proofs.graph.DependencyLemmas.{DependsOn-committed, DependsOn-listed}
@@ -94,7 +95,8 @@ pub use Rattle.epx_types.proofs.graph.DependencyLemmas.{IsCommitted-from_Contain
 pub use Rattle.epx_types.proofs.graph.ReachingDecisionLemmas.{Contains-within_reach}
 pub use Rattle.epx_types.proofs.graph.ReachingDecisionLemmas.{DependsOn-cases, InOneComponent-cases}
 pub use Rattle.epx_types.proofs.graph.ReachingDecisionLemmas.{Reaches-cases, Reaches-committed}
-pub use Rattle.epx_types.proofs.graph.ReachingDecisionLemmas.{both_cases, not_cases, within_reach}
+pub use Rattle.epx_types.proofs.graph.ReachingDecisionLemmas.{both-cases, negation-cases}
+pub use Rattle.epx_types.proofs.graph.ReachingDecisionLemmas.{within_reach}
 pub use Rattle.epx_types.proofs.graph.ReachingLemmas.{InOneComponent-refl, InOneComponent-symm}
 pub use Rattle.epx_types.proofs.graph.ReachingLemmas.{InOneComponent-trans, IsDepth-along}
 pub use Rattle.epx_types.proofs.graph.ReachingLemmas.{IsDepth-falls, IsDepth-least, IsDepth-unique}
@@ -106,17 +108,18 @@ pub use Rattle.epx_types.proofs.graph.ReachingLemmas.{WaitsFor-unique}
 pub use Rattle.epx_types.proofs.graph.WaitingLemmas.{Below-parts, Contains-Id_cases, Id-cases}
 pub use Rattle.epx_types.proofs.graph.WaitingLemmas.{IsReady-from_no_wait, IsReady-none_missing}
 pub use Rattle.epx_types.proofs.graph.WaitingListLemmas.{IsWaitingList-unique}
-pub use Rattle.epx_types.proofs.keys.KeyHeadLemmas.{ordered_by_key_heads}
+pub use Rattle.epx_types.proofs.keys.KeyHeadLemmas.{slice_cmp-by_heads}
 pub use Rattle.epx_types.proofs.keys.KeyListLemmas.{AllPairs-rising_keys, Contains-from_rising_keys}
 pub use Rattle.epx_types.proofs.keys.KeyListLemmas.{Contains-rising_keys, add_keys-append}
-pub use Rattle.epx_types.proofs.keys.KeyListLemmas.{key_cases, key_cmp-IsAntisymmetric}
-pub use Rattle.epx_types.proofs.keys.KeyListLemmas.{key_cmp_total}
+pub use Rattle.epx_types.proofs.keys.KeyListLemmas.{key_cmp-cases, key_cmp-IsAntisymmetric}
+pub use Rattle.epx_types.proofs.keys.KeyListLemmas.{key_cmp-IsTotalOrder}
 pub use Rattle.epx_types.proofs.keys.SortedEntryLemmas.{entries-empty, entries-from_entries}
-pub use Rattle.epx_types.proofs.keys.SortedEntryLemmas.{find_below, first_of}
+pub use Rattle.epx_types.proofs.keys.SortedEntryLemmas.{find-below_all, and-first}
 pub use Rattle.epx_types.proofs.keys.SortedEntryLemmas.{insert_all-from_entries, keys_of-put}
-pub use Rattle.epx_types.proofs.keys.SortedEntryLemmas.{less_from_is_lt, same_key, second_of}
+pub use Rattle.epx_types.proofs.keys.SortedEntryLemmas.{Less-from_is_lt, eq_by_cmp-same_key}
+pub use Rattle.epx_types.proofs.keys.SortedEntryLemmas.{and-second}
 pub use Rattle.epx_types.proofs.keys.SortedEntryLemmas.{write_all}
-pub use Rattle.epx_types.proofs.levels.LevelExistenceLemmas.{Conflict-cases, levels_exist}
+pub use Rattle.epx_types.proofs.levels.LevelExistenceLemmas.{Conflict-cases, AreLevels-exists}
 pub use Rattle.epx_types.proofs.levels.LevelLemmas.{AreLevels-push, AreLevels-unique, IsLevel-least}
 pub use Rattle.epx_types.proofs.levels.LevelLemmas.{IsLevel-no_conflict, IsLevel-rises}
 pub use Rattle.epx_types.proofs.levels.LevelLemmas.{IsLevel-unique, each_level-reached}
@@ -127,15 +130,17 @@ pub use Rattle.epx_types.proofs.levels.LevelOrderLemmas.{Contains-level_position
 pub use Rattle.epx_types.proofs.levels.LevelOrderLemmas.{by_level-distinct, by_level-rearranges}
 pub use Rattle.epx_types.proofs.levels.LevelOrderLemmas.{length-level_positions, level-no_conflict}
 pub use Rattle.epx_types.proofs.levels.LevelOrderLemmas.{level_positions-rising, levels-climb}
-pub use Rattle.epx_types.proofs.levels.LevelPositionLemmas.{fold-level_count, level_below_count}
+pub use Rattle.epx_types.proofs.levels.LevelPositionLemmas.{fold-level_count}
+pub use Rattle.epx_types.proofs.levels.LevelPositionLemmas.{level_count-above_each}
 pub use Rattle.epx_types.proofs.lists.BeforeLemmas.{Before-across, Before-append_left}
 pub use Rattle.epx_types.proofs.lists.BeforeLemmas.{Before-append_right, Before-filter}
 pub use Rattle.epx_types.proofs.lists.BeforeLemmas.{Before-from_Precedes, slice_get-append_left}
-pub use Rattle.epx_types.proofs.lists.ComparisonLemmas.{first_is_equal, id_cmp-Decides}
-pub use Rattle.epx_types.proofs.lists.ComparisonLemmas.{id_cmp-IsAntisymmetric, id_cmp_total}
-pub use Rattle.epx_types.proofs.lists.ComparisonLemmas.{place_cmp_total, rank_cmp_total}
-pub use Rattle.epx_types.proofs.lists.ComparisonLemmas.{second_is_equal}
-pub use Rattle.epx_types.proofs.lists.IdListLemmas.{rising_from_strict}
+pub use Rattle.epx_types.proofs.lists.ComparisonLemmas.{ordering_then-first_equal, id_cmp-Decides}
+pub use Rattle.epx_types.proofs.lists.ComparisonLemmas.{id_cmp-IsAntisymmetric, id_cmp-IsTotalOrder}
+pub use Rattle.epx_types.proofs.lists.ComparisonLemmas.{place_cmp-IsTotalOrder}
+pub use Rattle.epx_types.proofs.lists.ComparisonLemmas.{rank_cmp-IsTotalOrder}
+pub use Rattle.epx_types.proofs.lists.ComparisonLemmas.{ordering_then-second_equal}
+pub use Rattle.epx_types.proofs.lists.IdListLemmas.{IsRising-from_strict}
 pub use Rattle.epx_types.proofs.lists.ListPositionLemmas.{AllPairs-append, AllPairs-first}
 pub use Rattle.epx_types.proofs.lists.ListPositionLemmas.{AllPairs-from_parts}
 pub use Rattle.epx_types.proofs.lists.ListPositionLemmas.{AllPairs-from_slice_get, AllPairs-head}
@@ -152,18 +157,21 @@ pub use Rattle.epx_types.proofs.lists.MembershipLemmas.{agree-from_map, map-agre
 pub use Rattle.epx_types.proofs.lists.MembershipLemmas.{passes-from_filter}
 pub use Rattle.epx_types.proofs.lists.PieceLemmas.{piece_count-above, piece_end-after_start}
 pub use Rattle.epx_types.proofs.lists.PieceLemmas.{piece_end-last, piece_end-next}
-pub use Rattle.epx_types.proofs.lists.PieceLemmas.{piece_end-within_cut, piece_of_item}
+pub use Rattle.epx_types.proofs.lists.PieceLemmas.{piece_end-within_cut, piece_start-for_item}
 pub use Rattle.epx_types.proofs.lists.RisingIdLemmas.{AllPairs-from_IsRising}
 pub use Rattle.epx_types.proofs.lists.RisingIdLemmas.{AllPairs-from_rising_ids, BelowAll-from_each}
 pub use Rattle.epx_types.proofs.lists.RisingIdLemmas.{BelowAll-trans, IsRising-from_AllPairs}
 pub use Rattle.epx_types.proofs.lists.RisingIdLemmas.{IsRising-from_neighbours, IsRising-push}
-pub use Rattle.epx_types.proofs.lists.RisingIdLemmas.{rising_once, rising_position_is_unique}
-pub use Rattle.epx_types.proofs.lists.RisingIdLemmas.{rising_positions, same_ids}
-pub use Rattle.epx_types.proofs.lists.RisingListLemmas.{AreThose, rising_list}
-pub use Rattle.epx_types.proofs.lists.SearchLemmas.{least_or_none, none_from_test, some_or_none}
-pub use Rattle.epx_types.proofs.lists.SearchLemmas.{value_of_some}
-pub use Rattle.epx_types.proofs.lists.TotalOrderLemmas.{Less-is_lt, below_asymm, below_cases}
-pub use Rattle.epx_types.proofs.lists.TotalOrderLemmas.{below_irrefl, below_trans, same_rising}
+pub use Rattle.epx_types.proofs.lists.RisingIdLemmas.{AllPairs-rising_distinct}
+pub use Rattle.epx_types.proofs.lists.RisingIdLemmas.{slice_get-rising_is_unique}
+pub use Rattle.epx_types.proofs.lists.RisingIdLemmas.{Below-by_position, IsRising-is_unique}
+pub use Rattle.epx_types.proofs.lists.RisingListLemmas.{AreThose, AreThose-exists}
+pub use Rattle.epx_types.proofs.lists.SearchLemmas.{IsLeastOf-or_none, is_some-false}
+pub use Rattle.epx_types.proofs.lists.SearchLemmas.{Contains-some_or_none}
+pub use Rattle.epx_types.proofs.lists.SearchLemmas.{is_some-true}
+pub use Rattle.epx_types.proofs.lists.TotalOrderLemmas.{Less-is_lt, is_lt-asymm, is_lt-cases}
+pub use Rattle.epx_types.proofs.lists.TotalOrderLemmas.{is_lt-irrefl, is_lt-trans}
+pub use Rattle.epx_types.proofs.lists.TotalOrderLemmas.{AllPairs-is_unique}
 pub use Rattle.epx_types.proofs.orders.ExecutionOrderLemmas.{Before-from_rank}
 pub use Rattle.epx_types.proofs.orders.ExecutionOrderLemmas.{IsExecutionOrder-IsLawful}
 pub use Rattle.epx_types.proofs.orders.ExecutionOrderLemmas.{IsExecutionOrder-leaders}
@@ -172,28 +180,30 @@ pub use Rattle.epx_types.proofs.orders.ExecutionOrderLemmas.{IsExecutionOrder-ra
 pub use Rattle.epx_types.proofs.orders.ExecutionOrderLemmas.{IsExecutionOrder-unique}
 pub use Rattle.epx_types.proofs.orders.ExecutionOrderLemmas.{IsRanked-unique}
 pub use Rattle.epx_types.proofs.orders.LawfulExecutionLemmas.{final-lawful, reply-lawful}
-pub use Rattle.epx_types.proofs.orders.LawfulExecutionLemmas.{reply_function}
+pub use Rattle.epx_types.proofs.orders.LawfulExecutionLemmas.{map-of_replies}
 pub use Rattle.epx_types.proofs.orders.LawfulOrderLemmas.{Before-alike_reached}
 pub use Rattle.epx_types.proofs.orders.LawfulOrderLemmas.{Before-alike_reaching, Before-cases}
 pub use Rattle.epx_types.proofs.orders.LawfulOrderLemmas.{Before-differ, Before-in_first}
 pub use Rattle.epx_types.proofs.orders.LawfulOrderLemmas.{Before-in_second, Before-not_both}
-pub use Rattle.epx_types.proofs.orders.LawfulOrderLemmas.{same_position, sequence_cmp_total}
+pub use Rattle.epx_types.proofs.orders.LawfulOrderLemmas.{slice_get-is_unique}
+pub use Rattle.epx_types.proofs.orders.LawfulOrderLemmas.{sequence_cmp-IsTotalOrder}
 pub use Rattle.epx_types.proofs.orders.LawfulPartLemmas.{IsLawful-part_and_rest, IsLawfulFor-same}
-pub use Rattle.epx_types.proofs.orders.LawfulPartLemmas.{IsLawfulFor-together, not_in_part}
-pub use Rattle.epx_types.proofs.orders.LawfulPartLemmas.{passes_rest}
-pub use Rattle.epx_types.proofs.orders.OrderExistenceLemmas.{execution_order_exists}
-pub use Rattle.epx_types.proofs.orders.OrderExistenceLemmas.{waiting_list_exists}
-pub use Rattle.epx_types.proofs.orders.OrderLengthLemmas.{fewer, ordered_are_few}
-pub use Rattle.epx_types.proofs.orders.RankExistenceLemmas.{depth_exists, leader_exists}
-pub use Rattle.epx_types.proofs.orders.RankExistenceLemmas.{ready_or_waits}
+pub use Rattle.epx_types.proofs.orders.LawfulPartLemmas.{IsLawfulFor-together, remaining_ids-apart}
+pub use Rattle.epx_types.proofs.orders.LawfulPartLemmas.{is_among-passes_rest}
+pub use Rattle.epx_types.proofs.orders.OrderExistenceLemmas.{IsExecutionOrder-exists}
+pub use Rattle.epx_types.proofs.orders.OrderExistenceLemmas.{IsWaitingList-exists}
+pub use Rattle.epx_types.proofs.orders.OrderLengthLemmas.{length-at_most, IsExecutionOrder-length}
+pub use Rattle.epx_types.proofs.orders.RankExistenceLemmas.{IsDepth-exists, IsLeader-exists}
+pub use Rattle.epx_types.proofs.orders.RankExistenceLemmas.{IsReady-or_waits}
 pub use Rattle.epx_types.proofs.remaining.RemainingCommandLemmas.{commands-left, length-remaining}
 pub use Rattle.epx_types.proofs.remaining.RemainingLemmas.{Contains-remaining_iff}
 pub use Rattle.epx_types.proofs.remaining.RemainingLemmas.{DependsOn-remaining, IsRising-remaining}
-pub use Rattle.epx_types.proofs.remaining.RemainingLemmas.{from_remaining, is_among_cases}
-pub use Rattle.epx_types.proofs.remaining.RemainingLemmas.{not_among, not_done, remaining-nil}
-pub use Rattle.epx_types.proofs.remaining.RemainingPositionLemmas.{Contains-left, remaining_more}
-pub use Rattle.epx_types.proofs.remaining.RemainingPositionLemmas.{remaining_position}
-pub use Rattle.epx_types.proofs.remaining.RemainingPositionLemmas.{remaining_skip}
+pub use Rattle.epx_types.proofs.remaining.RemainingLemmas.{remaining-from_map, is_among-cases}
+pub use Rattle.epx_types.proofs.remaining.RemainingLemmas.{is_among-false, is_among-excludes}
+pub use Rattle.epx_types.proofs.remaining.RemainingLemmas.{remaining-nil}
+pub use Rattle.epx_types.proofs.remaining.RemainingPositionLemmas.{Contains-left, remaining-more}
+pub use Rattle.epx_types.proofs.remaining.RemainingPositionLemmas.{remaining-position}
+pub use Rattle.epx_types.proofs.remaining.RemainingPositionLemmas.{remaining-skip}
 pub use Rattle.epx_types.proofs.remaining.ResumedExecutionLemmas.{IsSound-final}
 pub use Rattle.epx_types.proofs.remaining.ResumedExecutionLemmas.{IsSound-nothing_done}
 pub use Rattle.epx_types.proofs.remaining.ResumedExecutionLemmas.{IsSound-part, IsSound-resumed}

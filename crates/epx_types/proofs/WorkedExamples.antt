@@ -15,7 +15,7 @@ use Rattle.epx_types.specs.Commands.{command_on}
 use Rattle.epx_types.specs.CommandKeys.{touched_keys, written_keys}
 use Rattle.epx_types.specs.Writes.{Write, writes_of}
 use Rattle.epx_types.specs.Execution.{execute}
-use Rattle.epx_types.proofs.keys.KeyListLemmas.{key_cmp_total}
+use Rattle.epx_types.proofs.keys.KeyListLemmas.{key_cmp-IsTotalOrder}
 
 abbrev a : List ℕ
 a = codes "a"
@@ -48,11 +48,11 @@ at_empty q = get-empty key_cmp q
 at_insert : (m : Contents) (k : List ℕ) (v : ℤ) (q : List ℕ)
     → contents.get (contents.insert m k v) q
     ≡ cond (eq_by_cmp key_cmp q k) (Some v) (contents.get m q)
-at_insert m k v q = get-insert key_cmp_total m k v q
+at_insert m k v q = get-insert key_cmp-IsTotalOrder m k v q
 
 at_remove : (m : Contents) (k q : List ℕ)
     → contents.get (contents.remove m k) q ≡ cond (eq_by_cmp key_cmp q k) None (contents.get m q)
-at_remove m k q = get-remove key_cmp_total m k q
+at_remove m k q = get-remove key_cmp-IsTotalOrder m k q
 
 -- a command has this reply and these writes
 abbrev HasOutcome : List Op → Contents → Reply → List Write → Type 0

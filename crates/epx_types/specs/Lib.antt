@@ -7,7 +7,6 @@ pub mod Contents
 pub mod Operations
 pub mod Commands
 pub mod CommandKeys
-pub mod Accesses
 pub mod Writes
 pub mod Execution
 pub mod PlacedLines
@@ -29,4 +28,7 @@ pub mod Pieces
 pub mod Done
 pub mod Sound
 pub mod Faults
-pub mod inner
+pub mod KeyTexts
+pub mod LongTexts
+pub mod ShortTexts
+pub mod between

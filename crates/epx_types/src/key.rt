@@ -1,5 +1,5 @@
 //! Keys of the store.
-ghost use Rattle.std.specs.Prelude.{◌≡◌, ◌<◌, ◌≤◌, length, IfOk, IfSome, IfNone};
+ghost use Rattle.std.specs.Prelude.{◌≡◌, ◌<◌, IfOk, IfSome};
 ghost use Rattle.std.specs.Prelude.{IsSome, ◌↔◌};
 ghost use Rattle.epx_types.specs.Keys.{FitsKey};
 ghost use Rattle.epx_types.specs.KeyHeads.{AreBytes, head_of};
@@ -26,7 +26,7 @@ pub struct Key {
 impl Model for Key {
     ghost use Rattle.std.specs.Prelude.{◌≡◌, List, ℕ};
     ghost use Rattle.epx_types.specs.Keys.{FitsKey};
-    ghost use Rattle.epx_types.specs.inner.KeyTexts.{text_bytes};
+    ghost use Rattle.epx_types.specs.KeyTexts.{text_bytes};
 
     ghost Value = { List ℕ };
 

@@ -1,7 +1,7 @@
 //! The text of a key, stored in the key itself if it is short.
 ghost use Rattle.std.specs.Prelude.{◌≡◌, ◌≤◌, length, IfOk};
 ghost use Rattle.epx_types.specs.KeyHeads.{AreBytes, head_of};
-ghost use Rattle.epx_types.specs.inner.KeyTexts.{text_bytes};
+ghost use Rattle.epx_types.specs.KeyTexts.{text_bytes};
 
 use crate::long_text::LongText;
 use crate::memory::Memory;

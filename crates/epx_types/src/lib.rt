@@ -10,6 +10,7 @@ pub mod fault;
 pub mod id;
 pub mod id_list;
 pub mod key;
+pub mod key_set;
 mod key_text;
 pub mod limits;
 mod long_text;

@@ -1,7 +1,7 @@
 //! Long texts, stored behind a box.
 ghost use Rattle.std.specs.Prelude.{◌≡◌, ◌<◌, ◌≤◌, slice_index_or, length, IfOk};
 ghost use Rattle.epx_types.specs.KeyHeads.{AreBytes, head_of};
-ghost use Rattle.epx_types.specs.inner.LongTexts.{IsHeadOf};
+ghost use Rattle.epx_types.specs.LongTexts.{IsHeadOf};
 
 use crate::key::MAX_KEY_BYTES;
 use crate::memory::Memory;

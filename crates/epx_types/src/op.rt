@@ -1,6 +1,6 @@
 //! The operations of a command.
 ghost use Rattle.std.specs.Prelude.{◌≡◌, IfOk, true, false};
-ghost use Rattle.epx_types.specs.Accesses.{access_of, accesses_in};
+ghost use Rattle.epx_types.specs.between.Accesses.{access_of, accesses_in};
 ghost use Rattle.epx_types.specs.CommandKeys.{accesses_of};
 
 use crate::key::Key;

@@ -1,5 +1,5 @@
 //! Plans: how many workers share the work, and into which pieces it is cut.
-ghost use Rattle.std.specs.Prelude.{◌≡◌, ◌≤◌, ◌<◌, ◌↔◌, IsSome, IfSome};
+ghost use Rattle.std.specs.Prelude.{◌≡◌, ◌<◌, ◌↔◌, IsSome, IfSome};
 ghost use Rattle.epx_types.specs.Pieces.{IsWithinLimits, piece_count, piece_start, piece_end};
 
 use std::marker::Model;

@@ -1,7 +1,7 @@
 //! Short texts, stored in place.
 ghost use Rattle.std.specs.Prelude.{◌≡◌, IfSome, take};
 ghost use Rattle.epx_types.specs.KeyHeads.{AreBytes, head_of};
-ghost use Rattle.epx_types.specs.inner.ShortTexts.{IsShortText};
+ghost use Rattle.epx_types.specs.ShortTexts.{IsShortText};
 
 use crate::key::MAX_SHORT_KEY_BYTES;
 use std::str;

@@ -14,9 +14,10 @@ use Rattle.std.proofs.lemmas.List.Elements.{Contains-append_left, Contains-appen
 use Rattle.std.proofs.lemmas.Map.Views.{Contains-from_any}
 use Rattle.std.proofs.lemmas.Option.{slice_get-map}
 use Rattle.std.proofs.lemmas.Slice.Eq.{slice_eq-Decides}
-use Rattle.epx_types.proofs.Common.{same_value, Contents, same_contents}
+use Rattle.epx_types.proofs.Common.{same_value, Contents, Contents-extensional}
 use Rattle.epx_types.proofs.Common.{Contains-rising_keys, nat_tests, length-map, length-replies}
-use Rattle.epx_types.proofs.Common.{commands_in, same_key, Contains-cons_cases, Contains-nil}
+use Rattle.epx_types.proofs.Common.{commands_in, eq_by_cmp-same_key, Contains-cons_cases}
+use Rattle.epx_types.proofs.Common.{Contains-nil}
 use Rattle.epx_types.specs.declared.id.Id.{Id}
 use Rattle.epx_types.specs.declared.reply.Reply.{Reply}
 use Rattle.epx_types.specs.declared.reply.Reply.TheVariants.{Values, Abort}
@@ -41,26 +42,27 @@ number_true v w e = grind (arith, ints)
 number_itself : (v : ℤ) → (not (int_lt v v) && not (int_lt v v)) ≡ true
 number_itself v = grind (arith, ints)
 
-pub values_decide : (a b : Option ℤ) → Decides (same_value a b) (a ≡ b)
-values_decide None None = (λ e. refl, λ e. refl)
-values_decide None (Some w) = (λ e. absurd (cc e), λ e. absurd (cc e))
-values_decide (Some v) None = (λ e. absurd (cc e), λ e. absurd (cc e))
-values_decide (Some v) (Some w) = (
+pub Decides-same_value : (a b : Option ℤ) → Decides (same_value a b) (a ≡ b)
+Decides-same_value None None = (λ e. refl, λ e. refl)
+Decides-same_value None (Some w) = (λ e. absurd (cc e), λ e. absurd (cc e))
+Decides-same_value (Some v) None = (λ e. absurd (cc e), λ e. absurd (cc e))
+Decides-same_value (Some v) (Some w) = (
   λ e. ap Some (number_true v w e),
   λ e. subst (λ o. same_value (Some v) o ≡ true) e (number_itself v),
 )
 
 lists_decide : (vs ws : List (Option ℤ)) → Decides (pointwise same_value vs ws) (vs ≡ ws)
-lists_decide vs ws = slice_eq-Decides values_decide vs ws (pointwise same_value vs ws) refl
+lists_decide vs ws = slice_eq-Decides Decides-same_value vs ws (pointwise same_value vs ws) refl
 
-pub replies_decide : (a b : Reply) → Decides (same_reply a b) (a ≡ b)
-replies_decide (Values vs) (Values ws) = (
+pub Decides-same_reply : (a b : Reply) → Decides (same_reply a b) (a ≡ b)
+Decides-same_reply (Values vs) (Values ws) = (
   λ e. ap Values ((lists_decide vs ws).0 e),
   λ e. (lists_decide vs ws).1 (cc e),
 )
-replies_decide (Values vs) (Abort k) = (λ e. absurd (cc e), λ e. absurd (cc e))
-replies_decide (Abort j) (Values ws) = (λ e. absurd (cc e), λ e. absurd (cc e))
-replies_decide (Abort j) (Abort k) = (λ e. grind (arith, nat_tests), λ e. grind (arith, nat_tests))
+Decides-same_reply (Values vs) (Abort k) = (λ e. absurd (cc e), λ e. absurd (cc e))
+Decides-same_reply (Abort j) (Values ws) = (λ e. absurd (cc e), λ e. absurd (cc e))
+Decides-same_reply (Abort j) (Abort k) =
+    (λ e. grind (arith, nat_tests), λ e. grind (arith, nat_tests))
 
 -- `==` of values and of lists of values is the same test
 pub option_eq-same_value : (a b : Option ℤ) → option_eq int_eq a b ≡ same_value a b
@@ -90,15 +92,15 @@ nothing_if : (same : Bool) (ds : List Data) → (if same then [] else line_of ds
 nothing_if true ds e = refl
 nothing_if false ds e = absurd (not_empty (compact_text (array_of ds)) 10 e)
 
-pub both_empty : (xs ys : List ℕ) → xs ++ ys ≡ [] → (xs ≡ []) × (ys ≡ [])
-both_empty [] ys e = (refl, e)
-both_empty (x ∷ xs) ys e = absurd (cc e)
+pub append-both_nil : (xs ys : List ℕ) → xs ++ ys ≡ [] → (xs ≡ []) × (ys ≡ [])
+append-both_nil [] ys e = (refl, e)
+append-both_nil (x ∷ xs) ys e = absurd (cc e)
 
 module _ {X : Type 0} (f : X → List ℕ) where
   each_empty : (xs : List X) → flat_map f xs ≡ [] → (x : X) → Contains xs x → f x ≡ []
   each_empty [] e x h = absurd (Contains-nil x h)
   each_empty (y ∷ ys) e x h =
-      let parts = both_empty (f y) (flat_map f ys) e in
+      let parts = append-both_nil (f y) (flat_map f ys) e in
       elim (Contains-cons_cases y ys x h) [
         | inl same ↦ ap f (sym same) ∙ parts.0
         | inr rest ↦ each_empty ys parts.1 x rest
@@ -116,23 +118,24 @@ replies_right [] [] l e = refl
 replies_right [] (r ∷ right) l e = absurd (omega (arith, l))
 replies_right (p ∷ said) [] l e = absurd (omega (arith, l))
 replies_right (p ∷ said) (r ∷ right) l e =
-    let parts = both_empty (reply_difference (p, r)) (flat_map reply_difference (zip said right)) e
+    let parts =
+    append-both_nil (reply_difference (p, r)) (flat_map reply_difference (zip said right)) e
     in
     let same = nothing_if (same_reply p.1 r) (wrong_reply_data p.0 p.1 r) parts.0 in
-    ap₂ (λ a more. a ∷ more) ((replies_decide p.1 r).0 same)
+    ap₂ (λ a more. a ∷ more) ((Decides-same_reply p.1 r).0 same)
     (replies_right said right (omega (arith, l)) parts.1)
 
 no_wrong_reply : (said : List (Id × Reply))
     → flat_map reply_difference (zip said (map (λ p. p.1) said)) ≡ []
 no_wrong_reply [] = refl
-no_wrong_reply (p ∷ said) = rw ((replies_decide p.1 p.1).1 refl) (no_wrong_reply said)
+no_wrong_reply (p ∷ said) = rw ((Decides-same_reply p.1 p.1).1 refl) (no_wrong_reply said)
 
 -- ---- stores
 
 present : (m : Contents) (q : List ℕ) (v : ℤ) → contents.get m q ≡ Some v
     → Contains (contents.keys m) q
 present m q v e =
-    Contains-from_any same_key q (contents.keys m)
+    Contains-from_any eq_by_cmp-same_key q (contents.keys m)
     (sym (contents.contains_key-keys m q) ∙ ap is_some e)
 
 module _ (said right : Contents) where
@@ -144,7 +147,7 @@ module _ (said right : Contents) where
       (Contains-rising_keys (contents.keys said ++ contents.keys right) q h) in
       let v = contents.get said q in
       let w = contents.get right q in
-      (values_decide v w).0 (nothing_if (same_value v w) (wrong_value_data q v w) none)
+      (Decides-same_value v w).0 (nothing_if (same_value v w) (wrong_value_data q v w) none)
 
   value_right_at : (q : List ℕ) (v w : Option ℤ) → store_differences said right ≡ []
       → contents.get said q ≡ v → contents.get right q ≡ w
@@ -156,12 +159,12 @@ module _ (said right : Contents) where
       (Contains-append_left (contents.keys said) (contents.keys right) q (present said q v a))
 
   store_right : store_differences said right ≡ [] → said ≡ right
-  store_right e = same_contents said right (λ q.
+  store_right e = Contents-extensional said right (λ q.
       value_right_at q (contents.get said q) (contents.get right q) e refl refl)
 
 no_wrong_value : (said : Contents) → store_differences said said ≡ []
 no_wrong_value said = all_empty (value_difference said said) (keys_of_either said said) (λ k.
-    rw ((values_decide (contents.get said k) (contents.get said k)).1 refl) refl)
+    rw ((Decides-same_value (contents.get said k) (contents.get said k)).1 refl) refl)
 
 -- ---- the laws
 
@@ -169,13 +172,13 @@ as_many_replies : (m : List Instance) (ids : List Id)
     → length (list_execution m ids).replies ≡ length ids
 as_many_replies m ids = length-replies (commands_in m ids) contents.empty ∙ length-map ids _
 
-pub no_difference_if_right : NoDifferenceIfRight
-no_difference_if_right m replies stored =
+pub NoDifferenceIfRight-holds : NoDifferenceIfRight
+NoDifferenceIfRight-holds m replies stored =
     let ids = replied_ids replies in
     let right = list_execution m ids in
     let many = as_many_replies m ids ∙ length-map replies (λ p. p.0) in (
       λ e.
-          let parts = both_empty (flat_map reply_difference (zip replies right.replies))
+          let parts = append-both_nil (flat_map reply_difference (zip replies right.replies))
           (store_differences stored right.final) e in (
             replies_right replies right.replies many parts.0,
             store_right stored right.final parts.1,
@@ -200,21 +203,21 @@ module _ {X Y : Type 0} where
   second-zip (x ∷ xs) [] l = absurd (omega (arith, l))
   second-zip (x ∷ xs) (y ∷ ys) l = ap (λ zs. y ∷ zs) (second-zip xs ys (omega (arith, l)))
 
-pub replay_has_no_difference : ReplayHasNoDifference
-replay_has_no_difference m ids =
+pub ReplayHasNoDifference-holds : ReplayHasNoDifference
+ReplayHasNoDifference-holds m ids =
     let right = list_execution m ids in
     let many = as_many_replies m ids in
     let same = ap (list_execution m) (first-zip ids right.replies many) in
-    (no_difference_if_right m (zip ids right.replies) right.final).1 (
+    (NoDifferenceIfRight-holds m (zip ids right.replies) right.final).1 (
       second-zip ids right.replies many ∙ ap (λ e. e.replies) (sym same),
       ap (λ e. e.final) (sym same),
     )
 
-pub right_replies_are_those_of_all_orders : RightRepliesAreThoseOfAllOrders
-right_replies_are_those_of_all_orders m rising covered replies stored whole prefix none lawful i j
+pub list_execution-right_replies : RightRepliesAreThoseOfAllOrders
+list_execution-right_replies m rising covered replies stored whole prefix none lawful i j
     x r here there =
     let ids = replied_ids replies in
-    let right = ((no_difference_if_right m replies stored).0 none).0 in
+    let right = ((NoDifferenceIfRight-holds m replies stored).0 none).0 in
     let id = slice_get-map (λ p. p.0) replies i ∙ ap (option_map (λ p. p.0)) here in
     let reply = slice_get-map (λ p. p.1) replies i ∙ ap (option_map (λ p. p.1)) here in
     sym (reply-prefix m rising covered ids prefix.0 whole prefix.1 lawful contents.empty i j x id

@@ -24,10 +24,10 @@ outcome_is_whole : (r : Reply) → has_float (outcome_data r) ≡ false
 outcome_is_whole (Values vs) = rw (values_are_whole vs) refl
 outcome_is_whole (Abort j) = refl
 
-pub wrong_reply_is_whole : (x : Id) (said right : Reply)
+pub has_float-wrong_reply : (x : Id) (said right : Reply)
     → has_float (array_of (wrong_reply_data x said right)) ≡ false
-wrong_reply_is_whole x said right = rw (outcome_is_whole said, outcome_is_whole right) refl
+has_float-wrong_reply x said right = rw (outcome_is_whole said, outcome_is_whole right) refl
 
-pub wrong_value_is_whole : (k : List ℕ) (said right : Option ℤ)
+pub has_float-wrong_value : (k : List ℕ) (said right : Option ℤ)
     → has_float (array_of (wrong_value_data k said right)) ≡ false
-wrong_value_is_whole k said right = rw (value_is_whole said, value_is_whole right) refl
+has_float-wrong_value k said right = rw (value_is_whole said, value_is_whole right) refl

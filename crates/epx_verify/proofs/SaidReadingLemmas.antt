@@ -10,12 +10,13 @@ use Rattle.epx_types.proofs.Common.{take-append-drop}
 use Rattle.epx_types.specs.declared.id.Id.{Id}
 use Rattle.epx_types.specs.declared.reply.Reply.{Reply}
 use Rattle.epx_lines.specs.Lines.{lines_of}
-use Rattle.epx_report.specs.inner.BaseReadings.{or_line_number, put_pairs}
-use Rattle.epx_report.proofs.BadLineLemmas.{none_bad, one_bad}
-use Rattle.epx_report.proofs.BaseLemmas.{entries_put}
-use Rattle.epx_report.proofs.BegunBaseLemmas.{allowed, equal, sorted_push}
-use Rattle.epx_report.proofs.RisingListLemmas.{above_last_key}
-use Rattle.epx_report.proofs.SaidLineLemmas.{first_some, same_somes}
+use Rattle.epx_report.specs.between.PutPairs.{put_pairs}
+use Rattle.epx_report.specs.inner.BaseReadings.{or_line_number}
+use Rattle.epx_report.proofs.BadLineLemmas.{IsFirstNotGood-if_good, IsFirstNotGood-is_unique}
+use Rattle.epx_report.proofs.BaseLemmas.{entries-put_pairs}
+use Rattle.epx_report.proofs.BegunBaseLemmas.{Some-from_if, eq-from_true, is_sorted-push}
+use Rattle.epx_report.proofs.RisingListLemmas.{is_after_last-sorted}
+use Rattle.epx_report.proofs.SaidLineLemmas.{map-Some_cons, map-Some_is_injective}
 use Rattle.epx_verify.specs.declared.said_line.SaidLine.{SaidLine}
 use Rattle.epx_verify.specs.declared.said_line.SaidLine.TheVariants.{Replied, Stored}
 use Rattle.epx_verify.specs.SaidLines.{said_line_of}
@@ -37,7 +38,7 @@ say_more l ls x said e h = ap₂ (λ o os. o ∷ os) e h
 say_less : (l : List ℕ) (ls : List (List ℕ)) (said : List SaidLine) → Say (l ∷ ls) said
     → (x : SaidLine) × (rest : List SaidLine) × (said_line_of l ≡ Some x) × Say ls rest
     × (said ≡ x ∷ rest)
-say_less l ls said h = first_some (said_line_of l) (map said_line_of ls) said h
+say_less l ls said h = map-Some_cons (said_line_of l) (map said_line_of ls) said h
 
 say_first : (n : ℕ) (ls : List (List ℕ)) (said : List SaidLine) → Say ls said
     → Say (take n ls) (take n said)
@@ -100,16 +101,16 @@ pushed : (s t : SaidSoFar) (l : SaidLine) → T (is_sorted key_cmp s.stored)
     → after_said s l ≡ Some t → IsPushed s t l
 unfolding after_said
 pushed s t (Replied x r) rises e =
-    let step = allowed (length s.stored == 0) _ t e in
-    let none : s.stored ≡ [] = nil_from_length s.stored (equal _ _ step.0) in
+    let step = Some-from_if (length s.stored == 0) _ t e in
+    let none : s.stored ≡ [] = nil_from_length s.stored (eq-from_true _ _ step.0) in
     subst (λ u. IsPushed s u (Replied x r)) step.1
     (record { lines = reply_pushed s.replies s.stored x r none; rises = rises })
 pushed s t (Stored k v) rises e =
-    let step = allowed _ _ t e in
+    let step = Some-from_if _ _ t e in
     subst (λ u. IsPushed s u (Stored k v)) step.1
     (record {
       lines = value_pushed s.replies s.stored k v;
-      rises = sorted_push s.stored (k, v) rises step.0;
+      rises = is_sorted-push s.stored (k, v) rises step.0;
     })
 
 -- more lines
@@ -151,7 +152,7 @@ value_allowed : (rs : List (Id × Reply)) (es fs : List (List ℕ × ℤ)) (e : 
     → after_said (record { replies = rs; stored = es }) (Stored e.0 e.1)
     ≡ Some (record { replies = rs; stored = es ++ e ∷ [] })
 unfolding after_said
-value_allowed rs es fs e rises = rw (above_last_key es e fs rises) refl
+value_allowed rs es fs e rises = rw (is_after_last-sorted es e fs rises) refl
 
 after_values : (rs : List (Id × Reply)) (es fs : List (List ℕ × ℤ))
     → T (is_sorted key_cmp (es ++ fs))
@@ -270,7 +271,7 @@ said_if_allowed : (ls : List (List ℕ)) (end : SaidSoFar) → AreAllowed nothin
 said_if_allowed ls end h =
     let all = gathered nothing_said h.said end tt h.reached in
     h.are_said ∙ ap (map Some) (sym all.lines
-    ∙ ap (λ es. replied end.replies ++ stored es) (sym (entries_put end.stored all.rises)))
+    ∙ ap (λ es. replied end.replies ++ stored es) (sym (entries-put_pairs end.stored all.rises)))
 
 lines_if_allowed : (ls : List (List ℕ)) → Allowed nothing_said ls → AreSaidLines ls
 lines_if_allowed ls h =
@@ -293,15 +294,15 @@ fewer_lines n ls h =
       record { said = take n said; are_said = say_first n ls said h.2; reached = first.1 },
     )
 
-pub said_is_read : (bytes : List ℕ) (end : SaidSoFar) → said_reading bytes ≡ Ok end
+pub IsSaid-from_reading : (bytes : List ℕ) (end : SaidSoFar) → said_reading bytes ≡ Ok end
     → IsSaid bytes end.replies (put_pairs end.stored contents.empty)
-said_is_read bytes end e =
+IsSaid-from_reading bytes end e =
     said_if_allowed (lines_of bytes) end
     (subst (Reads nothing_said 1 (lines_of bytes)) e (reads_all nothing_said 1 (lines_of bytes)))
 
-pub bad_said_is_read : (bytes : List ℕ) (line : ℕ) → said_reading bytes ≡ Err line
+pub IsBadSaid-from_reading : (bytes : List ℕ) (line : ℕ) → said_reading bytes ≡ Err line
     → IsBadSaid bytes line
-bad_said_is_read bytes line e =
+IsBadSaid-from_reading bytes line e =
     let ls = lines_of bytes in
     let stopped = subst (Reads nothing_said 1 ls) e (reads_all nothing_said 1 ls) in
     let before : stopped.0 ≡ line - 1 = omega (arith, stopped.1) in
@@ -319,20 +320,20 @@ one_or_the_other : (bytes : List ℕ) (r : Result SaidSoFar ℕ) → said_readin
     → ((replies : List (Id × Reply)) × (held : Contents) × IsSaid bytes replies held)
     ⊎ ((line : ℕ) × IsBadSaid bytes line)
 one_or_the_other bytes (Ok s) e =
-    inl (s.replies, put_pairs s.stored contents.empty, said_is_read bytes s e)
-one_or_the_other bytes (Err n) e = inr (n, bad_said_is_read bytes n e)
+    inl (s.replies, put_pairs s.stored contents.empty, IsSaid-from_reading bytes s e)
+one_or_the_other bytes (Err n) e = inr (n, IsBadSaid-from_reading bytes n e)
 
-pub said_or_bad_said : SaidOrBadSaid
-said_or_bad_said bytes = one_or_the_other bytes (said_reading bytes) refl
+pub SaidOrBadSaid-holds : SaidOrBadSaid
+SaidOrBadSaid-holds bytes = one_or_the_other bytes (said_reading bytes) refl
 
-pub said_is_no_bad_said : SaidIsNoBadSaid
-said_is_no_bad_said bytes replies held line is =
-    none_bad AreSaidLines fewer_lines (lines_of bytes) line (replies, held, is)
+pub SaidIsNoBadSaid-holds : SaidIsNoBadSaid
+SaidIsNoBadSaid-holds bytes replies held line is =
+    IsFirstNotGood-if_good AreSaidLines fewer_lines (lines_of bytes) line (replies, held, is)
 
-pub text_says_one_thing : TextSaysOneThing
-text_says_one_thing bytes replies others held kept p q =
+pub TextSaysOneThing-holds : TextSaysOneThing
+TextSaysOneThing-holds bytes replies others held kept p q =
     let same : lines_said replies held ≡ lines_said others kept =
-    same_somes (lines_said replies held) (lines_said others kept) (sym p ∙ q) in
+    map-Some_is_injective (lines_said replies held) (lines_said others kept) (sym p ∙ q) in
     let states = sym (all_allowed replies held) ∙ ap (after_all_said nothing_said) same
     ∙ all_allowed others kept in
     let one : ◌≡◌ {A = SaidSoFar} (record { replies = replies; stored = contents.entries held })
@@ -341,5 +342,6 @@ text_says_one_thing bytes replies others held kept p q =
       contents.same_entries_map held kept (ap (λ s. s.stored) one),
     )
 
-pub bad_said_is_bad_at_one_line : BadSaidIsBadAtOneLine
-bad_said_is_bad_at_one_line bytes = one_bad AreSaidLines fewer_lines (lines_of bytes)
+pub BadSaidIsBadAtOneLine-holds : BadSaidIsBadAtOneLine
+BadSaidIsBadAtOneLine-holds bytes =
+    IsFirstNotGood-is_unique AreSaidLines fewer_lines (lines_of bytes)

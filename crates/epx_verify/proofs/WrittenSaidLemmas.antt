@@ -27,7 +27,7 @@ use Rattle.epx_report.specs.ReportReadings.{FitsNumbers, FitsOptional, FitsReply
 use Rattle.epx_report.proofs.LineFeedLemmas.{lines_of-each}
 use Rattle.epx_report.proofs.WrittenDataLemmas.{IsPlain, is_unbroken-compact_text}
 use Rattle.epx_report.proofs.WrittenDataLemmas.{json_of-compact_text}
-use Rattle.epx_report.proofs.ReportFormLemmas.{plain_reply, plain_store, base_line_of-reply}
+use Rattle.epx_report.proofs.ReportFormLemmas.{IsPlain-reply, IsPlain-store, base_line_of-reply}
 use Rattle.epx_report.proofs.ReportFormLemmas.{base_line_of-store}
 use Rattle.epx_verify.specs.declared.said_line.SaidLine.{SaidLine}
 use Rattle.epx_verify.specs.declared.said_line.SaidLine.TheVariants.{Replied, Stored}
@@ -130,7 +130,7 @@ reply_text p = compact_text (array_of (reply_data p.0 p.1))
 reply_is_said : (p : Id × Reply) → FitsNumbers p.0 × FitsReply p.1
     → said_line_of (reply_text p) ≡ Some (Replied p.0 p.1)
 reply_is_said p h = said_line_of-written (array_of (reply_data p.0 p.1)) _
-    (plain_reply p.0 p.1 h.0 h.1) (depth-reply p.0 p.1)
+    (IsPlain-reply p.0 p.1 h.0 h.1) (depth-reply p.0 p.1)
     (ap is_some (base_line_of-reply p.0 p.1 h.0 h.1))
     (said_by-reply p.0 p.1 h.0 h.1)
 
@@ -148,7 +148,7 @@ store_text e = compact_text (array_of (store_data e))
 store_is_said : (e : List ℕ × ℤ) → FitsKey e.0 × IsUtf8 e.0 × FitsSigned w64 e.1
     → said_line_of (store_text e) ≡ Some (Stored e.0 e.1)
 store_is_said e h = said_line_of-written (array_of (store_data e)) _
-    (plain_store e.0 e.1 h.1 h.2) (omega arith)
+    (IsPlain-store e.0 e.1 h.1 h.2) (omega arith)
     (ap is_some (base_line_of-store e.0 e.1 h.0 h.1 h.2))
     (said_by-store e.0 e.1 h.0 h.2)
 
@@ -178,11 +178,11 @@ module _ (replies : List (Id × Reply)) (held : Contents) (h : FitSaidText repli
       let rest = flat_map store_line values in
       let all_replies = lines_of-each reply_text replies rest
       (All-weaker (λ (p : Id × Reply) (f : FitsNumbers p.0 × FitsReply p.1).
-      is_unbroken-compact_text (array_of (reply_data p.0 p.1)) (plain_reply p.0 p.1 f.0 f.1))
+      is_unbroken-compact_text (array_of (reply_data p.0 p.1)) (IsPlain-reply p.0 p.1 f.0 f.1))
       replies h.replies_fit) in
       let all_stored = lines_of-each store_text values []
       (All-weaker (λ (e : List ℕ × ℤ) (f : FitsKey e.0 × IsUtf8 e.0 × FitsSigned w64 e.1).
-      is_unbroken-compact_text (array_of (store_data e)) (plain_store e.0 e.1 f.1 f.2))
+      is_unbroken-compact_text (array_of (store_data e)) (IsPlain-store e.0 e.1 f.1 f.2))
       values h.stored_fit) in
       all_replies ∙ ap (λ ls. map reply_text replies ++ ls)
       (ap lines_of (sym (append-nil rest)) ∙ all_stored ∙ append-nil (map store_text values))
@@ -200,6 +200,6 @@ module _ (replies : List (Id × Reply)) (held : Contents) (h : FitSaidText repli
       ∙ sym (map-append Some (map (λ p. Replied p.0 p.1) replies)
       (map (λ e. Stored e.0 e.1) values))
 
-pub said_text_is_said : SaidTextIsSaid
-said_text_is_said replies held h =
+pub SaidTextIsSaid-holds : SaidTextIsSaid
+SaidTextIsSaid-holds replies held h =
     ap (map said_line_of) (lines_of-said replies held h) ∙ all_said replies held h

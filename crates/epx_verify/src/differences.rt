@@ -1,8 +1,7 @@
 //! The text of the differences between what a replica says and what its instances give.
 ghost use Rattle.std.specs.Prelude.{◌≡◌, ◌++◌, flat_map, map, zip, IfOk, OnOk};
 ghost use Rattle.std.specs.FinMap as contents;
-ghost use Rattle.std.specs.BTreeSet.{insert_key};
-ghost use Rattle.epx_types.specs.Keys.{key_cmp, add_keys};
+ghost use Rattle.epx_types.specs.Keys.{add_keys};
 ghost use Rattle.epx_verify.specs.Differences.{reply_difference, keys_of_either};
 ghost use Rattle.epx_verify.specs.Differences.{store_differences, differences_text};
 
@@ -11,6 +10,7 @@ use crate::execution::execute_list;
 use crate::said::Said;
 use epx_committed::Merged;
 use epx_txn::Store;
+use epx_types::key_set::add_key;
 use epx_types::{Id, Key, Memory, Reply};
 use std::alloc::Global;
 use std::collections::BTreeSet;
@@ -31,15 +31,6 @@ fn append_reply_differences(
     Ok(())
 }
 
-/// Adds a key to the set. One that is there already changes nothing.
-fn add_key<'a>(keys: &mut BTreeSet<&'a Key>, key: &'a Key) -> Result<(), Memory>
-    ensures { OnOk result (map (λ k. k.now) keys.new.keys
-        ≡ insert_key key_cmp (map (λ k. k.now) keys.old.keys) key.now) }
-{
-    keys.insert(key)?;
-    Ok(())
-}
-
 /// Adds the keys of a store.
 fn add_keys_of<'a>(keys: &mut BTreeSet<&'a Key>, store: &'a Store) -> Result<(), Memory>
     ensures { OnOk result (map (λ k. k.now) keys.new.keys
@@ -52,11 +43,7 @@ fn add_keys_of<'a>(keys: &mut BTreeSet<&'a Key>, store: &'a Store) -> Result<(),
 }
 
 /// The keys that are present in either store, in rising order.
-fn keys_of_both<'a>(
-    alloc: Global,
-    said: &'a Store,
-    right: &'a Store,
-) -> Result<Vec<&'a Key>, Memory>
+fn list_keys<'a>(alloc: Global, said: &'a Store, right: &'a Store) -> Result<Vec<&'a Key>, Memory>
     ensures { IfOk result
         (λ keys. map (λ k. k.now) keys.items ≡ keys_of_either said.now right.now) }
 {
@@ -76,7 +63,7 @@ fn append_store_differences(
     ensures { OnOk result (text.new.items
         ≡ text.old.items ++ store_differences said.now right.now) }
 {
-    let keys = keys_of_both(alloc, said, right)?;
+    let keys = list_keys(alloc, said, right)?;
     for key in &keys {
         append_value_difference(alloc, text, said, right, key)?;
     }

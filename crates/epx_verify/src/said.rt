@@ -2,7 +2,7 @@
 ghost use Rattle.std.specs.Prelude.{◌≡◌, IfOk, IfErr, option_map};
 ghost use Rattle.std.specs.FinMap as contents;
 ghost use Rattle.epx_report.specs.ReportReadings.{replied_ids};
-ghost use Rattle.epx_report.specs.inner.BaseReadings.{put_pairs};
+ghost use Rattle.epx_report.specs.between.PutPairs.{put_pairs};
 ghost use Rattle.epx_report.specs.inner.Progress.{last, is_after_last, some_if};
 ghost use Rattle.epx_types.specs.Keys.{key_cmp};
 ghost use Rattle.epx_verify.specs.SaidTexts.{IsSaid, IsSaidFault};
@@ -11,7 +11,7 @@ ghost use Rattle.epx_verify.specs.inner.SaidReadings.{after_said, after_said_lin
 
 use crate::said_line::{SaidLine, read_said_line};
 use epx_lines::cut_line;
-use epx_report::BaseFault;
+use epx_report::{BaseFault, store_of};
 use epx_txn::Store;
 use epx_types::{Id, Key, Memory, Reply};
 use std::alloc::Global;
@@ -53,17 +53,6 @@ impl Model for SaidSoFar {
     ghost Value = { SaidSoFar };
 
     ghost view = { λ s. record { replies = s.replies.items; stored = s.stored.items } };
-}
-
-/// Puts the values into a new store, one after another.
-fn store_of(alloc: Global, pairs: Vec<(Key, i64)>) -> Result<Store, Memory>
-    ensures { IfOk result (λ s. s ≡ put_pairs pairs.items contents.empty) }
-{
-    let mut store = Store::new(alloc);
-    for (key, value) in pairs {
-        store.put(key, value)?;
-    }
-    Ok(store)
 }
 
 impl SaidSoFar {

@@ -1,13 +1,13 @@
 //! Reads a line of what a replica says.
 ghost use Rattle.std.specs.Prelude.{◌≡◌, IfOk, option_map};
 ghost use Rattle.serde_json.specs.View.{view};
-ghost use Rattle.epx_report.specs.Forms.{is_text};
 ghost use Rattle.epx_verify.specs.SaidLines.{values_of, op_index_of, reply_of, replied_of};
 ghost use Rattle.epx_verify.specs.SaidLines.{stored_of, said_by, said_line_of};
 
 use epx_lines::{
     MAX_LINE_BYTES, read_id_parts, read_json, read_key, read_number, read_value_or_null,
 };
+use epx_report::has_text;
 use epx_types::entry::MAX_OPS;
 use epx_types::{Id, Key, Memory, Reply, Values};
 use serde_json::Value;
@@ -20,16 +20,6 @@ pub(crate) enum SaidLine {
     Replied(Id, Reply),
     /// The key has the value in the replica's store.
     Stored(Key, i64),
-}
-
-/// Whether a value is this text.
-fn has_text(value: &Value, text: &str) -> bool
-    ensures { result ≡ is_text text.now (view value.now) }
-{
-    match value.as_str() {
-        Some(found) => found == text,
-        None => false,
-    }
 }
 
 /// Reads a list of at most `MAX_OPS` values, each a number or null.

@@ -4,7 +4,7 @@ use Rattle.epx_types.proofs.Common.{Contains-nil}
 use Rattle.epx_lines.specs.declared.Line.TheVariants.{Blank}
 use Rattle.epx_merge.specs.LogLines.{MeaningAt, bad_lines_among, bad_lines_at}
 use Rattle.epx_merge.specs.LogLines.{placed_among, placed_at}
-use Rattle.epx_merge.specs.RedundantLines.{DropsCached}
+use Rattle.epx_merge.specs.between.RedundantLines.{DropsCached}
 
 module _ {B : Type 0} (says : MeaningAt → List B)
     (none : (line : MeaningAt) → line.meaning ≡ Ok Blank → says line ≡ []) where
@@ -18,13 +18,13 @@ module _ {B : Type 0} (says : MeaningAt → List B)
   blank_dropped (line ∷ cut) batch (inr (inr has, h)) = absurd (Contains-nil line.meaning has)
 
 -- the batch commits what the lines commit
-pub placed_in_batch : (cut batch : List MeaningAt) → DropsCached [] cut batch
+pub placed_among-batch : (cut batch : List MeaningAt) → DropsCached [] cut batch
     → placed_among batch ≡ placed_among cut
-placed_in_batch cut batch h = blank_dropped (λ line. placed_at line.place line.meaning)
+placed_among-batch cut batch h = blank_dropped (λ line. placed_at line.place line.meaning)
     (λ line blank. ap (placed_at line.place) blank) cut batch h
 
 -- the bad lines of the batch are those of the lines
-pub bad_in_batch : (cut batch : List MeaningAt) → DropsCached [] cut batch
+pub bad_lines_among-batch : (cut batch : List MeaningAt) → DropsCached [] cut batch
     → bad_lines_among batch ≡ bad_lines_among cut
-bad_in_batch cut batch h = blank_dropped (λ line. bad_lines_at line.place line.meaning)
+bad_lines_among-batch cut batch h = blank_dropped (λ line. bad_lines_at line.place line.meaning)
     (λ line blank. ap (bad_lines_at line.place) blank) cut batch h

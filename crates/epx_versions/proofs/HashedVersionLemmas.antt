@@ -8,7 +8,7 @@ use Rattle.epx_versions.specs.declared.hashed_version.HashedVersion.{HashedVersi
 use Rattle.epx_versions.specs.SameInstances.{same_instance}
 use Rattle.epx_versions.specs.inner.EqualVersions.{instances_decide}
 use Rattle.epx_versions.specs.inner.HashedVersions.{IsHashed, same_hashed}
-use Rattle.epx_versions.specs.VersionLists.{hash_by}
+use Rattle.epx_versions.specs.between.VersionLists.{hash_by}
 
 abbrev pub instances_of : List HashedVersion → List Instance
 instances_of ks = map (λ k. k.version) ks

@@ -11,8 +11,8 @@ use Rattle.epx_lines.specs.declared.Line.TheVariants.{Entry}
 use Rattle.epx_versions.specs.declared.read_line.ReadLine.{ReadLine}
 use Rattle.epx_versions.specs.declared.read_line.ReadLine.TheVariants as read
 use Rattle.epx_versions.specs.inner.BatchNotes.{KeepsNumbers}
-use Rattle.epx_versions.specs.KnownLines.{AreKnown, meaning_of_version}
-use Rattle.epx_versions.specs.ReadMeanings.{meaning_in}
+use Rattle.epx_versions.specs.between.KnownLines.{AreKnown, meaning_of_version}
+use Rattle.epx_versions.specs.between.ReadMeanings.{meaning_in}
 
 abbrev pub line_of : Instance → Result Line Why
 line_of e = Ok (Entry e)
@@ -23,27 +23,28 @@ committed_by None m h = absurd (cc h)
 committed_by (Some e) m h = (e, refl, let same : m ≡ line_of e = cc h in same)
 
 -- a line that commits a version commits an instance
-pub version_known : (versions : List Instance) (v : ℕ) (m : Result Line Why)
+pub meaning_of_version-known : (versions : List Instance) (v : ℕ) (m : Result Line Why)
     → meaning_of_version versions v ≡ Some m
     → (e : Instance) × (slice_get versions v ≡ Some e) × (m ≡ Ok (Entry e))
-version_known versions v m h = committed_by (slice_get versions v) m h
+meaning_of_version-known versions v m h = committed_by (slice_get versions v) m h
 
 -- the line with this number in the cache commits the version with its number
-pub known_at : (versions : List Instance) (cache : List (Result Line Why)) (numbers : List ℕ)
+pub meaning_of_version-at : (versions : List Instance) (cache : List (Result Line Why))
+    (numbers : List ℕ)
     → AreKnown versions cache numbers → (n v : ℕ) (m : Result Line Why)
     → slice_get cache n ≡ Some m → slice_get numbers n ≡ Some v
     → meaning_of_version versions v ≡ Some m
-known_at versions cache numbers known n v m line number =
+meaning_of_version-at versions cache numbers known n v m line number =
     let left = slice_get-map (meaning_of_version versions) numbers n v number in
     let right = slice_get-map (λ x. Some x) cache n m line in
     let both : Some (meaning_of_version versions v) ≡ Some (Some m) =
     sym left ∙ (ap (λ xs. slice_get xs n) known ∙ right) in cc both
 
 -- each line of the cache has a number
-pub number_within : (versions : List Instance) (cache : List (Result Line Why)) (numbers : List ℕ)
+pub AreKnown-within : (versions : List Instance) (cache : List (Result Line Why)) (numbers : List ℕ)
     → AreKnown versions cache numbers → (n : ℕ) (m : Result Line Why)
     → slice_get cache n ≡ Some m → n < length numbers
-number_within versions cache numbers known n m line =
+AreKnown-within versions cache numbers known n m line =
     let within = slice_get_within cache n m line in
     let as_many : length (map (meaning_of_version versions) numbers)
     ≡ length (map (λ (x : Result Line Why). Some x) cache) = ap length known in
@@ -62,33 +63,33 @@ module _ (old new : List Instance)
   version_grown : (v : ℕ) (m : Result Line Why) → meaning_of_version old v ≡ Some m
       → meaning_of_version new v ≡ Some m
   version_grown v m h =
-      let found = version_known old v m h in
+      let found = meaning_of_version-known old v m h in
       ap (option_map line_of) (grows v found.0 found.1)
       ∙ ap (λ x. Some x) (sym found.2)
 
   -- what is known stays known
-  pub known_grown : (numbers : List ℕ) (cache : List (Result Line Why))
+  pub AreKnown-grown : (numbers : List ℕ) (cache : List (Result Line Why))
       → AreKnown old cache numbers → AreKnown new cache numbers
-  known_grown [] [] h = refl
-  known_grown [] (m ∷ cache) h = absurd (cc h)
-  known_grown (v ∷ numbers) [] h = absurd (cc h)
-  known_grown (v ∷ numbers) (m ∷ cache) h =
+  AreKnown-grown [] [] h = refl
+  AreKnown-grown [] (m ∷ cache) h = absurd (cc h)
+  AreKnown-grown (v ∷ numbers) [] h = absurd (cc h)
+  AreKnown-grown (v ∷ numbers) (m ∷ cache) h =
       let here : meaning_of_version old v ≡ Some m = cc h in
       let rest : AreKnown old cache numbers = cc h in
       let first = version_grown v m here in
-      let later = known_grown numbers cache rest in
+      let later = AreKnown-grown numbers cache rest in
       λ i. first i ∷ later i
 
 -- ---- more lines in the cache
 
 -- a line that was read beside the old cache means the same beside the new one
-pub meaning_grown : (seed : Seed) (old new : List (Result Line Why)) → KeepsNumbers old new
+pub meaning_in-grown : (seed : Seed) (old new : List (Result Line Why)) → KeepsNumbers old new
     → (r : ReadLine) (m : Result Line Why) → meaning_in seed old r ≡ Some m
     → meaning_in seed new r ≡ Some m
-meaning_grown seed old new kept read.Blank m h = h
-meaning_grown seed old new kept (read.Fresh v bytes) m h = h
-meaning_grown seed old new kept (read.Repeat number) m h = kept number m h
-meaning_grown seed old new kept (read.Bad why) m h = h
+meaning_in-grown seed old new kept read.Blank m h = h
+meaning_in-grown seed old new kept (read.Fresh v bytes) m h = h
+meaning_in-grown seed old new kept (read.Repeat number) m h = kept number m h
+meaning_in-grown seed old new kept (read.Bad why) m h = h
 
 -- ---- lines that the cache lacks
 

@@ -6,14 +6,14 @@ use Rattle.epx_types.proofs.Common.{Global}
 use Rattle.epx_types.specs.declared.fault.Why.{Why}
 use Rattle.epx_seed.specs.declared.Seed.{Seed}
 use Rattle.epx_lines.specs.declared.Line.{Line}
-use Rattle.epx_merge.specs.LinePieces.{ArePiecesOf}
+use Rattle.epx_merge.specs.between.LinePieces.{ArePiecesOf}
 use Rattle.epx_merge.specs.LogLines.{MeaningAt}
 use Rattle.epx_versions.specs.declared.read_line.ReadLine.{ReadLine}
 use Rattle.epx_versions.specs.declared.version_notes.VersionNotes.{VersionNotes}
 use Rattle.epx_versions.specs.inner.BatchNotes.{IsNotedUpTo, KeepsNumbers}
-use Rattle.epx_versions.specs.NotedLines.{AreNotedLines}
-use Rattle.epx_versions.specs.ReadMeanings.{AreReadSo, meaning_in}
-use Rattle.epx_versions.proofs.KnownLineLemmas.{meaning_grown}
+use Rattle.epx_versions.specs.between.NotedLines.{AreNotedLines}
+use Rattle.epx_versions.specs.between.ReadMeanings.{AreReadSo, meaning_in}
+use Rattle.epx_versions.proofs.KnownLineLemmas.{meaning_in-grown}
 
 at_its_place : (done : List MeaningAt) (line : MeaningAt) (left : List MeaningAt)
     → slice_get (done ++ line ∷ left) (length done) ≡ Some line
@@ -41,12 +41,12 @@ module _ (seed : Seed) (known : List (Result Line Why)) where
   none_read (line ∷ left) h = absurd (cc h)
 
   module _ (lines batch : List MeaningAt) where
-    pub noting_none : (pieces : List (Vec ReadLine Global)) (notes : VersionNotes)
+    pub IsNotedUpTo-none : (pieces : List (Vec ReadLine Global)) (notes : VersionNotes)
         → notes.seed ≡ seed → AreNotedLines lines notes known []
         → ArePiecesOf (λ lines (piece : Vec ReadLine Global).
         AreReadSo seed known lines piece.items) batch pieces
         → IsNotedUpTo seed known lines batch 0 [] pieces notes known
-    noting_none pieces notes same noted given = record {
+    IsNotedUpTo-none pieces notes same noted given = record {
       done = [];
       here = [];
       rest = batch;
@@ -60,11 +60,12 @@ module _ (seed : Seed) (known : List (Result Line Why)) where
     }
 
     -- the next piece is begun
-    pub noting_piece : (at : ℕ) (piece : Vec ReadLine Global) (pieces : List (Vec ReadLine Global))
+    pub IsNotedUpTo-piece : (at : ℕ) (piece : Vec ReadLine Global)
+        (pieces : List (Vec ReadLine Global))
         (notes : VersionNotes) (cache : List (Result Line Why))
         → IsNotedUpTo seed known lines batch at [] (piece ∷ pieces) notes cache
         → IsNotedUpTo seed known lines batch at piece.items pieces notes cache
-    noting_piece at piece pieces notes cache h =
+    IsNotedUpTo-piece at piece pieces notes cache h =
         let none = none_read h.here h.said in
         let next = h.later in record {
           done = h.done;
@@ -80,10 +81,10 @@ module _ (seed : Seed) (known : List (Result Line Why)) where
         }
 
     -- all pieces are noted
-    pub noting_all : (at : ℕ) (notes : VersionNotes) (cache : List (Result Line Why))
+    pub AreNotedLines-all : (at : ℕ) (notes : VersionNotes) (cache : List (Result Line Why))
         → IsNotedUpTo seed known lines batch at [] [] notes cache
         → AreNotedLines (lines ++ batch) notes cache []
-    noting_all at notes cache h =
+    AreNotedLines-all at notes cache h =
         let none = none_read h.here h.said in
         let rest : h.rest ≡ [] = h.later in
         let all : batch ≡ h.done = h.whole ∙ ((λ i. h.done ++ (none i ++ rest i))
@@ -104,8 +105,8 @@ module _ (seed : Seed) (known : List (Result Line Why)) where
           (h.whole ∙ ap (λ l. h.done ++ (l ++ h.rest)) first.2)
           ∙ at_its_place h.done first.0 (first.1 ++ h.rest))
 
-      pub line_is_there : slice_get batch at ≡ None → ⊥
-      line_is_there none =
+      pub slice_get-batch_line : slice_get batch at ≡ None → ⊥
+      slice_get-batch_line none =
           let e : Some (first_read h.here read reads h.said).0 ≡ None = sym found ∙ none in
           absurd (cc e)
 
@@ -116,20 +117,20 @@ module _ (seed : Seed) (known : List (Result Line Why)) where
             cc e
 
         -- the line was read so
-        pub said_line : meaning_in notes.seed cache read ≡ Some line.meaning
-        said_line =
+        pub meaning_in-line : meaning_in notes.seed cache read ≡ Some line.meaning
+        meaning_in-line =
             let first = first_read h.here read reads h.said in
             let said = first.3 ∙ ap (λ (l : MeaningAt). Some l.meaning) same_line in
             subst (λ s. meaning_in s cache read ≡ Some line.meaning) (sym h.same)
-            (meaning_grown seed known cache h.grown read line.meaning said)
+            (meaning_in-grown seed known cache h.grown read line.meaning said)
 
         -- the line is noted
-        pub noting_line : (next : ℕ) → next ≡ at + 1 → (notes' : VersionNotes)
+        pub IsNotedUpTo-line : (next : ℕ) → next ≡ at + 1 → (notes' : VersionNotes)
             (cache' : List (Result Line Why))
             → AreNotedLines ((lines ++ h.done) ++ line ∷ []) notes' cache' []
             → notes'.seed ≡ notes.seed → KeepsNumbers cache cache'
             → IsNotedUpTo seed known lines batch next reads pieces notes' cache'
-        noting_line next after notes' cache' noted same grown =
+        IsNotedUpTo-line next after notes' cache' noted same grown =
             let first = first_read h.here read reads h.said in
             let is_first : h.here ≡ line ∷ first.1 = first.2 ∙ ap (λ l. l ∷ first.1) same_line in
             record {

@@ -9,14 +9,14 @@ use Rattle.epx_lines.specs.declared.Line.{Line}
 use Rattle.epx_lines.specs.declared.Line.TheVariants.{Entry}
 use Rattle.epx_merge.specs.LogLines.{BadLineAt, MeaningAt, bad_lines_among, bad_lines_at}
 use Rattle.epx_merge.specs.LogLines.{placed_among, placed_at}
-use Rattle.epx_merge.specs.RedundantLines.{DropsCached}
+use Rattle.epx_merge.specs.between.RedundantLines.{DropsCached}
 use Rattle.epx_versions.specs.declared.version_notes.VersionNotes.{VersionNotes}
-use Rattle.epx_versions.specs.KnownLines.{AreKnown}
+use Rattle.epx_versions.specs.between.KnownLines.{AreKnown}
 use Rattle.epx_versions.specs.LineVersions.{versions_of}
-use Rattle.epx_versions.specs.NotedLines.{AreNotedLines}
-use Rattle.epx_versions.specs.NotedRows.{AreNoted}
-use Rattle.epx_versions.specs.VersionLists.{AreHashed}
-use Rattle.epx_versions.proofs.BlankLineLemmas.{bad_in_batch, placed_in_batch}
+use Rattle.epx_versions.specs.between.NotedLines.{AreNotedLines}
+use Rattle.epx_versions.specs.between.NotedRows.{AreNoted}
+use Rattle.epx_versions.specs.between.VersionLists.{AreHashed}
+use Rattle.epx_versions.proofs.BlankLineLemmas.{bad_lines_among-batch, placed_among-batch}
 
 placed_among-append : (xs ys : List MeaningAt)
     → placed_among (xs ++ ys) ≡ placed_among xs ++ placed_among ys
@@ -63,20 +63,21 @@ module _ (notes : VersionNotes) (cache : List (Result Line Why)) where
         ∙ ap (λ bs. bad_lines_among lines ++ bs)
         (append-nil (bad_lines_at line.place line.meaning)))) here
 
-    pub noted_entry : (e : Instance) (at : Place) → at ≡ line.place → line.meaning ≡ Ok (Entry e)
+    pub AreNotedLines-entry : (e : Instance) (at : Place) → at ≡ line.place
+        → line.meaning ≡ Ok (Entry e)
         → AreNotedAs (placed_among lines ++ record { place = at; instance = e } ∷ [])
         (bad_lines_among lines) → AreNotedLines (lines ++ line ∷ []) notes cache []
-    noted_entry e at is means h = noted_with (Ok (Entry e)) means
+    AreNotedLines-entry e at is means h = noted_with (Ok (Entry e)) means
         (subst (λ p. AreNotedAs (placed_among lines ++ record { place = p; instance = e } ∷ [])
         (bad_lines_among lines ++ [])) is
         (subst (AreNotedAs (placed_among lines ++ record { place = at; instance = e } ∷ []))
         (sym (append-nil (bad_lines_among lines))) h))
 
-    pub noted_fault : (why : Why) (at : Place) → at ≡ line.place → line.meaning ≡ Err why
+    pub AreNotedLines-fault : (why : Why) (at : Place) → at ≡ line.place → line.meaning ≡ Err why
         → AreNotedAs (placed_among lines)
         (bad_lines_among lines ++ record { place = at; why = why } ∷ [])
         → AreNotedLines (lines ++ line ∷ []) notes cache []
-    noted_fault why at is means h = noted_with (Err why) means
+    AreNotedLines-fault why at is means h = noted_with (Err why) means
         (subst (λ p. AreNotedAs (placed_among lines ++ [])
         (bad_lines_among lines ++ record { place = p; why = why } ∷ [])) is
         (subst (λ ps. AreNotedAs ps
@@ -86,14 +87,15 @@ module _ (notes : VersionNotes) (cache : List (Result Line Why)) where
   -- ---- a batch
 
   -- all lines are noted where those of the batch are, which are all but some blank ones
-  pub noted_batch : (lines cut batch : List MeaningAt) → DropsCached [] cut batch
+  pub AreNotedLines-batch : (lines cut batch : List MeaningAt) → DropsCached [] cut batch
       → AreNotedLines (lines ++ batch) notes cache [] → AreNotedLines (lines ++ cut) notes cache []
-  noted_batch lines cut batch drops h = noted_as (lines ++ cut) (placed_among (lines ++ batch))
+  AreNotedLines-batch lines cut batch drops h =
+      noted_as (lines ++ cut) (placed_among (lines ++ batch))
       (bad_lines_among (lines ++ batch))
       (placed_among-append lines batch
-      ∙ (ap (λ ps. placed_among lines ++ ps) (placed_in_batch cut batch drops)
+      ∙ (ap (λ ps. placed_among lines ++ ps) (placed_among-batch cut batch drops)
       ∙ sym (placed_among-append lines cut)))
       (bad_lines_among-append lines batch
-      ∙ (ap (λ bs. bad_lines_among lines ++ bs) (bad_in_batch cut batch drops)
+      ∙ (ap (λ bs. bad_lines_among lines ++ bs) (bad_lines_among-batch cut batch drops)
       ∙ sym (bad_lines_among-append lines cut)))
       (h.rows, h.hashed, h.texts)

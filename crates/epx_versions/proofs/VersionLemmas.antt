@@ -11,7 +11,7 @@ use Rattle.indexmap.proofs.SetLemmas.{AllZip-push}
 use Rattle.epx_versions.specs.LineVersions.{versions_of}
 use Rattle.epx_versions.specs.SameInstances.{same_instance}
 use Rattle.epx_versions.specs.inner.EqualVersions.{same_by_test, same_instance_equiv}
-use Rattle.epx_versions.specs.NotedRows.{IsRowOf}
+use Rattle.epx_versions.specs.between.NotedRows.{IsRowOf}
 use Rattle.epx_versions.specs.declared.noted.NotedLine.{NotedLine}
 
 module _ (a x : Instance) (ks : List Instance) where

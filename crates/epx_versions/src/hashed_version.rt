@@ -1,6 +1,6 @@
 //! A version with its hash.
 ghost use Rattle.std.specs.Prelude.{◌≡◌};
-ghost use Rattle.epx_versions.specs.VersionLists.{hash_by};
+ghost use Rattle.epx_versions.specs.between.VersionLists.{hash_by};
 
 use crate::version::Version;
 use epx_seed::Seed;

@@ -5,8 +5,8 @@ ghost use Rattle.epx_types.specs.Instances.{Instance};
 ghost use Rattle.epx_types.specs.PlacedLines.{Placed};
 ghost use Rattle.epx_merge.specs.LogLines.{BadLineAt};
 ghost use Rattle.epx_versions.specs.inner.HashedVersions.{IsHashed};
-ghost use Rattle.epx_versions.specs.NotedRows.{AreNoted};
-ghost use Rattle.epx_versions.specs.VersionLists.{AreHashed};
+ghost use Rattle.epx_versions.specs.between.NotedRows.{AreNoted};
+ghost use Rattle.epx_versions.specs.between.VersionLists.{AreHashed};
 
 use crate::hashed_version::HashedVersion;
 use crate::versions::Versions;

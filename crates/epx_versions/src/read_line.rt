@@ -1,6 +1,6 @@
 //! What workers read of lines.
 ghost use Rattle.std.specs.Prelude.{◌≡◌, IfOk, Some};
-ghost use Rattle.epx_versions.specs.ReadMeanings.{AreReadSo, meaning_in};
+ghost use Rattle.epx_versions.specs.between.ReadMeanings.{AreReadSo, meaning_in};
 
 use crate::hashed_version::HashedVersion;
 use epx_lines::{Line, LineFault, LineReader};

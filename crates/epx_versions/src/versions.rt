@@ -4,7 +4,7 @@ ghost use Rattle.indexmap.specs.IndexSet.{insert_key};
 ghost use Rattle.epx_seed.specs.declared.Seed.{Seed};
 ghost use Rattle.epx_versions.specs.SameInstances.{same_instance};
 ghost use Rattle.epx_versions.specs.inner.HashedVersions.{IsHashed};
-ghost use Rattle.epx_versions.specs.VersionLists.{AreHashed};
+ghost use Rattle.epx_versions.specs.between.VersionLists.{AreHashed};
 
 use crate::hashed_version::HashedVersion;
 use epx_types::{Entry, Memory};
@@ -22,7 +22,7 @@ pub struct Versions {
 
 impl Model for Versions {
     ghost use Rattle.std.specs.Prelude.{map};
-    ghost use Rattle.epx_versions.specs.VersionLists.{VersionList};
+    ghost use Rattle.epx_versions.specs.between.VersionLists.{VersionList};
 
     ghost Value = { VersionList };
 

@@ -9,12 +9,13 @@ use Rattle.epx_report.specs.ReportLines.{line_of}
 use Rattle.epx_report.specs.ViewLines.{order_data, order_line}
 
 -- the parts of a line, each looked up by its position, are those of one instance
-pub line_at : (order : List Ranked) (k : ℕ) (ids : List Id) (d : Id) (depth : ℕ) (leader : Id)
+pub line_of-order_data : (order : List Ranked) (k : ℕ) (ids : List Id) (d : Id) (depth : ℕ)
+    (leader : Id)
     → ids ≡ ranked_ids order
     → (s : (r : Ranked) × (slice_get order k ≡ Some r) × (r.depth ≡ depth))
     → (r : Ranked) × (slice_get order k ≡ Some r) × (r.leader ≡ leader)
     → line_of (order_data (get_or ids k d) depth leader) ≡ order_line s.0
-line_at order k ids d depth leader e_ids s l =
+line_of-order_data order k ids d depth leader e_ids s l =
     let same : s.0 ≡ l.0 = sym (get_or_from_slice_get order k s.0 s.0 s.1)
     ∙ get_or_from_slice_get order k l.0 s.0 l.1 in
     let id : get_or ids k d ≡ s.0.id = ap (λ xs. get_or xs k d) e_ids ∙ get_or_from_slice_get
@@ -24,11 +25,11 @@ line_at order k ids d depth leader e_ids s l =
     ∙ ap (λ n. line_of (order_data s.0.id n leader)) (sym s.2)
     ∙ ap (λ y. line_of (order_data s.0.id s.0.depth y)) leads
 
-pub printed_one_more : (order : List Ranked) (k : ℕ) (r : Ranked) (text new line whole : List ℕ)
+pub order_line-step : (order : List Ranked) (k : ℕ) (r : Ranked) (text new line whole : List ℕ)
     → slice_get order k ≡ Some r → line ≡ order_line r
     → text ++ flat_map order_line (drop k order) ≡ whole → new ≡ text ++ line
     → new ++ flat_map order_line (drop (k + 1) order) ≡ whole
-printed_one_more order k r text new line whole there is sofar grown =
+order_line-step order k r text new line whole there is sofar grown =
     let rest = flat_map order_line (drop (k + 1) order) in
     let next : drop k order ≡ r ∷ drop (k + 1) order =
     drop-cons order k r (slice_get_within order k r there) ∙ ap (λ s. s ∷ drop (suc k) order)

@@ -1,3 +1,3 @@
-pub mod OpeningText
 pub mod OrderText
 pub mod LevelText
+pub mod between

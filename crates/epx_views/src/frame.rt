@@ -2,7 +2,7 @@
 ghost use Rattle.std.specs.Prelude.{◌≡◌, ◌++◌, length, flat_map, OnOk, IfOk};
 ghost use Rattle.epx_types.specs.ExecutionOrder.{component_count};
 ghost use Rattle.epx_report.specs.ReportLines.{header_line, waiting_line};
-ghost use Rattle.epx_views.specs.OpeningText.{opening_text};
+ghost use Rattle.epx_views.specs.between.OpeningText.{opening_text};
 
 use epx_components::OrderList;
 use epx_graph::Waiter;

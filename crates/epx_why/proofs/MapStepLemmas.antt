@@ -5,8 +5,9 @@ use Rattle.std.proofs.Common.{◌∙◌, arith}
 use Rattle.epx_types.proofs.Common.{slice_get-get_or, get_or_from_slice_get, Instance, IsCommitted}
 use Rattle.epx_types.proofs.Common.{DependsOn, IsPath, DependsOn-committed}
 use Rattle.epx_types.specs.declared.id.Id.{Id}
-use Rattle.epx_graph.proofs.Common.{DependencyGraph, edges_of, IsGraphOf, IsNodePath, edge_within}
-use Rattle.epx_graph.proofs.Common.{node_of_dependency, LeadsTo, AreLeast, distance_at}
+use Rattle.epx_graph.proofs.Common.{DependencyGraph, edges_of, IsGraphOf, IsNodePath}
+use Rattle.epx_graph.proofs.Common.{edges_of-within}
+use Rattle.epx_graph.proofs.Common.{slice_get-dependency, LeadsTo, AreLeast, distance_at}
 use Rattle.epx_graph.proofs.Common.{LeadsTo-node_path}
 use Rattle.epx_why.specs.Distances.{IsDistance}
 use Rattle.epx_why.specs.inner.NodeWalks.{id_at}
@@ -48,24 +49,25 @@ module _ (m : List Instance) (g : DependencyGraph) (is : IsGraphOf m g) where
   edge_depends : (k c : ℕ) (x : Id) → slice_get g.ids k ≡ Some x → Contains (edges_of g k) c
       → DependsOn m x (id_at g c)
   edge_depends k c x at edge =
-      (is.edges k c x (id_at g c) at (slice_get-id_at g c (edge_within g is.graph k c edge))).0 edge
+      (is.edges k c x (id_at g c) at (slice_get-id_at g c (edges_of-within g is.graph k c edge))).0
+      edge
 
   -- a path over nodes is one of dependencies, through the Ids of its nodes
-  pub map_path : (k c : ℕ) (cs : List ℕ) (t : ℕ) (x y : Id) → slice_get g.ids k ≡ Some x
+  pub IsPath-from_nodes : (k c : ℕ) (cs : List ℕ) (t : ℕ) (x y : Id) → slice_get g.ids k ≡ Some x
       → slice_get g.ids t ≡ Some y → IsNodePath (edges_of g) k (c ∷ cs) t
       → (via : List Id) × IsPath m x via y × (map (id_at g) (c ∷ cs) ≡ via ++ y ∷ [])
       × (length via ≡ length cs)
-  map_path k c [] t x y at to path =
+  IsPath-from_nodes k c [] t x y at to path =
       let last : id_at g c ≡ y = ap (id_at g) path.1 ∙ id_at-is g t y to in (
         [],
         subst (DependsOn m x) last (edge_depends k c x at path.0),
         ap (λ z. z ∷ []) last,
         refl,
       )
-  map_path k c (d ∷ cs) t x y at to path =
+  IsPath-from_nodes k c (d ∷ cs) t x y at to path =
       let z = id_at g c in
-      let here = slice_get-id_at g c (edge_within g is.graph k c path.0) in
-      let rest = map_path c d cs t z y here to path.1 in (
+      let here = slice_get-id_at g c (edges_of-within g is.graph k c path.0) in
+      let rest = IsPath-from_nodes c d cs t z y here to path.1 in (
         z ∷ rest.0,
         (edge_depends k c x at path.0, rest.1),
         ap (λ zs. z ∷ zs) rest.2,
@@ -73,19 +75,20 @@ module _ (m : List Instance) (g : DependencyGraph) (is : IsGraphOf m g) where
       )
 
   -- a path of dependencies is one over nodes
-  pub node_path : (k t : ℕ) (x : Id) (via : List Id) (y : Id) → slice_get g.ids k ≡ Some x
+  pub IsNodePath-from_path : (k t : ℕ) (x : Id) (via : List Id) (y : Id)
+      → slice_get g.ids k ≡ Some x
       → slice_get g.ids t ≡ Some y → IsPath m x via y
       → (cs : List ℕ) × IsNodePath (edges_of g) k cs t × (map (id_at g) cs ≡ via ++ y ∷ [])
       × (length cs ≡ suc (length via))
-  node_path k t x [] y at to path = (
+  IsNodePath-from_path k t x [] y at to path = (
     t ∷ [],
     ((is.edges k t x y at to).1 path, refl),
     ap (λ z. z ∷ []) (id_at-is g t y to),
     refl,
   )
-  node_path k t x (z ∷ via) y at to path =
-      let c = node_of_dependency m g is x z path.0 in
-      let rest = node_path c.0 t z via y c.1 to path.1 in (
+  IsNodePath-from_path k t x (z ∷ via) y at to path =
+      let c = slice_get-dependency m g is x z path.0 in
+      let rest = IsNodePath-from_path c.0 t z via y c.1 to path.1 in (
         c.0 ∷ rest.0,
         ((is.edges k c.0 x z at c.1).1 path.0, rest.1),
         ap₂ (λ w ws. w ∷ ws) (id_at-is g c.0 z c.1) rest.2,
@@ -95,23 +98,23 @@ module _ (m : List Instance) (g : DependencyGraph) (is : IsGraphOf m g) where
   module _ (k j : ℕ) (x y : Id) (at : slice_get g.ids k ≡ Some x)
       (to : slice_get g.ids j ≡ Some y) where
     -- a path has as many steps over nodes as over dependencies
-    pub steps_over_nodes : (via : List Id) → IsPath m x via y
+    pub LeadsTo-from_path : (via : List Id) → IsPath m x via y
         → LeadsTo (edges_of g) k (suc (length via)) j
-    steps_over_nodes via path =
-        let over = node_path k j x via y at to path in
+    LeadsTo-from_path via path =
+        let over = IsNodePath-from_path k j x via y at to path in
         subst (λ (n : ℕ). LeadsTo (edges_of g) k n j) over.3
         (LeadsTo-node_path (edges_of g) k over.0 j over.1)
 
-  pub steps_over_map : (n k j : ℕ) (x y : Id) → slice_get g.ids k ≡ Some x
+  pub IsPath-from_leads_to : (n k j : ℕ) (x y : Id) → slice_get g.ids k ≡ Some x
       → slice_get g.ids j ≡ Some y → LeadsTo (edges_of g) k (suc n) j
       → (via : List Id) × IsPath m x via y × (length via ≡ n)
-  steps_over_map zero k j x y at to there =
+  IsPath-from_leads_to zero k j x y at to there =
       let last : id_at g there.0 ≡ y = ap (id_at g) there.2 ∙ id_at-is g j y to in
       ([], subst (DependsOn m x) last (edge_depends k there.0 x at there.1), refl)
-  steps_over_map (suc n) k j x y at to there =
+  IsPath-from_leads_to (suc n) k j x y at to there =
       let z = id_at g there.0 in
-      let here = slice_get-id_at g there.0 (edge_within g is.graph k there.0 there.1) in
-      let rest = steps_over_map n there.0 j z y here to there.2 in
+      let here = slice_get-id_at g there.0 (edges_of-within g is.graph k there.0 there.1) in
+      let rest = IsPath-from_leads_to n there.0 j z y here to there.2 in
       (z ∷ rest.0, (edge_depends k there.0 x at there.1, rest.1), ap suc rest.2)
 
   -- ---- distances, where `Leads` is the number of edges of a path from node k to node j, which is
@@ -119,25 +122,25 @@ module _ (m : List Instance) (g : DependencyGraph) (is : IsGraphOf m g) where
 
   module _ (k j : ℕ) (x y : Id) (at : slice_get g.ids k ≡ Some x)
       (to : slice_get g.ids j ≡ Some y) (other : k ≢ j) where
-    pub distance_is : (n : ℕ) → LeadsTo (edges_of g) k n j
+    pub IsDistance-from_least : (n : ℕ) → LeadsTo (edges_of g) k n j
         → ((l : ℕ) → LeadsTo (edges_of g) k l j → n ≤ l) → IsDistance m x y n
-    distance_is zero there fewest = absurd (other there)
-    distance_is (suc n) there fewest =
-        let found = steps_over_map n k j x y at to there in
+    IsDistance-from_least zero there fewest = absurd (other there)
+    IsDistance-from_least (suc n) there fewest =
+        let found = IsPath-from_leads_to n k j x y at to there in
         record {
           via = found.0;
           path = found.1;
           long = omega (arith, found.2);
           fewest = λ via path.
-              let most = fewest (suc (length via)) (steps_over_nodes k j x y at to via path) in
+              let most = fewest (suc (length via)) (LeadsTo-from_path k j x y at to via path) in
               omega arith;
         }
 
-    pub distance_leads : (n : ℕ) → IsDistance m x y n → LeadsTo (edges_of g) k n j
+    pub LeadsTo-from_distance : (n : ℕ) → IsDistance m x y n → LeadsTo (edges_of g) k n j
         × ((l : ℕ) → LeadsTo (edges_of g) k l j → n ≤ l)
-    distance_leads n d = (
+    LeadsTo-from_distance n d = (
       subst (λ (l : ℕ). LeadsTo (edges_of g) k l j) (long d.long)
-          (steps_over_nodes k j x y at to d.via d.path),
+          (LeadsTo-from_path k j x y at to d.via d.path),
       fewest,
     ) where
       long : length d.via + 1 ≡ n → suc (length d.via) ≡ n
@@ -146,6 +149,6 @@ module _ (m : List Instance) (g : DependencyGraph) (is : IsGraphOf m g) where
       fewest : (l : ℕ) → LeadsTo (edges_of g) k l j → n ≤ l
       fewest zero there = absurd (other there)
       fewest (suc l) there =
-          let found = steps_over_map l k j x y at to there in
+          let found = IsPath-from_leads_to l k j x y at to there in
           let most = d.fewest found.0 found.1 in
           omega (arith, found.2)

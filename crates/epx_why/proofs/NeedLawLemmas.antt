@@ -1,13 +1,14 @@
 -- What waiting instances need, and which instances need a missing one.
 use Rattle.std.proofs.Common.{◌≡◌, List, [], ◌∷◌, map, Contains, refl, sym, ap, subst, inl, inr}
 use Rattle.epx_types.proofs.Common.{Below, IsRising, UpTo, Instance, IsCommitted, IsPath}
-use Rattle.epx_types.proofs.Common.{DependsOn-committed, id_cmp_total, AllPairs-head, Contains-nil}
+use Rattle.epx_types.proofs.Common.{DependsOn-committed, id_cmp-IsTotalOrder, AllPairs-head}
+use Rattle.epx_types.proofs.Common.{Contains-nil}
 use Rattle.epx_types.proofs.Common.{Contains-head, Contains-map, Contains-cons_cases}
-use Rattle.epx_types.proofs.Common.{AllPairs-from_IsRising, below_asymm, ready_or_waits}
+use Rattle.epx_types.proofs.Common.{AllPairs-from_IsRising, is_lt-asymm, IsReady-or_waits}
 use Rattle.epx_types.specs.declared.id.Id.{Id}
 use Rattle.epx_why.specs.declared.need.Need.{Need}
 use Rattle.epx_why.specs.WhyLaws.{NeedsBeginWithTheMissing, NeedingInstancesWait}
-use Rattle.epx_why.proofs.TextExistenceLemmas.{distance_of_path}
+use Rattle.epx_why.proofs.TextExistenceLemmas.{IsDistance-exists}
 
 -- a list of needs that has this one begins with it, if its Id is up to each of them
 begins_with : (needs : List Need) (n : Need) → IsRising (map (λ n. n.id) needs)
@@ -23,16 +24,16 @@ begins_with (k ∷ needs) n rising h least =
           (Contains-map (λ (i : Need). i.id) needs n later) in
           elim (least k (Contains-head k needs)) [
             | inl same ↦ (k, needs, refl, sym same)
-            | inr less ↦ absurd (below_asymm id_cmp_total k.id n.id below less)
+            | inr less ↦ absurd (is_lt-asymm id_cmp-IsTotalOrder k.id n.id below less)
           ]
     ]
 
-pub needs_begin_with_the_missing : NeedsBeginWithTheMissing
-needs_begin_with_the_missing m x missing needs waits are =
+pub NeedsBeginWithTheMissing-holds : NeedsBeginWithTheMissing
+NeedsBeginWithTheMissing-holds m x missing needs waits are =
     elim waits.reached [
       | inl same ↦ absurd (waits.missing (subst (IsCommitted m) same waits.committed))
       | inr path ↦
-          let d = distance_of_path m x missing path.0 path.1 in
+          let d = IsDistance-exists m x missing path.0 path.1 in
           begins_with needs (record { id = missing; steps = d.0 }) are.rising
           (are.whole missing d.0 (waits.missing, d.1))
           (λ k h. let need = are.only k h in
@@ -45,10 +46,10 @@ start_committed : (m : List Instance) (x : Id) (via : List Id) (y : Id) → IsPa
 start_committed m x [] y d = DependsOn-committed m x y d
 start_committed m x (z ∷ via) y path = DependsOn-committed m x z path.0
 
-pub needing_instances_wait : NeedingInstancesWait
-needing_instances_wait m y needing missing are n h =
+pub NeedingInstancesWait-holds : NeedingInstancesWait
+NeedingInstancesWait-holds m y needing missing are n h =
     let d = are.only n h in
-    elim (ready_or_waits m n.id (start_committed m n.id d.via y d.path)) [
+    elim (IsReady-or_waits m n.id (start_committed m n.id d.via y d.path)) [
       | inl ready ↦ absurd (missing (ready.complete y (inr (d.via, d.path))))
       | inr waits ↦ waits
     ]

@@ -6,22 +6,24 @@ use Rattle.epx_types.proofs.Common.{cases_lt, map_push, Contains-append_left, Co
 use Rattle.epx_types.proofs.Common.{Contains-push_cases, slice_get_within, Below, IsRising}
 use Rattle.epx_types.proofs.Common.{Instance, IsCommitted, Contains-from_map, IsRising-push}
 use Rattle.epx_types.specs.declared.id.Id.{Id}
-use Rattle.epx_graph.proofs.Common.{DependencyGraph, edges_of, IsGraph, IsGraphOf, committed_order}
-use Rattle.epx_graph.proofs.Common.{missing_order, reached_node, node_of_committed, missing_number}
-use Rattle.epx_graph.proofs.Common.{missing_id, LeadsTo, AreDistancesFrom, AreDistancesTo}
+use Rattle.epx_graph.proofs.Common.{DependencyGraph, edges_of, IsGraph, IsGraphOf, Below-committed}
+use Rattle.epx_graph.proofs.Common.{Below-missing, NodeReaches-exists, slice_get-if_committed}
+use Rattle.epx_graph.proofs.Common.{committed-if_missing}
+use Rattle.epx_graph.proofs.Common.{IsCommitted-not_past, LeadsTo, AreDistancesFrom, AreDistancesTo}
 use Rattle.epx_graph.proofs.Common.{distance_at}
 use Rattle.epx_why.specs.declared.need.Need.{Need}
 use Rattle.epx_why.specs.Distances.{IsDistance}
 use Rattle.epx_why.specs.Needs.{AreNeedsOf, AreNeeding}
 use Rattle.epx_why.specs.inner.NodeNeeds.{IsNeedAt, AreNeedsIn}
-use Rattle.epx_why.proofs.MapStepLemmas.{distance_is, distance_leads, AreLeast-fewest}
+use Rattle.epx_why.proofs.MapStepLemmas.{IsDistance-from_least, LeadsTo-from_distance}
+use Rattle.epx_why.proofs.MapStepLemmas.{AreLeast-fewest}
 use Rattle.epx_why.proofs.MapStepLemmas.{AreLeast-known, IsPath-start_committed}
 
 module _ (g : DependencyGraph) (distances : List (Option ℕ)) (start : ℕ) where
   -- a node without a distance
-  pub needs_skip : (end : ℕ) (needs : List Need) → distance_at distances end ≡ None
+  pub AreNeedsIn-skip : (end : ℕ) (needs : List Need) → distance_at distances end ≡ None
       → AreNeedsIn g distances start end needs → AreNeedsIn g distances start (end + 1) needs
-  needs_skip end needs none are = record {
+  AreNeedsIn-skip end needs none are = record {
     from = λ n h. let at = are.from n h in (at.0, at.1, omega (arith, at.2), at.3);
     whole = λ k n low high h. elim (cases_lt k end) [
       | inl before ↦ are.whole k n low before h
@@ -53,15 +55,15 @@ module _ (g : DependencyGraph) (distances : List (Option ℕ)) (start : ℕ) whe
         let at = are.from from.0 from.1 in
         let low : at.0 < end = at.2 in
         let order : Below from.0.id w.id = elim kind [
-          | inl committed ↦ (committed_order g graph at.0 end from.0.id w.id at.3.id here.id
+          | inl committed ↦ (Below-committed g graph at.0 end from.0.id w.id at.3.id here.id
               (omega arith) committed).0 low
-          | inr missing ↦ (missing_order g graph at.0 end from.0.id w.id at.3.id here.id
+          | inr missing ↦ (Below-missing g graph at.0 end from.0.id w.id at.3.id here.id
               (omega (arith, at.1)) (omega arith)).0 low
         ] in
         subst (λ (y : Id). Below y w.id) from.2 order
 
-    pub needs_more : AreNeedsIn g distances start (end + 1) (needs ++ w ∷ [])
-    needs_more = record {
+    pub AreNeedsIn-push : AreNeedsIn g distances start (end + 1) (needs ++ w ∷ [])
+    AreNeedsIn-push = record {
       from = λ n h. elim (Contains-push_cases needs w n h) [
         | inl old ↦ let at = are.from n old in (at.0, at.1, omega (arith, at.2), at.3)
         | inr last ↦ (end, start_low, omega arith, subst (IsNeedAt g distances end) last here)
@@ -77,10 +79,10 @@ module _ (g : DependencyGraph) (distances : List (Option ℕ)) (start : ℕ) whe
     }
 
 -- the needs by some distances, in a range of nodes, are those by equal distances in an equal range
-pub needs_along : (g : DependencyGraph) (ds es : List (Option ℕ)) (start from end to : ℕ)
+pub AreNeedsIn-equal : (g : DependencyGraph) (ds es : List (Option ℕ)) (start from end to : ℕ)
     (needs : List Need) → ds ≡ es → start ≡ from → end ≡ to → AreNeedsIn g ds start end needs
     → AreNeedsIn g es from to needs
-needs_along g ds es start from end to needs same first last are =
+AreNeedsIn-equal g ds es start from end to needs same first last are =
     subst (λ (n : ℕ). AreNeedsIn g es from n needs) last
     (subst₂ (λ (d : List (Option ℕ)) (n : ℕ). AreNeedsIn g d n end needs) same first are)
 
@@ -89,16 +91,16 @@ needs_along g ds es start from end to needs same first last are =
 module _ (m : List Instance) (g : DependencyGraph) (is : IsGraphOf m g) (k : ℕ) (x : Id)
     (at : slice_get g.ids k ≡ Some x) where
   -- the missing instances that a committed one reaches
-  pub needs_of_node : (distances : List (Option ℕ)) (needs : List Need) → k < g.committed
+  pub AreNeedsOf-node : (distances : List (Option ℕ)) (needs : List Need) → k < g.committed
       → AreDistancesFrom g k distances
       → AreNeedsIn g distances g.committed (length g.ids) needs → AreNeedsOf m x needs
-  needs_of_node distances needs l known are = record {
+  AreNeedsOf-node distances needs l known are = record {
     only = λ n h.
         let from = are.from n h in
         let j = from.0 in
         let apart : k ≢ j = λ same. absurd (omega (arith, from.1)) in (
-          missing_id m g is j n.id from.3.id from.1,
-          distance_is m g is k j x n.id at from.3.id apart n.steps
+          IsCommitted-not_past m g is j n.id from.3.id from.1,
+          IsDistance-from_least m g is k j x n.id at from.3.id apart n.steps
               (known.leads j n.steps from.3.steps)
               (AreLeast-fewest (λ i c. LeadsTo (edges_of g) k i c) (length g.ids) distances known j
               n.steps from.3.steps),
@@ -109,11 +111,11 @@ module _ (m : List Instance) (g : DependencyGraph) (is : IsGraphOf m g) (k : ℕ
     there : (y : Id) (steps : ℕ) → ¬ IsCommitted m y → IsDistance m x y steps
         → Contains needs (record { id = y; steps = steps })
     there y steps missing d =
-        let node = reached_node m g is k x y at (inr (d.via, d.path)) in
+        let node = NodeReaches-exists m g is k x y at (inr (d.via, d.path)) in
         let j = node.0 in
-        let past = missing_number m g is j y node.1 missing in
+        let past = committed-if_missing m g is j y node.1 missing in
         let apart : k ≢ j = λ same. absurd (omega (arith, past)) in
-        let leads = distance_leads m g is k j x y at node.1 apart steps d in
+        let leads = LeadsTo-from_distance m g is k j x y at node.1 apart steps d in
         are.whole j (record { id = y; steps = steps }) past (slice_get_within g.ids j y node.1)
         (record {
           id = node.1;
@@ -122,15 +124,15 @@ module _ (m : List Instance) (g : DependencyGraph) (is : IsGraphOf m g) (k : ℕ
         })
 
   -- the instances that reach a missing one
-  pub needing_node : (distances : List (Option ℕ)) (needs : List Need) → g.committed ≤ k
+  pub AreNeeding-node : (distances : List (Option ℕ)) (needs : List Need) → g.committed ≤ k
       → AreDistancesTo g k distances → AreNeedsIn g distances 0 g.committed needs
       → AreNeeding m x needs
-  needing_node distances needs past known are = record {
+  AreNeeding-node distances needs past known are = record {
     only = λ n h.
         let from = are.from n h in
         let j = from.0 in
         let apart : j ≢ k = λ same. absurd (omega (arith, from.2)) in
-        distance_is m g is j k n.id x from.3.id at apart n.steps
+        IsDistance-from_least m g is j k n.id x from.3.id at apart n.steps
         (known.leads j n.steps from.3.steps)
         (AreLeast-fewest (λ i c. LeadsTo (edges_of g) c i k) (length g.ids) distances known j
         n.steps from.3.steps);
@@ -140,10 +142,10 @@ module _ (m : List Instance) (g : DependencyGraph) (is : IsGraphOf m g) (k : ℕ
     there : (y : Id) (steps : ℕ) → IsDistance m y x steps
         → Contains needs (record { id = y; steps = steps })
     there y steps d =
-        let node = node_of_committed m g is y (IsPath-start_committed m y d.via x d.path) in
+        let node = slice_get-if_committed m g is y (IsPath-start_committed m y d.via x d.path) in
         let j = node.0 in
         let apart : j ≢ k = λ same. absurd (omega (arith, node.1)) in
-        let leads = distance_leads m g is j k y x node.2 at apart steps d in
+        let leads = LeadsTo-from_distance m g is j k y x node.2 at apart steps d in
         are.whole j (record { id = y; steps = steps }) (omega arith) node.1
         (record {
           id = node.2;

@@ -3,8 +3,8 @@ use Rattle.std.proofs.Common.{◌≡◌, ◌⊎◌, inl, inr, ℕ, ◌+◌, ◌<
 use Rattle.std.proofs.Common.{length, get_or, Contains, Option, Some, None, MatchOption, sym, ap}
 use Rattle.std.proofs.Common.{subst, ◌∙◌, arith}
 use Rattle.epx_types.proofs.Common.{cases_lt, take_more, Contains-append_left, Contains-push}
-use Rattle.epx_types.proofs.Common.{Contains-push_cases, Below, UpTo, id_cmp_total}
-use Rattle.epx_types.proofs.Common.{id_cmp-IsAntisymmetric, below_cases, below_trans}
+use Rattle.epx_types.proofs.Common.{Contains-push_cases, Below, UpTo, id_cmp-IsTotalOrder}
+use Rattle.epx_types.proofs.Common.{id_cmp-IsAntisymmetric, is_lt-cases, is_lt-trans}
 use Rattle.epx_graph.proofs.Common.{DependencyGraph, distance_at}
 use Rattle.epx_why.specs.inner.NodeWalks.{id_at, AreFewest, AreNext}
 
@@ -98,7 +98,7 @@ module _ (distances : List (Option ℕ)) (targets : List ℕ) (x : ℕ) where
     } where
       up_to : UpTo (id_at g best) (id_at g x)
       up_to =
-          elim (below_cases id_cmp_total id_cmp-IsAntisymmetric (id_at g best) (id_at g x)) [
+          elim (is_lt-cases id_cmp-IsTotalOrder id_cmp-IsAntisymmetric (id_at g best) (id_at g x)) [
             | inl l ↦ inr l
             | inr (inl e) ↦ inl e
             | inr (inr l) ↦ absurd (later l)
@@ -125,7 +125,8 @@ module _ (distances : List (Option ℕ)) (targets : List ℕ) (x : ℕ) where
       least (Some best) before are o among has =
           elim (are.least o among has) [
             | inl same ↦ inr (subst (Below (id_at g x)) same before)
-            | inr l ↦ inr (below_trans id_cmp_total (id_at g x) (id_at g best) (id_at g o) before l)
+            | inr l ↦ inr
+                (is_lt-trans id_cmp-IsTotalOrder (id_at g x) (id_at g best) (id_at g o) before l)
           ]
 
 -- ---- one more of the targets
@@ -134,39 +135,39 @@ module _ (distances : List (Option ℕ)) (targets : List ℕ) (i : ℕ) (l : i <
   next_take : take i targets ++ get_or targets i 0 ∷ [] ≡ take (i + 1) targets
   next_take = sym (take_more targets i 0 l)
 
-  pub fewest_without : (fewest : Option ℕ) → distance_at distances (get_or targets i 0) ≡ None
+  pub AreFewest-without : (fewest : Option ℕ) → distance_at distances (get_or targets i 0) ≡ None
       → AreFewest distances (take i targets) fewest
       → AreFewest distances (take (i + 1) targets) fewest
-  fewest_without fewest none are =
+  AreFewest-without fewest none are =
       subst (λ (xs : List ℕ). AreFewest distances xs fewest) next_take
       (fewest_skip distances (take i targets) (get_or targets i 0) fewest none are)
 
-  pub fewest_with : (n : ℕ) (fewest : Option ℕ) (now : ℕ)
+  pub AreFewest-with : (n : ℕ) (fewest : Option ℕ) (now : ℕ)
       → distance_at distances (get_or targets i 0) ≡ Some n
       → MatchOption fewest (now ≡ n) (λ least. now ≡ min least n)
       → AreFewest distances (take i targets) fewest
       → AreFewest distances (take (i + 1) targets) (Some now)
-  fewest_with n fewest now at is are =
+  AreFewest-with n fewest now at is are =
       subst (λ (xs : List ℕ). AreFewest distances xs (Some now)) next_take
       (fewest_more distances (take i targets) (get_or targets i 0) n fewest now at is are)
 
   module _ (g : DependencyGraph) (n : ℕ) (next : Option ℕ)
       (are : AreNext g distances (take i targets) n next) where
-    pub next_without : (¬ (distance_at distances (get_or targets i 0) ≡ Some n))
+    pub AreNext-without : (¬ (distance_at distances (get_or targets i 0) ≡ Some n))
         ⊎ (¬ (MatchOption next (Unit {0})
         (λ best. Below (id_at g (get_or targets i 0)) (id_at g best))))
         → AreNext g distances (take (i + 1) targets) n next
-    next_without (inl other) =
+    AreNext-without (inl other) =
         subst (λ (xs : List ℕ). AreNext g distances xs n next) next_take
         (next_other distances (take i targets) (get_or targets i 0) g n next other are)
-    next_without (inr later) =
+    AreNext-without (inr later) =
         subst (λ (xs : List ℕ). AreNext g distances xs n next) next_take
         (next_later distances (take i targets) (get_or targets i 0) g n next later are)
 
-    pub next_with : distance_at distances (get_or targets i 0) ≡ Some n
+    pub AreNext-with : distance_at distances (get_or targets i 0) ≡ Some n
         → MatchOption next (Unit {0})
         (λ best. Below (id_at g (get_or targets i 0)) (id_at g best))
         → AreNext g distances (take (i + 1) targets) n (Some (get_or targets i 0))
-    next_with at before =
+    AreNext-with at before =
         subst (λ (xs : List ℕ). AreNext g distances xs n (Some (get_or targets i 0))) next_take
         (next_first distances (take i targets) (get_or targets i 0) g n next at before are)

@@ -3,13 +3,16 @@ use Rattle.std.proofs.Common.{◌≡◌, ◌⊎◌, inl, inr, ℕ, zero, suc, �
 use Rattle.std.proofs.Common.{length, map, flat_map, codes, Contains, refl, sym, ap, subst, ◌∙◌}
 use Rattle.std.proofs.Common.{arith}
 use Rattle.epx_types.proofs.Common.{cases_lt, IsRising, UpTo, Instance, ids_of, IsCommitted}
-use Rattle.epx_types.proofs.Common.{DependsOn, IsPath, Reaches, IsReady, WaitsFor, id_cmp_total}
+use Rattle.epx_types.proofs.Common.{DependsOn, IsPath, Reaches, IsReady, WaitsFor}
+use Rattle.epx_types.proofs.Common.{id_cmp-IsTotalOrder}
 use Rattle.epx_types.proofs.Common.{id_cmp-IsAntisymmetric, slice_get-from_Contains, Contains-nil}
 use Rattle.epx_types.proofs.Common.{Contains-head, Contains-cons, Contains-cons_cases}
 use Rattle.epx_types.proofs.Common.{Contains-flat_map, Contains-from_map, IsRising-from_AllPairs}
-use Rattle.epx_types.proofs.Common.{rising_list, some_or_none, least_or_none, both_cases}
+use Rattle.epx_types.proofs.Common.{AreThose-exists, Contains-some_or_none, IsLeastOf-or_none}
+use Rattle.epx_types.proofs.Common.{both-cases}
 use Rattle.epx_types.proofs.Common.{Reaches-cases, DependsOn-cases, Contains-Id_cases}
-use Rattle.epx_types.proofs.Common.{IsExecutionOrder-ranked, execution_order_exists, ready_or_waits}
+use Rattle.epx_types.proofs.Common.{IsExecutionOrder-ranked, IsExecutionOrder-exists}
+use Rattle.epx_types.proofs.Common.{IsReady-or_waits}
 use Rattle.epx_types.specs.declared.id.Id.{Id}
 use Rattle.epx_report.specs.ReportLines.{waiting_line}
 use Rattle.epx_report.specs.ViewLines.{missing_line}
@@ -68,8 +71,8 @@ module _ (m : List Instance) where
 
   path_cases : (x y : Id) → ((via : List Id) × IsPath m x via y) ⊎ HasNoPath m x y
   path_cases x y =
-      elim (some_or_none (λ z. DependsOn m x z × Reaches m z y)
-      (λ z. both_cases (DependsOn-cases m x z) (Reaches-cases m z y)) all_deps) [
+      elim (Contains-some_or_none (λ z. DependsOn m x z × Reaches m z y)
+      (λ z. both-cases (DependsOn-cases m x z) (Reaches-cases m z y)) all_deps) [
         | inl found ↦ inl (by found.0 found.2.0 found.2.1)
         | inr none ↦ inr (no_path none)
       ]
@@ -139,8 +142,8 @@ module _ (m : List Instance) where
         no_path none [] path long = none path
         no_path none (z ∷ via) path long = omega arith
     first_of (suc n) x =
-        elim (least_or_none (λ z. DependsOn m x z × HasPathOf n z)
-        (λ z. both_cases (DependsOn-cases m x z) (has_cases n z (first_of n z))) all_deps) [
+        elim (IsLeastOf-or_none (λ z. DependsOn m x z × HasPathOf n z)
+        (λ z. both-cases (DependsOn-cases m x z) (has_cases n z (first_of n z))) all_deps) [
           | inl found ↦ elim (first_of n found.0) [
             | inl first ↦ inl (
               found.0 ∷ first.0,
@@ -203,9 +206,9 @@ module _ (m : List Instance) where
       ]
 
   -- where a path leads is at a distance
-  pub distance_of_path : (x y : Id) (via : List Id) → IsPath m x via y
+  pub IsDistance-exists : (x y : Id) (via : List Id) → IsPath m x via y
       → (n : ℕ) × IsDistance m x y n
-  distance_of_path x y via path =
+  IsDistance-exists x y via path =
       elim (first_path_exists y x) [
         | inl first ↦ shortest_distance x y first.0 first.1
         | inr none ↦ absurd (none via path)
@@ -235,7 +238,8 @@ module _ (m : List Instance) where
     needs_exist : (ids : List Id) → ((y : Id) (n : ℕ) → IsNeed y n → Contains ids y)
         → (needs : List Need) × AreNeeds IsNeed needs
     needs_exist ids within =
-        let those = rising_list id_cmp_total id_cmp-IsAntisymmetric (λ y. (n : ℕ) × IsNeed y n)
+        let those =
+        AreThose-exists id_cmp-IsTotalOrder id_cmp-IsAntisymmetric (λ y. (n : ℕ) × IsNeed y n)
         (λ y. elim (decide y) [ inl some ↦ inl some | inr none ↦ inr (λ h. none h.0 h.1) ]) ids in
         let needs = with_steps those.0 (λ y h. (those.1.elements_only y h).1) in (
           needs.0,
@@ -290,7 +294,7 @@ module _ (m : List Instance) where
 module _ (m : List Instance) (x : Id) (rising : IsRising (ids_of m)) where
   ready_text : IsReady m x → (text : List ℕ) × IsWhyText m x text
   ready_text ready =
-      let order = execution_order_exists m rising in
+      let order = IsExecutionOrder-exists m rising in
       let r = IsExecutionOrder-ranked m order.0 order.1 x ready in
       let at = slice_get-from_Contains order.0 r.0 r.1 in (
         ready_line at.0 r.0,
@@ -331,18 +335,18 @@ module _ (m : List Instance) (x : Id) (rising : IsRising (ids_of m)) where
         })),
       )
 
-pub why_text_exists : WhyTextExists
-why_text_exists m x rising =
+pub WhyTextExists-holds : WhyTextExists
+WhyTextExists-holds m x rising =
     elim (Contains-Id_cases (ids_of m) x) [
-      | inl committed ↦ elim (ready_or_waits m x committed) [
+      | inl committed ↦ elim (IsReady-or_waits m x committed) [
         | inl ready ↦ ready_text m x rising ready
         | inr waits ↦ waiting_text m x rising waits.0 waits.1
       ]
       | inr missing ↦ missing_text m x rising missing
     ]
 
-pub path_text_exists : PathTextExists
-path_text_exists m x y =
+pub PathTextExists-holds : PathTextExists
+PathTextExists-holds m x y =
     elim (first_path_exists m y x) [
       | inl found ↦ (
         path_line (path_ids x found.0 y),

@@ -2,9 +2,9 @@
 use Rattle.std.proofs.Common.{◌≡◌, inl, inr, ℕ, List, [], ◌∷◌, ◌++◌, flat_map, codes, Some}
 use Rattle.std.proofs.Common.{slice_get, refl, sym, ap, ap₂, subst, ◌∙◌, arith}
 use Rattle.epx_types.proofs.Common.{cases_lt, Below, Instance, Ranked, RanksBelow, IsReady}
-use Rattle.epx_types.proofs.Common.{id_cmp_total, rank_cmp_total, AllPairs-slice_get}
-use Rattle.epx_types.proofs.Common.{Contains-slice_get, AllPairs-from_rising_ids, below_irrefl}
-use Rattle.epx_types.proofs.Common.{below_trans, below_asymm, same_rising, WaitsFor-unique}
+use Rattle.epx_types.proofs.Common.{id_cmp-IsTotalOrder, rank_cmp-IsTotalOrder, AllPairs-slice_get}
+use Rattle.epx_types.proofs.Common.{Contains-slice_get, AllPairs-from_rising_ids, is_lt-irrefl}
+use Rattle.epx_types.proofs.Common.{is_lt-trans, is_lt-asymm, AllPairs-is_unique, WaitsFor-unique}
 use Rattle.epx_types.proofs.Common.{IsReady-not_waiting, IsRanked-unique, IsExecutionOrder-unique}
 use Rattle.epx_types.specs.declared.id.Id.{Id}
 use Rattle.epx_report.specs.ReportLines.{waiting_line}
@@ -29,8 +29,8 @@ IsDistance-unique m x y n l p q =
 AreNeeds-unique : (IsNeed : Id → ℕ → Type 0) (ns os : List Need) → AreNeeds IsNeed ns
     → AreNeeds IsNeed os → ns ≡ os
 AreNeeds-unique IsNeed ns os p q =
-    same_rising (λ a b. Below a.id b.id) (λ n. below_irrefl id_cmp_total n.id)
-    (λ a b c. below_trans id_cmp_total a.id b.id c.id)
+    AllPairs-is_unique (λ a b. Below a.id b.id) (λ n. is_lt-irrefl id_cmp-IsTotalOrder n.id)
+    (λ a b c. is_lt-trans id_cmp-IsTotalOrder a.id b.id c.id)
     ns os (AllPairs-from_rising_ids (λ (n : Need). n.id) ns p.rising)
     (AllPairs-from_rising_ids (λ (n : Need). n.id) os q.rising)
     (λ n h. q.whole n.id n.steps (p.only n h)) (λ n h. p.whole n.id n.steps (q.only n h))
@@ -59,13 +59,14 @@ module _ (m : List Instance) (x : Id) where
       positions same here =
           elim (cases_lt p.position q.position) [
             | inl l ↦ absurd
-                (below_irrefl rank_cmp_total q.ranked (subst (λ (r : Ranked). RanksBelow r q.ranked)
+                (is_lt-irrefl rank_cmp-IsTotalOrder q.ranked
+                (subst (λ (r : Ranked). RanksBelow r q.ranked)
                 same
                 (AllPairs-slice_get RanksBelow q.order q.executed.rising p.position q.position
                 p.ranked q.ranked l here q.there)))
             | inr not_l ↦ elim (cases_lt q.position p.position) [
               | inl l ↦ absurd
-                  (below_irrefl rank_cmp_total q.ranked
+                  (is_lt-irrefl rank_cmp-IsTotalOrder q.ranked
                   (subst (λ (r : Ranked). RanksBelow q.ranked r) same
                   (AllPairs-slice_get RanksBelow q.order q.executed.rising q.position p.position
                   q.ranked p.ranked l q.there here)))
@@ -73,24 +74,26 @@ module _ (m : List Instance) (x : Id) where
             ]
           ]
 
-pub why_text_is_unique : WhyTextIsUnique
-why_text_is_unique m x text other (inl p) (inl q) = ready_is_unique m x text other p q
-why_text_is_unique m x text other (inl p) (inr (inl q)) =
+pub WhyTextIsUnique-holds : WhyTextIsUnique
+WhyTextIsUnique-holds m x text other (inl p) (inl q) = ready_is_unique m x text other p q
+WhyTextIsUnique-holds m x text other (inl p) (inr (inl q)) =
     absurd (IsReady-not_waiting m x q.missing (ready_by m x text p) q.waits)
-why_text_is_unique m x text other (inl p) (inr (inr q)) =
+WhyTextIsUnique-holds m x text other (inl p) (inr (inr q)) =
     absurd (q.missing (ready_by m x text p).committed)
-why_text_is_unique m x text other (inr (inl p)) (inl q) =
+WhyTextIsUnique-holds m x text other (inr (inl p)) (inl q) =
     absurd (IsReady-not_waiting m x p.missing (ready_by m x other q) p.waits)
-why_text_is_unique m x text other (inr (inl p)) (inr (inl q)) =
+WhyTextIsUnique-holds m x text other (inr (inl p)) (inr (inl q)) =
     let missing = WaitsFor-unique m x p.missing q.missing p.waits q.waits in
     let needs = AreNeeds-unique _ p.needs q.needs p.needed q.needed in
     p.printed ∙ (λ i. waiting_line (record { id = x; missing = missing i })
     ++ flat_map (need_line (codes "needs")) (needs i)) ∙ sym q.printed
-why_text_is_unique m x text other (inr (inl p)) (inr (inr q)) = absurd (q.missing p.waits.committed)
-why_text_is_unique m x text other (inr (inr p)) (inl q) =
+WhyTextIsUnique-holds m x text other (inr (inl p)) (inr (inr q)) =
+    absurd (q.missing p.waits.committed)
+WhyTextIsUnique-holds m x text other (inr (inr p)) (inl q) =
     absurd (p.missing (ready_by m x other q).committed)
-why_text_is_unique m x text other (inr (inr p)) (inr (inl q)) = absurd (p.missing q.waits.committed)
-why_text_is_unique m x text other (inr (inr p)) (inr (inr q)) =
+WhyTextIsUnique-holds m x text other (inr (inr p)) (inr (inl q)) =
+    absurd (p.missing q.waits.committed)
+WhyTextIsUnique-holds m x text other (inr (inr p)) (inr (inr q)) =
     let needing = AreNeeds-unique _ p.needing q.needing p.reaching q.reaching in
     p.printed ∙ ap (λ ns. missing_line x ++ flat_map (need_line (codes "needed")) ns) needing
     ∙ sym q.printed
@@ -101,22 +104,23 @@ ComesUpTo-antisymm : (xs ys : List Id) → ComesUpTo xs ys → ComesUpTo ys xs �
 ComesUpTo-antisymm [] [] p q = refl
 ComesUpTo-antisymm [] (y ∷ ys) p q = absurd q
 ComesUpTo-antisymm (x ∷ xs) [] p q = absurd p
-ComesUpTo-antisymm (x ∷ xs) (y ∷ ys) (inl l) (inl k) = absurd (below_asymm id_cmp_total x y l k)
+ComesUpTo-antisymm (x ∷ xs) (y ∷ ys) (inl l) (inl k) =
+    absurd (is_lt-asymm id_cmp-IsTotalOrder x y l k)
 ComesUpTo-antisymm (x ∷ xs) (y ∷ ys) (inl l) (inr k) =
-    absurd (below_irrefl id_cmp_total x (subst (Below x) k.0 l))
+    absurd (is_lt-irrefl id_cmp-IsTotalOrder x (subst (Below x) k.0 l))
 ComesUpTo-antisymm (x ∷ xs) (y ∷ ys) (inr l) (inl k) =
-    absurd (below_irrefl id_cmp_total y (subst (Below y) l.0 k))
+    absurd (is_lt-irrefl id_cmp-IsTotalOrder y (subst (Below y) l.0 k))
 ComesUpTo-antisymm (x ∷ xs) (y ∷ ys) (inr l) (inr k) =
     ap₂ (λ z zs. z ∷ zs) l.0 (ComesUpTo-antisymm xs ys l.1 k.1)
 
-pub path_text_is_unique : PathTextIsUnique
-path_text_is_unique m x y text other (inl p) (inl q) =
+pub PathTextIsUnique-holds : PathTextIsUnique
+PathTextIsUnique-holds m x y text other (inl p) (inl q) =
     let low = p.first.shortest q.via q.first.path in
     let high = q.first.shortest p.via p.first.path in
     let ids = ComesUpTo-antisymm (path_ids x p.via y) (path_ids x q.via y)
     (p.first.first q.via q.first.path (omega arith))
     (q.first.first p.via p.first.path (omega arith)) in
     p.printed ∙ ap path_line ids ∙ sym q.printed
-path_text_is_unique m x y text other (inl p) (inr q) = absurd (q.0 p.via p.first.path)
-path_text_is_unique m x y text other (inr p) (inl q) = absurd (p.0 q.via q.first.path)
-path_text_is_unique m x y text other (inr p) (inr q) = p.1 ∙ sym q.1
+PathTextIsUnique-holds m x y text other (inl p) (inr q) = absurd (q.0 p.via p.first.path)
+PathTextIsUnique-holds m x y text other (inr p) (inl q) = absurd (p.0 q.via q.first.path)
+PathTextIsUnique-holds m x y text other (inr p) (inr q) = p.1 ∙ sym q.1

@@ -15,11 +15,11 @@ pub no_float-path : (ids : List Id) → has_float (array_of (path_data ids)) ≡
 no_float-path ids = rw (no_float-items id_data (λ x. refl) ids) refl
 
 -- one more node of a path
-pub path_more : (g : DependencyGraph) (start : Id) (nodes : List ℕ) (i : ℕ) (parts : List Data)
+pub path_data-push : (g : DependencyGraph) (start : Id) (nodes : List ℕ) (i : ℕ) (parts : List Data)
     (part : Data) → i < length nodes → parts ≡ path_data (start ∷ map (id_at g) (take i nodes))
     → part ≡ id_data (id_at g (get_or nodes i 0))
     → parts ++ part ∷ [] ≡ path_data (start ∷ map (id_at g) (take (i + 1) nodes))
-path_more g start nodes i parts part l same last =
+path_data-push g start nodes i parts part l same last =
     let ids = map (id_at g) (take i nodes) in
     let next = ap (map (id_at g)) (take_more nodes i 0 l)
     ∙ map_push (id_at g) (take i nodes) (get_or nodes i 0) in

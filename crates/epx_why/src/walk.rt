@@ -3,7 +3,7 @@ ghost use Rattle.std.specs.Prelude.{◌≡◌, ◌<◌, ◌↔◌, ℕ, suc, min
 ghost use Rattle.std.specs.Prelude.{length, IsTrue, MatchOption};
 ghost use Rattle.epx_types.specs.Ids.{Below};
 ghost use Rattle.epx_graph.specs.Graphs.{edges_of, IsGraph};
-ghost use Rattle.epx_graph.specs.NodeSteps.{LeadsTo, distance_at};
+ghost use Rattle.epx_graph.specs.between.NodeSteps.{LeadsTo, distance_at};
 ghost use Rattle.epx_why.specs.inner.NodeWalks.{id_at, AreFewest, IsFirstNodePath, IsNext};
 
 use epx_graph::{Graph, distances_to};
@@ -11,7 +11,7 @@ use epx_types::Memory;
 use std::alloc::Global;
 
 /// The lower of two numbers, of which the first may be missing.
-fn lower(fewest: Option<usize>, steps: usize) -> usize
+fn min_steps(fewest: Option<usize>, steps: usize) -> usize
     ensures { MatchOption fewest (result ≡ steps) (λ least. result ≡ min least steps) }
 {
     match fewest {
@@ -21,7 +21,7 @@ fn lower(fewest: Option<usize>, steps: usize) -> usize
 }
 
 /// Whether a distance is this number of steps.
-fn is_at(distance: Option<usize>, steps: usize) -> bool
+fn has_distance(distance: Option<usize>, steps: usize) -> bool
     ensures { IsTrue result ↔ (distance ≡ Some steps) }
 {
     match distance {
@@ -53,7 +53,7 @@ fn fewest_steps(distances: &[Option<usize>], targets: &[usize]) -> Option<usize>
         let Some(steps) = distances[*target] else {
             continue;
         };
-        fewest = Some(lower(fewest, steps));
+        fewest = Some(min_steps(fewest, steps));
     }
     fewest
 }
@@ -67,7 +67,7 @@ fn next_node(graph: &Graph, distances: &[Option<usize>], targets: &[usize], step
 {
     let mut next = None;
     for target in targets {
-        if is_at(distances[*target], steps) && is_before(graph, *target, next) {
+        if has_distance(distances[*target], steps) && is_before(graph, *target, next) {
             next = Some(*target);
         }
     }

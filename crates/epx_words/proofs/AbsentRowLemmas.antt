@@ -16,7 +16,7 @@ use Rattle.clap.specs.declared.builder.value_parser.Reading.{Reading}
 use Rattle.clap.specs.declared.parser.matches.ValueSource.{ValueSource}
 use Rattle.clap.specs.declared.parser.matches.ValueSource.TheVariants.{CommandLine, DefaultValue}
 use Rattle.epx_words.specs.SubcommandRows.{HasFlag}
-use Rattle.epx_words.proofs.KeptRowLemmas.{KeepsRows, at_row_kept, level_kept, without_kept}
+use Rattle.epx_words.proofs.KeptRowLemmas.{KeepsRows, at_row-kept, AreKept-level, without-kept}
 use Rattle.epx_words.proofs.SoundRowLemmas.{new_row}
 
 module _ (id : Text) where
@@ -34,7 +34,7 @@ module _ (id : Text) where
       (rows : List Row) → bytes_eq name id ≡ false → AreOthers rows
       → AreOthers (with_values name how s values rows)
   values_other name how s values rows other h =
-      at_row_kept IsOther name (more_values s values) (new_row name how s values ∷ []) rows
+      at_row-kept IsOther name (more_values s values) (new_row name how s values ∷ []) rows
       (λ r is. (is, tt)) (other, tt) h
 
   set_other : (name : Text) (how : Reading) (values : List Text) (rows : List Row)
@@ -42,15 +42,15 @@ module _ (id : Text) where
       → AreOthers (with_values name how CommandLine values (without name rows))
   set_other name how values rows other h =
       values_other name how CommandLine values (without name rows) other
-      (without_kept IsOther name rows h)
+      (without-kept IsOther name rows h)
 
   counted_other : (name : Text) (how : Reading) (values : List Text) (rows : List Row)
       → bytes_eq name id ≡ false → AreOthers rows → AreOthers (counted name how values rows)
   counted_other name how [] rows other h =
       let n = min (count_of name rows + 1) 255 in
       let row = record (new_row name how CommandLine (count_text n ∷ [])) { count = Some n } in
-      at_row_kept IsOther name (new_count CommandLine n) (row ∷ []) (without name rows)
-      (λ r is. (is, tt)) (other, tt) (without_kept IsOther name rows h)
+      at_row-kept IsOther name (new_count CommandLine n) (row ∷ []) (without name rows)
+      (λ r is. (is, tt)) (other, tt) (without-kept IsOther name rows h)
   counted_other name how (v ∷ vs) rows other h = set_other name how (v ∷ vs) rows other h
 
   used_other : (action : ArgAction) (name : Text) (how : Reading) (values : List Text)
@@ -96,12 +96,12 @@ module _ (id : Text) where
   no_value (r ∷ rs) h = rw h.0 (no_value rs h.1)
 
   -- a level in which clap finds no fault ends without the flag
-  pub no_flag : (s : Shape) → AllByRecursion IsOtherRule s.rules → (words : List Text)
+  pub HasFlag-absent : (s : Shape) → AllByRecursion IsOtherRule s.rules → (words : List Text)
       → level_fault s [] nothing_held words false [] ≡ []
       → ¬ HasFlag id (rows_after s.rules [] words)
-  no_flag s others words none has =
+  HasFlag-absent s others words none has =
       let end = (walk s.rules [] nothing_held words).held in
       let keeps = uses_keep s.args_override_self s.rules others in
       let all = defaults_other s.rules (settled s.rules end).rows others
-      (level_kept IsOther s keeps words none) in
+      (AreKept-level IsOther s keeps words none) in
       cc (has, no_value (rows_after s.rules [] words) all)

@@ -22,16 +22,17 @@ simple_is_local a simple =
     let x = both (not a.last) _ w.1 in
     is_false _ x.1
 
-pub with_argument : (old new : Command) (a : Arg) (app : App) (rule : Rule) → AddsArg old a new
+pub app_of-with_argument : (old new : Command) (a : Arg) (app : App) (rule : Rule)
+    → AddsArg old a new
     → app_of old ≡ app → rule_of a ≡ rule → rule.is_simple ≡ true
     → app_of new ≡ with_rule app rule
-with_argument old new a app rule added before is simple =
+app_of-with_argument old new a app rule added before is simple =
     added.shape (simple_is_local a (ap (λ (r : Rule). r.is_simple) is ∙ simple))
     ∙ ap₂ with_rule before is
 
-pub with_command : (old sub new : Command) (app below : App) → AddsSubcommand old sub new
+pub app_of-with_command : (old sub new : Command) (app below : App) → AddsSubcommand old sub new
     → app_of old ≡ app → app_of sub ≡ below → below.top.is_plain ≡ true
     → app_of new ≡ with_subcommand app below.top
-with_command old sub new app below added before is plain =
+app_of-with_command old sub new app below added before is plain =
     added.shape (plain_fields sub (ap (λ (a : App). a.top.is_plain) is ∙ plain)).globals
     ∙ ap₂ with_subcommand before (ap (λ (a : App). a.top) is)

@@ -14,28 +14,30 @@ use Rattle.epx_words.specs.App.{audit_app, base_app, epx_app, finding_app, follo
 use Rattle.epx_words.specs.App.{input_app, linear_app, list_app, trace_app, why_app}
 use Rattle.epx_words.specs.SubcommandRows.{AsksForWork, IsNumberIn, IsOneOf, IsTaskName, IsWorkName}
 use Rattle.epx_words.specs.SubcommandRows.{NeedsFirst, first_names, max_skew, task_names}
-use Rattle.epx_words.proofs.AbsentRowLemmas.{no_flag}
-use Rattle.epx_words.proofs.KindLemmas.{none_after, none_first}
-use Rattle.epx_words.proofs.StopLemmas.{IsKnownName, StopsAtWork, walk_work}
+use Rattle.epx_words.proofs.AbsentRowLemmas.{HasFlag-absent}
+use Rattle.epx_words.proofs.KindLemmas.{or_else-nil_second, or_else-nil_first}
+use Rattle.epx_words.proofs.StopLemmas.{IsKnownName, StopsAtWork, StopsAtWork-walk}
 use Rattle.epx_words.proofs.SoundArgumentLemmas.{HasNumbers, IsFirstThere, all_to_logs}
-use Rattle.epx_words.proofs.SoundArgumentLemmas.{all_to_logs_keep, around_to_logs}
-use Rattle.epx_words.proofs.SoundArgumentLemmas.{around_to_logs_keep, code_to_first}
-use Rattle.epx_words.proofs.SoundArgumentLemmas.{code_to_first_keep, code_to_logs}
-use Rattle.epx_words.proofs.SoundArgumentLemmas.{code_to_logs_keep, each_to_logs, each_to_logs_keep}
-use Rattle.epx_words.proofs.SoundArgumentLemmas.{first_has_row, level_numbers, level_skew}
-use Rattle.epx_words.proofs.SoundArgumentLemmas.{prefix_to_first, prefix_to_first_keep}
-use Rattle.epx_words.proofs.SoundArgumentLemmas.{reaches_to_first, reaches_to_first_keep}
-use Rattle.epx_words.proofs.SoundArgumentLemmas.{reads_to_first, reads_to_first_keep}
-use Rattle.epx_words.proofs.SoundArgumentLemmas.{skew_to_first, skew_to_first_keep}
-use Rattle.epx_words.proofs.SoundArgumentLemmas.{to_first, to_first_keep}
+use Rattle.epx_words.proofs.SoundArgumentLemmas.{Keeps-all_to_logs, around_to_logs}
+use Rattle.epx_words.proofs.SoundArgumentLemmas.{Keeps-around_to_logs, code_to_first}
+use Rattle.epx_words.proofs.SoundArgumentLemmas.{Keeps-code_to_first, code_to_logs}
+use Rattle.epx_words.proofs.SoundArgumentLemmas.{Keeps-code_to_logs, each_to_logs}
+use Rattle.epx_words.proofs.SoundArgumentLemmas.{Keeps-each_to_logs}
+use Rattle.epx_words.proofs.SoundArgumentLemmas.{first_in-required, HasNumbers-level}
+use Rattle.epx_words.proofs.SoundArgumentLemmas.{IsNumberIn-skew}
+use Rattle.epx_words.proofs.SoundArgumentLemmas.{prefix_to_first, Keeps-prefix_to_first}
+use Rattle.epx_words.proofs.SoundArgumentLemmas.{reaches_to_first, Keeps-reaches_to_first}
+use Rattle.epx_words.proofs.SoundArgumentLemmas.{reads_to_first, Keeps-reads_to_first}
+use Rattle.epx_words.proofs.SoundArgumentLemmas.{skew_to_first, Keeps-skew_to_first}
+use Rattle.epx_words.proofs.SoundArgumentLemmas.{to_first, Keeps-to_first}
 
-pub epx_is_simple : is_simple epx_app ≡ true
+pub is_simple-epx_app : is_simple epx_app ≡ true
 unfolding clap_on_literals
-epx_is_simple = refl
+is_simple-epx_app = refl
 
-pub epx_is_free : is_simple_and_free epx_app ≡ true
+pub is_simple_and_free-epx_app : is_simple_and_free epx_app ≡ true
 unfolding clap_on_literals
-epx_is_free = refl
+is_simple_and_free-epx_app = refl
 
 abbrev app : App
 app = built epx_app
@@ -53,62 +55,68 @@ module _ (name : Text) (rest : List Text) where
   graph_numbers : IsFaultless (leaf_of (graph_app name)) rest
       → HasNumbers (rows_after (leaf_of (graph_app name)).rules [] rest)
   graph_numbers none =
-      level_numbers (leaf_of (graph_app name)) around_to_logs refl refl around_to_logs_keep rest
+      HasNumbers-level (leaf_of (graph_app name)) around_to_logs refl refl Keeps-around_to_logs rest
       none
 
   audit_numbers : IsFaultless (leaf_of (audit_app name)) rest
       → HasNumbers (rows_after (leaf_of (audit_app name)).rules [] rest)
   audit_numbers none =
-      level_numbers (leaf_of (audit_app name)) all_to_logs refl refl all_to_logs_keep rest none
+      HasNumbers-level (leaf_of (audit_app name)) all_to_logs refl refl Keeps-all_to_logs rest none
 
   finding_numbers : IsFaultless (leaf_of (finding_app name)) rest
       → HasNumbers (rows_after (leaf_of (finding_app name)).rules [] rest)
   finding_numbers none =
-      level_numbers (leaf_of (finding_app name)) code_to_logs refl refl code_to_logs_keep rest none
+      HasNumbers-level (leaf_of (finding_app name)) code_to_logs refl refl Keeps-code_to_logs rest
+      none
 
   base_numbers : IsFaultless (leaf_of (base_app name)) rest
       → HasNumbers (rows_after (leaf_of (base_app name)).rules [] rest)
   base_numbers none =
-      level_numbers (leaf_of (base_app name)) code_to_first refl refl code_to_first_keep rest none
+      HasNumbers-level (leaf_of (base_app name)) code_to_first refl refl Keeps-code_to_first rest
+      none
 
   list_numbers : IsFaultless (leaf_of (list_app name)) rest
       → HasNumbers (rows_after (leaf_of (list_app name)).rules [] rest)
   list_numbers none =
-      level_numbers (leaf_of (list_app name)) prefix_to_first refl refl prefix_to_first_keep rest
+      HasNumbers-level (leaf_of (list_app name)) prefix_to_first refl refl Keeps-prefix_to_first
+      rest
       none
 
   linear_numbers : IsFaultless (leaf_of (linear_app name)) rest
       → HasNumbers (rows_after (leaf_of (linear_app name)).rules [] rest)
   linear_numbers none =
-      level_numbers (leaf_of (linear_app name)) skew_to_first refl refl skew_to_first_keep rest none
+      HasNumbers-level (leaf_of (linear_app name)) skew_to_first refl refl Keeps-skew_to_first rest
+      none
 
   linear_skew : IsFaultless (leaf_of (linear_app name)) rest
       → IsNumberIn 0 max_skew
       (one_of (codes "skew") (rows_after (leaf_of (linear_app name)).rules [] rest))
   linear_skew none =
-      level_skew (leaf_of (linear_app name)) refl rest (linear_numbers none).sound
+      IsNumberIn-skew (leaf_of (linear_app name)) refl rest (linear_numbers none).sound
 
   input_numbers : IsFaultless (leaf_of (input_app name)) rest
       → HasNumbers (rows_after (leaf_of (input_app name)).rules [] rest)
   input_numbers none =
-      level_numbers (leaf_of (input_app name)) to_first refl refl to_first_keep rest none
+      HasNumbers-level (leaf_of (input_app name)) to_first refl refl Keeps-to_first rest none
 
   why_numbers : IsFaultless (leaf_of (why_app name)) rest
       → HasNumbers (rows_after (leaf_of (why_app name)).rules [] rest)
   why_numbers none =
-      level_numbers (leaf_of (why_app name)) reaches_to_first refl refl reaches_to_first_keep rest
+      HasNumbers-level (leaf_of (why_app name)) reaches_to_first refl refl Keeps-reaches_to_first
+      rest
       none
 
   trace_numbers : IsFaultless (leaf_of (trace_app name)) rest
       → HasNumbers (rows_after (leaf_of (trace_app name)).rules [] rest)
   trace_numbers none =
-      level_numbers (leaf_of (trace_app name)) reads_to_first refl refl reads_to_first_keep rest
+      HasNumbers-level (leaf_of (trace_app name)) reads_to_first refl refl Keeps-reads_to_first rest
       none
 
   follow_numbers : IsFaultless (leaf_of (follow_app name)) rest
       → HasNumbers (rows_after (leaf_of (follow_app name)).rules [] rest)
   follow_numbers none =
-      level_numbers (leaf_of (follow_app name)) each_to_logs refl refl each_to_logs_keep rest none
+      HasNumbers-level (leaf_of (follow_app name)) each_to_logs refl refl Keeps-each_to_logs rest
+      none
 
 -- no required argument is missing where a level has no fault
 nothing_missing : (shape : Shape) (rest : List Text)
@@ -119,7 +127,7 @@ nothing_missing shape rest none =
     let walked = walk_fault shape [] (walk_from nothing_held) rest in
     let settles = settle_fault shape.rules shape.args_override_self end in
     let defaults = defaults_fault (settled shape.rules end).rows shape.rules in
-    none_after defaults _ (none_after settles _ (none_after walked _ none))
+    or_else-nil_second defaults _ (or_else-nil_second settles _ (or_else-nil_second walked _ none))
 
 -- the text is none of these
 abbrev is_none_of : Text → List Text → Bool
@@ -171,7 +179,8 @@ module _ (shape : Shape) (name : Text) (rest : List Text) (is : IsTaskName name)
     inl is,
     numbers.workers,
     numbers.cut,
-    λ has. first_has_row (rows_after shape.rules [] rest) (there (nothing_missing shape rest none))
+    λ has. first_in-required (rows_after shape.rules [] rest)
+        (there (nothing_missing shape rest none))
         numbers.sound,
     λ e. absurd (no_follow name is e),
     skew,
@@ -251,7 +260,7 @@ module _ (rest : List Text) where
         numbers.workers,
         numbers.cut,
         λ has. absurd (no_first (codes "follow") refl has),
-        λ e. no_flag (codes "exit-code") follow_leaf
+        λ e. HasFlag-absent (codes "exit-code") follow_leaf
             (refl, (refl, (refl, (refl, (refl, (refl, (refl, (refl, (refl, tt))))))))) rest none,
         λ e. absurd (apart (codes "follow") (codes "linear") refl e),
       )
@@ -382,9 +391,9 @@ subcommand_there : (rows : List Row) (there : Bool) → check_fault app.top rows
 subcommand_there rows true none = refl
 subcommand_there rows false none = cc
 
-pub asks_for_work : (words : List Text) → fault_of epx_app words ≡ []
+pub AsksForWork-if_faultless : (words : List Text) → fault_of epx_app words ≡ []
     → AsksForWork (subcommand_of epx_app words)
-asks_for_work words none =
+AsksForWork-if_faultless words none =
     let given = argument_words epx_app words in
     let stop = stop_after app.top.rules (names_of app) given in
     let end = (walk app.top.rules (names_of app) nothing_held given).held in
@@ -392,9 +401,11 @@ asks_for_work words none =
     let below = entered_fault app stop in
     let settles = settle_fault app.top.rules app.top.args_override_self end in
     let defaults = defaults_fault (settled app.top.rules end).rows app.top.rules in
-    let past_walk = none_after walked _ none in
-    let last = none_after defaults _ (none_after settles _ (none_after below _ past_walk)) in
-    stop_works stop (walk_work app.top (names_of app) refl known (walk_from nothing_held) given
-    (none_first walked _ none) tt)
+    let past_walk = or_else-nil_second walked _ none in
+    let last = or_else-nil_second defaults _
+    (or_else-nil_second settles _ (or_else-nil_second below _ past_walk)) in
+    stop_works stop
+    (StopsAtWork-walk app.top (names_of app) refl known (walk_from nothing_held) given
+    (or_else-nil_first walked _ none) tt)
     (subcommand_there (finished app.top.rules end) (is_some (entered app stop)) last)
-    (none_first below _ past_walk)
+    (or_else-nil_first below _ past_walk)

@@ -25,7 +25,7 @@ use Rattle.clap.specs.Walk.{subcommand_met, subcommand_or_other, takes_several, 
 use Rattle.clap.specs.Walk.{to_positional, trailing, used, used_by_id, value, waits, walked}
 use Rattle.clap.specs.Walk.{walk, walk_from, walked_from, without, word_met}
 use Rattle.clap.specs.declared.error.kind.ErrorKind.TheVariants.{TooManyValues}
-use Rattle.epx_words.proofs.KindLemmas.{none_after, none_first}
+use Rattle.epx_words.proofs.KindLemmas.{or_else-nil_second, or_else-nil_first}
 
 module _ (P : Row → Type 0) where
   append_kept : (xs ys : List Row) → AllByRecursion P xs → AllByRecursion P ys
@@ -33,31 +33,31 @@ module _ (P : Row → Type 0) where
   append_kept [] ys a b = b
   append_kept (x ∷ xs) ys a b = (a.0, append_kept xs ys a.1 b)
 
-  pub at_row_kept : (id : Text) (change : Row → List Row) (missing rows : List Row)
+  pub at_row-kept : (id : Text) (change : Row → List Row) (missing rows : List Row)
       → ((r : Row) → P r → AllByRecursion P (change r)) → AllByRecursion P missing
       → AllByRecursion P rows → AllByRecursion P (at_row id change missing rows)
-  at_row_kept id change missing [] f m h = m
-  at_row_kept id change missing (r ∷ rs) f m h =
-      go (bytes_eq r.id id) (at_row_kept id change missing rs f m h.1)
+  at_row-kept id change missing [] f m h = m
+  at_row-kept id change missing (r ∷ rs) f m h =
+      go (bytes_eq r.id id) (at_row-kept id change missing rs f m h.1)
     where
       go : (b : Bool) → AllByRecursion P (at_row id change missing rs)
           → AllByRecursion P (cond b (change r ++ rs) (r ∷ at_row id change missing rs))
       go true rest = append_kept (change r) rs (f r h.0) h.1
       go false rest = (h.0, rest)
 
-  pub without_kept : (id : Text) (rows : List Row) → AllByRecursion P rows
+  pub without-kept : (id : Text) (rows : List Row) → AllByRecursion P rows
       → AllByRecursion P (without id rows)
-  without_kept id rows h = at_row_kept id (λ _. []) [] rows (λ r s. tt) tt h
+  without-kept id rows h = at_row-kept id (λ _. []) [] rows (λ r s. tt) tt h
 
 -- a use of the argument without a fault keeps what holds of each row
 abbrev pub KeepsRows : (Row → Type 0) → Bool → Rule → Type 0
 KeepsRows P again a = (values : List Text) (rows : List Row) → use_fault again a values rows ≡ []
     → AllByRecursion P rows → AllByRecursion P (used a values rows)
 
-pub each_found : (P : Rule → Type 0) (p : Rule → Bool) (c : List Rule) → AllByRecursion P c
+pub IfSome-find : (P : Rule → Type 0) (p : Rule → Bool) (c : List Rule) → AllByRecursion P c
     → IfSome (find p c) P
-each_found P p [] all = tt
-each_found P p (a ∷ rest) all = go (p a) (each_found P p rest all.1)
+IfSome-find P p [] all = tt
+IfSome-find P p (a ∷ rest) all = go (p a) (IfSome-find P p rest all.1)
   where
     go : (b : Bool) → IfSome (find p rest) P → IfSome (cond b (Some a) (find p rest)) P
     go true later = all.0
@@ -89,7 +89,7 @@ module _ (P : Row → Type 0) (s : Shape)
       → AreKept (settled_rows c pending rows)
   rows_kept None rows none h = h
   rows_kept (Some p) rows none h =
-      by_id_kept (arg_by_id c p.0) p.1 rows (each_found (KeepsRows P again) _ c keeps) none h
+      by_id_kept (arg_by_id c p.0) p.1 rows (IfSome-find (KeepsRows P again) _ c keeps) none h
 
   settled_kept : (h : Held) → settle_fault c again h ≡ [] → AreKept h.rows
       → AreKept (settled c h).rows
@@ -99,8 +99,8 @@ module _ (P : Row → Type 0) (s : Shape)
       → react_fault c again a values h ≡ [] → AreKept h.rows
       → AreKept (reacted c a values h).rows
   reacted_kept a values h k none ok =
-      k values (settled c h).rows (none_after (settle_fault c again h) _ none)
-      (settled_kept h (none_first (settle_fault c again h) _ none) ok)
+      k values (settled c h).rows (or_else-nil_second (settle_fault c again h) _ none)
+      (settled_kept h (or_else-nil_first (settle_fault c again h) _ none) ok)
 
   option_kept : (a : Rule) (v : Option Text) (h : Held) → KeepsRows P again a
       → option_fault c again a v h ≡ [] → AreKept h.rows → AreKept (option_met c a v h).0.rows
@@ -138,16 +138,16 @@ module _ (P : Row → Type 0) (s : Shape)
           → AreKept (cond b (option_met c a (attached_value rest) h)
           (met (reacted c a [] h))).0.rows
       go true e = option_kept a (attached_value rest) h k e ok
-      go false e = later (reacted c a [] h) (none_after (react_fault c again a [] h) _ e)
-          (reacted_kept a [] h k (none_first (react_fault c again a [] h) _ e) ok)
+      go false e = later (reacted c a [] h) (or_else-nil_second (react_fault c again a [] h) _ e)
+          (reacted_kept a [] h k (or_else-nil_first (react_fault c again a [] h) _ e) ok)
 
-  pub bundle_kept : (k : ℕ) (flags : Text) (skip : ℕ) (so_far : Outcome) (h : Held)
+  pub AreKept-bundle : (k : ℕ) (flags : Text) (skip : ℕ) (so_far : Outcome) (h : Held)
       → flags_fault c again k flags skip h ≡ [] → AreKept h.rows
       → AreKept (bundle_met c k flags skip so_far h).0.rows
   unfolding bundle_met flags_fault
-  bundle_kept zero flags skip so_far h none ok = ok
-  bundle_kept (suc k) flags skip so_far h none ok =
-      go (slice_get (chars flags) 0) skip (bundle_kept k) none
+  AreKept-bundle zero flags skip so_far h none ok = ok
+  AreKept-bundle (suc k) flags skip so_far h none ok =
+      go (slice_get (chars flags) 0) skip (AreKept-bundle k) none
     where
       go : (first : Option ℕ) (skip : ℕ)
           → ((rest : Text) (skip : ℕ) (so_far : Outcome) (g : Held)
@@ -159,7 +159,7 @@ module _ (P : Row → Type 0) (s : Shape)
       go (Some x) zero later e =
           let rest = drop (length (encode_utf8 x)) flags in
           short_kept (arg_by_short c x) rest h (bundle_met c k rest 0 done)
-          (flags_fault c again k rest 0) (each_found (KeepsRows P again) _ c keeps)
+          (flags_fault c again k rest 0) (IfSome-find (KeepsRows P again) _ c keeps)
           (λ g. later rest 0 done g) e ok
       go (Some x) (suc skip) later e =
           later (drop (length (encode_utf8 x)) flags) skip so_far h e ok
@@ -189,7 +189,7 @@ module _ (P : Row → Type 0) (s : Shape)
   shorts_kept waiting word None h none ok = plain_kept waiting word h ok
   shorts_kept waiting word (Some flags) h none ok =
       after_kept waiting word (bundle c flags h).0 (bundle c flags h).1
-      (bundle_kept (length flags) flags h.skip plain (record h { skip = 0 }) none ok)
+      (AreKept-bundle (length flags) flags h.skip plain (record h { skip = 0 }) none ok)
 
   flags_kept : (waiting : Waiting) (word : Text) (name : Option (Text × Option Text)) (h : Held)
       → flag_word_fault c again name word h ≡ [] → AreKept h.rows
@@ -197,7 +197,7 @@ module _ (P : Row → Type 0) (s : Shape)
   flags_kept waiting word (Some p) h none ok =
       let met = long_met c (arg_by_long c p.0) p.1 h in
       after_kept waiting word met.0 met.1
-      (long_kept (arg_by_long c p.0) p.1 h (each_found (KeepsRows P again) _ c keeps) none ok)
+      (long_kept (arg_by_long c p.0) p.1 h (IfSome-find (KeepsRows P again) _ c keeps) none ok)
   flags_kept waiting word None h none ok = shorts_kept waiting word (short_of word) h none ok
 
   other_kept : (name : Option Text) (waiting : Waiting) (position : ℕ) (word : Text) (h : Held)
@@ -256,9 +256,9 @@ module _ (P : Row → Type 0) (s : Shape)
       go (Some p) e = ok
       go None e =
           step_kept w word met.0 met.1
-          (none_after (word_fault s names w.is_trailing w.waiting word w.held) _ e)
+          (or_else-nil_second (word_fault s names w.is_trailing w.waiting word w.held) _ e)
           (word_kept names w.is_trailing w.waiting w.position word w.held
-          (none_first (word_fault s names w.is_trailing w.waiting word w.held) _ e) ok)
+          (or_else-nil_first (word_fault s names w.is_trailing w.waiting word w.held) _ e) ok)
 
   walk_kept : (names : Names) (w : Walk) (words : List Text) → walk_fault s names w words ≡ []
       → AreKept w.held.rows → AreKept (fold (walked c names) w words).held.rows
@@ -266,14 +266,15 @@ module _ (P : Row → Type 0) (s : Shape)
   walk_kept names w [] none ok = ok
   walk_kept names w (word ∷ words) none ok =
       walk_kept names (walked c names w word) words
-      (none_after (turn_fault s names w word) _ none)
-      (turn_kept names w word (none_first (turn_fault s names w word) _ none) ok)
+      (or_else-nil_second (turn_fault s names w word) _ none)
+      (turn_kept names w word (or_else-nil_first (turn_fault s names w word) _ none) ok)
 
   -- and so does a level in which clap finds no fault, up to its defaults
-  pub level_kept : (words : List Text) → level_fault s [] nothing_held words false [] ≡ []
+  pub AreKept-level : (words : List Text) → level_fault s [] nothing_held words false [] ≡ []
       → AreKept (settled c (walk c [] nothing_held words).held).rows
-  level_kept words none =
+  AreKept-level words none =
       let end = (walk c [] nothing_held words).held in
       let walked = walk_fault s [] (walk_from nothing_held) words in
-      settled_kept end (none_first (settle_fault c again end) _ (none_after walked _ none))
-      (walk_kept [] (walk_from nothing_held) words (none_first walked _ none) tt)
+      settled_kept end
+      (or_else-nil_first (settle_fault c again end) _ (or_else-nil_second walked _ none))
+      (walk_kept [] (walk_from nothing_held) words (or_else-nil_first walked _ none) tt)

@@ -2,10 +2,10 @@
 use Rattle.std.proofs.Common.{◌≡◌, [], ◌∷◌, refl}
 use Rattle.clap.specs.Kinds.{Kinds, or_else}
 
-pub none_first : (a b : Kinds) → or_else a b ≡ [] → a ≡ []
-none_first [] b none = refl
-none_first (k ∷ ks) b none = none
+pub or_else-nil_first : (a b : Kinds) → or_else a b ≡ [] → a ≡ []
+or_else-nil_first [] b none = refl
+or_else-nil_first (k ∷ ks) b none = none
 
-pub none_after : (a b : Kinds) → or_else a b ≡ [] → b ≡ []
-none_after [] b none = none
-none_after (k ∷ ks) b none = cc
+pub or_else-nil_second : (a b : Kinds) → or_else a b ≡ [] → b ≡ []
+or_else-nil_second [] b none = none
+or_else-nil_second (k ∷ ks) b none = cc

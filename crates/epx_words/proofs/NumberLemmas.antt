@@ -31,11 +31,11 @@ module _ (E : Type 0) (G : List ℕ → Result ℕ E → Type 0)
   text_read least most t None read passed =
       absurd (parses t (Err read.0) read.1 (passed.0, passed.1))
 
-  pub number_read : (least most : ℕ) (f : Found) (id : Text) (r : Option ℕ)
+  pub IsRead-from_number : (least most : ℕ) (f : Found) (id : Text) (r : Option ℕ)
       → ((t : Text) → one_text f id ≡ Some t → ReadsOne G t r)
       → IsNumberIn least most (one_of id (rows_of f))
       → IsRead least most (one_of id (rows_of f)) r
-  number_read least most f id r reads passed =
+  IsRead-from_number least most f id r reads passed =
       go (one_of id (rows_of f)) (one_text-rows f id) passed
     where
       go : (o : Option Text) → one_text f id ≡ o → IsNumberIn least most o

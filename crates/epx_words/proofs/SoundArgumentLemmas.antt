@@ -23,11 +23,12 @@ use Rattle.clap.specs.declared.parser.matches.ValueSource.TheVariants.{CommandLi
 use Rattle.clap.proofs.ValueTestLemmas.{accepts-Accepts}
 use Rattle.epx_words.specs.App.{first_rule, flag_rule, logs_rule, number_rule, text_rule}
 use Rattle.epx_words.specs.SubcommandRows.{IsNumberIn, first_in, max_skew}
-use Rattle.epx_words.proofs.KindLemmas.{none_after, none_first}
-use Rattle.epx_words.proofs.SoundRowLemmas.{AreSound, IsSoundRow, first_read, default_has_row}
-use Rattle.epx_words.proofs.SoundRowLemmas.{default_keeps_row, default_sound, new_row, no_default}
-use Rattle.epx_words.proofs.SoundRowLemmas.{number_read, values_sound}
-use Rattle.epx_words.proofs.KeptRowLemmas.{KeepsRows, level_kept, without_kept}
+use Rattle.epx_words.proofs.KindLemmas.{or_else-nil_second, or_else-nil_first}
+use Rattle.epx_words.proofs.SoundRowLemmas.{AreSound, IsSoundRow, first_in-given, has_row-default}
+use Rattle.epx_words.proofs.SoundRowLemmas.{has_row-kept, AreSound-with_default, new_row}
+use Rattle.epx_words.proofs.SoundRowLemmas.{with_default-none}
+use Rattle.epx_words.proofs.SoundRowLemmas.{IsNumberIn-read, AreSound-with_values}
+use Rattle.epx_words.proofs.KeptRowLemmas.{KeepsRows, AreKept-level, without-kept}
 
 -- the arguments of a subcommand, as clap fills them in
 abbrev workers_leaf : Rule
@@ -156,22 +157,22 @@ module _ (name default : Text) (least most : ℕ) (fits : FitsRow name least mos
     one_keeps [] rows one none ok = absurd (omega arith)
     one_keeps (v ∷ w ∷ vs) rows one none ok = absurd (omega arith)
     one_keeps (v ∷ []) rows one none ok =
-        let value = none_first (value_kinds false (Unsigned least most) v) []
-        (none_after (repeat_fault again name rows) _ none) in
-        values_sound name AsWritten CommandLine (v ∷ []) (without name rows)
-        (fits CommandLine v (passed least most v value)) (without_kept IsSoundRow name rows ok)
+        let value = or_else-nil_first (value_kinds false (Unsigned least most) v) []
+        (or_else-nil_second (repeat_fault again name rows) _ none) in
+        AreSound-with_values name AsWritten CommandLine (v ∷ []) (without name rows)
+        (fits CommandLine v (passed least most v value)) (without-kept IsSoundRow name rows ok)
 
     number_keeps : KeepsSound again leaf
     number_keeps values rows none ok =
         let range = range_kinds 1 1 (length values) in
-        one_keeps values rows (one_value (length values) (none_first range _ none))
-        (none_after range _ none) ok
+        one_keeps values rows (one_value (length values) (or_else-nil_first range _ none))
+        (or_else-nil_second range _ none) ok
 
 -- ---- the other arguments
 
 logs_keep : (again : Bool) (i : ℕ) → KeepsSound again (logs_leaf i)
 logs_keep again i values rows none ok =
-    values_sound (codes "logs") AsWritten CommandLine
+    AreSound-with_values (codes "logs") AsWritten CommandLine
     (values_or_missing (logs_leaf i) values) rows (
       λ e. absurd (true≢false (sym e)),
       λ e. absurd (true≢false (sym e)),
@@ -184,18 +185,19 @@ first_kept : (values : List Text) (rows : List Row) → length values ≡ 1 → 
 first_kept [] rows one ok = absurd (omega arith)
 first_kept (v ∷ w ∷ vs) rows one ok = absurd (omega arith)
 first_kept (v ∷ []) rows one ok =
-    values_sound (codes "first") AsWritten CommandLine (v ∷ []) (without (codes "first") rows) (
+    AreSound-with_values (codes "first") AsWritten CommandLine (v ∷ [])
+    (without (codes "first") rows) (
       λ e. absurd (true≢false (sym e)),
       λ e. absurd (true≢false (sym e)),
       λ e. tt,
       λ e. absurd (true≢false (sym e)),
     )
-    (without_kept IsSoundRow (codes "first") rows ok)
+    (without-kept IsSoundRow (codes "first") rows ok)
 
 first_keeps : (again : Bool) → KeepsSound again first_leaf
 first_keeps again values rows none ok =
     first_kept values rows
-    (one_value (length values) (none_first (range_kinds 1 1 (length values)) _ none)) ok
+    (one_value (length values) (or_else-nil_first (range_kinds 1 1 (length values)) _ none)) ok
 
 -- the default of an argument keeps the rows sound
 abbrev pub DefaultKeeps : Rule → Type 0
@@ -217,25 +219,25 @@ module _ (name : Text) (no_workers : bytes_eq name (codes "workers") ≡ false)
 
   flag_keeps : (again : Bool) → KeepsSound again (flag_leaf name)
   flag_keeps again values rows none ok =
-      values_sound name AsWritten CommandLine (values_or_missing (flag_leaf name) values)
+      AreSound-with_values name AsWritten CommandLine (values_or_missing (flag_leaf name) values)
       (without name rows) (other_sound CommandLine (values_or_missing (flag_leaf name) values))
-      (without_kept IsSoundRow name rows ok)
+      (without-kept IsSoundRow name rows ok)
 
   flag_default_keeps : DefaultKeeps (flag_leaf name)
-  flag_default_keeps rows ok = default_sound (flag_leaf name) (codes "false") [] rows refl
+  flag_default_keeps rows ok = AreSound-with_default (flag_leaf name) (codes "false") [] rows refl
       (other_sound DefaultValue (codes "false" ∷ [])) ok
 
   text_keeps : (again : Bool) → KeepsSound again (text_leaf name)
   text_keeps again values rows none ok =
-      values_sound name AsWritten CommandLine (values_or_missing (text_leaf name) values)
+      AreSound-with_values name AsWritten CommandLine (values_or_missing (text_leaf name) values)
       (without name rows) (other_sound CommandLine (values_or_missing (text_leaf name) values))
-      (without_kept IsSoundRow name rows ok)
+      (without-kept IsSoundRow name rows ok)
 
 help_keeps : (again : Bool) → KeepsSound again (filled help_rule)
 help_keeps again values rows none ok = ok
 
 no_default_keeps : (a : Rule) → a.defaults ≡ [] → DefaultKeeps a
-no_default_keeps a none rows ok = subst AreSound (sym (no_default a rows none)) ok
+no_default_keeps a none rows ok = subst AreSound (sym (with_default-none a rows none)) ok
 
 -- an argument that keeps rows sound, used or not
 abbrev pub Keeps : Rule → Type 0
@@ -259,8 +261,8 @@ to_logs_keep = (
   ((help_keeps true, no_default_keeps (filled help_rule) refl), tt),
 )
 
-pub to_first_keep : AllByRecursion Keeps to_first
-to_first_keep = (
+pub Keeps-to_first : AllByRecursion Keeps to_first
+Keeps-to_first = (
   (first_keeps true, no_default_keeps first_leaf refl),
   (
     (logs_keep true 2, no_default_keeps (logs_leaf 2) refl),
@@ -268,28 +270,28 @@ to_first_keep = (
   ),
 )
 
-pub code_to_logs_keep : AllByRecursion Keeps code_to_logs
-code_to_logs_keep = (flag_is_kept (codes "exit-code") refl refl refl refl, to_logs_keep)
+pub Keeps-code_to_logs : AllByRecursion Keeps code_to_logs
+Keeps-code_to_logs = (flag_is_kept (codes "exit-code") refl refl refl refl, to_logs_keep)
 
-pub all_to_logs_keep : AllByRecursion Keeps all_to_logs
-all_to_logs_keep = (
+pub Keeps-all_to_logs : AllByRecursion Keeps all_to_logs
+Keeps-all_to_logs = (
   flag_is_kept (codes "exit-code") refl refl refl refl,
   (flag_is_kept (codes "all") refl refl refl refl, to_logs_keep),
 )
 
-pub around_to_logs_keep : AllByRecursion Keeps around_to_logs
-around_to_logs_keep = (
+pub Keeps-around_to_logs : AllByRecursion Keeps around_to_logs
+Keeps-around_to_logs = (
   text_is_kept (codes "around") refl refl refl refl,
   (text_is_kept (codes "steps") refl refl refl refl, to_logs_keep),
 )
 
-pub code_to_first_keep : AllByRecursion Keeps code_to_first
-code_to_first_keep = (flag_is_kept (codes "exit-code") refl refl refl refl, to_first_keep)
+pub Keeps-code_to_first : AllByRecursion Keeps code_to_first
+Keeps-code_to_first = (flag_is_kept (codes "exit-code") refl refl refl refl, Keeps-to_first)
 
-pub prefix_to_first_keep : AllByRecursion Keeps prefix_to_first
-prefix_to_first_keep = (
+pub Keeps-prefix_to_first : AllByRecursion Keeps prefix_to_first
+Keeps-prefix_to_first = (
   flag_is_kept (codes "exit-code") refl refl refl refl,
-  (flag_is_kept (codes "prefix") refl refl refl refl, to_first_keep),
+  (flag_is_kept (codes "prefix") refl refl refl refl, Keeps-to_first),
 )
 
 -- the default of the skew is in its range
@@ -299,24 +301,24 @@ zero_fits = accepts-Accepts false (Unsigned 0 max_skew) (codes "0") refl
 skew_is_kept : Keeps skew_leaf
 skew_is_kept = (
   number_keeps (codes "skew") (codes "0") 0 max_skew skew_fits true,
-  λ rows ok. default_sound skew_leaf (codes "0") [] rows refl
+  λ rows ok. AreSound-with_default skew_leaf (codes "0") [] rows refl
       (skew_fits DefaultValue (codes "0") zero_fits) ok,
 )
 
-pub skew_to_first_keep : AllByRecursion Keeps skew_to_first
-skew_to_first_keep = (
+pub Keeps-skew_to_first : AllByRecursion Keeps skew_to_first
+Keeps-skew_to_first = (
   flag_is_kept (codes "exit-code") refl refl refl refl,
-  (skew_is_kept, to_first_keep),
+  (skew_is_kept, Keeps-to_first),
 )
 
-pub reaches_to_first_keep : AllByRecursion Keeps reaches_to_first
-reaches_to_first_keep = (text_is_kept (codes "reaches") refl refl refl refl, to_first_keep)
+pub Keeps-reaches_to_first : AllByRecursion Keeps reaches_to_first
+Keeps-reaches_to_first = (text_is_kept (codes "reaches") refl refl refl refl, Keeps-to_first)
 
-pub reads_to_first_keep : AllByRecursion Keeps reads_to_first
-reads_to_first_keep = (flag_is_kept (codes "reads") refl refl refl refl, to_first_keep)
+pub Keeps-reads_to_first : AllByRecursion Keeps reads_to_first
+Keeps-reads_to_first = (flag_is_kept (codes "reads") refl refl refl refl, Keeps-to_first)
 
-pub each_to_logs_keep : AllByRecursion Keeps each_to_logs
-each_to_logs_keep = (
+pub Keeps-each_to_logs : AllByRecursion Keeps each_to_logs
+Keeps-each_to_logs = (
   flag_is_kept (codes "each") refl refl refl refl,
   (
     text_is_kept (codes "state") refl refl refl refl,
@@ -361,8 +363,8 @@ defaults_keep : (rest : List Rule) (rows : List Row) → AllByRecursion Keeps re
     → BothHaveRows rows → BothHaveRows (fold with_default rows rest)
 defaults_keep [] rows keep h = h
 defaults_keep (a ∷ rest) rows keep h = defaults_keep rest (with_default rows a) keep.1 (record {
-  workers = default_keeps_row (codes "workers") a rows h.workers;
-  cut = default_keeps_row (codes "cut") a rows h.cut;
+  workers = has_row-kept (codes "workers") a rows h.workers;
+  cut = has_row-kept (codes "cut") a rows h.cut;
   sound = keep.0.1 rows h.sound;
 })
 
@@ -371,15 +373,15 @@ numbers_have_rows : (rest : List Rule) → AllByRecursion Keeps rest → (rows :
 numbers_have_rows rest keep rows ok =
     let one = with_default rows workers_leaf in
     let two = with_default one cut_leaf in
-    let one_sound = default_sound workers_leaf (codes "4") [] rows refl
+    let one_sound = AreSound-with_default workers_leaf (codes "4") [] rows refl
     (workers_fit DefaultValue (codes "4")
     (accepts-Accepts false (Unsigned 1 64) (codes "4") refl)) ok in
-    let two_sound = default_sound cut_leaf (codes "256") [] one refl
+    let two_sound = AreSound-with_default cut_leaf (codes "256") [] one refl
     (cut_fits DefaultValue (codes "256")
     (accepts-Accepts false (Unsigned 1 65536) (codes "256") refl)) one_sound in
-    let workers_has = default_keeps_row (codes "workers") cut_leaf one
-    (default_has_row workers_leaf (codes "4") [] rows refl refl) in
-    let cut_has = default_has_row cut_leaf (codes "256") [] one refl refl in
+    let workers_has = has_row-kept (codes "workers") cut_leaf one
+    (has_row-default workers_leaf (codes "4") [] rows refl refl) in
+    let cut_has = has_row-default cut_leaf (codes "256") [] one refl refl in
     let more = flag_leaf (codes "explain") ∷ flag_leaf (codes "quiet") ∷ rest in
     let all = fold with_default two more in
     let flags_keep : AllByRecursion Keeps more = (
@@ -389,29 +391,29 @@ numbers_have_rows rest keep rows ok =
     let end = defaults_keep more two flags_keep
     (record { workers = workers_has; cut = cut_has; sound = two_sound }) in
     record {
-      workers = number_read (codes "workers") 1 64 all (λ r h e. h.0 e) end.sound end.workers;
-      cut = number_read (codes "cut") 1 65536 all (λ r h e. h.1 e) end.sound end.cut;
+      workers = IsNumberIn-read (codes "workers") 1 64 all (λ r h e. h.0 e) end.sound end.workers;
+      cut = IsNumberIn-read (codes "cut") 1 65536 all (λ r h e. h.1 e) end.sound end.cut;
       sound = end.sound;
     }
 
 -- a level of the parse in which clap finds no fault ends with both numbers
-pub level_numbers : (s : Shape) (rest : List Rule) → s.rules ≡ numbers_and rest
+pub HasNumbers-level : (s : Shape) (rest : List Rule) → s.rules ≡ numbers_and rest
     → s.args_override_self ≡ true → AllByRecursion Keeps rest → (words : List Text)
     → level_fault s [] nothing_held words false [] ≡ [] → HasNumbers (rows_after s.rules [] words)
-level_numbers s rest are again keep words none =
+HasNumbers-level s rest are again keep words none =
     let end = (walk s.rules [] nothing_held words).held in
     let keeps = subst (λ b. AllByRecursion (KeepsSound b) s.rules) (sym again)
     (subst (AllByRecursion (KeepsSound true)) (sym are) (numbers_and_keep rest keep)) in
     subst (λ rules. HasNumbers (fold with_default (settled s.rules end).rows rules)) (sym are)
     (numbers_have_rows rest keep (settled s.rules end).rows
-    (level_kept IsSoundRow s keeps words none))
+    (AreKept-level IsSoundRow s keeps words none))
 
 -- a row stays in later defaults
 row_stays : (id : Text) (rest : List Rule) (rows : List Row) → has_row id rows ≡ true
     → has_row id (fold with_default rows rest) ≡ true
 row_stays id [] rows has = has
 row_stays id (a ∷ rest) rows has =
-    row_stays id rest (with_default rows a) (default_keeps_row id a rows has)
+    row_stays id rest (with_default rows a) (has_row-kept id a rows has)
 
 skew_has_row : (rows : List Row)
     → has_row (codes "skew") (fold with_default rows (numbers_and skew_to_first)) ≡ true
@@ -421,17 +423,17 @@ skew_has_row rows =
     (with_default (with_default numbered (flag_leaf (codes "explain"))) (flag_leaf (codes "quiet")))
     (flag_leaf (codes "exit-code")) in
     row_stays (codes "skew") to_first (with_default flagged skew_leaf)
-    (default_has_row skew_leaf (codes "0") [] flagged refl refl)
+    (has_row-default skew_leaf (codes "0") [] flagged refl refl)
 
 -- where a level has the option of the skew, it ends with a skew if its rows are sound
-pub level_skew : (s : Shape) → s.rules ≡ numbers_and skew_to_first → (words : List Text)
+pub IsNumberIn-skew : (s : Shape) → s.rules ≡ numbers_and skew_to_first → (words : List Text)
     → AreSound (rows_after s.rules [] words)
     → IsNumberIn 0 max_skew (one_of (codes "skew") (rows_after s.rules [] words))
-level_skew s are words ok =
+IsNumberIn-skew s are words ok =
     let start = (settled s.rules (walk s.rules [] nothing_held words).held).rows in
     let has = subst (λ rules. has_row (codes "skew") (fold with_default start rules) ≡ true)
     (sym are) (skew_has_row start) in
-    number_read (codes "skew") 0 max_skew (rows_after s.rules [] words) (λ r h e. h.3 e) ok has
+    IsNumberIn-read (codes "skew") 0 max_skew (rows_after s.rules [] words) (λ r h e. h.3 e) ok has
 
 required_given : (given : Bool) → cond (not given || false) (MissingRequiredArgument ∷ []) [] ≡ []
     → given ≡ true
@@ -444,7 +446,7 @@ IsFirstThere rows =
     cond (not (is_given (codes "first") rows) || false) (MissingRequiredArgument ∷ []) [] ≡ []
 
 -- then the first argument has a row
-pub first_has_row : (rows : List Row) → IsFirstThere rows → AreSound rows
+pub first_in-required : (rows : List Row) → IsFirstThere rows → AreSound rows
     → IsSome (first_in rows)
-first_has_row rows none ok =
-    first_read rows ok (required_given (is_given (codes "first") rows) none)
+first_in-required rows none ok =
+    first_in-given rows ok (required_given (is_given (codes "first") rows) none)

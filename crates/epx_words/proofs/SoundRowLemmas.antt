@@ -15,7 +15,7 @@ use Rattle.clap.specs.declared.builder.value_parser.Reading.TheVariants.{AsWritt
 use Rattle.clap.specs.declared.parser.matches.ValueSource.{ValueSource}
 use Rattle.clap.specs.declared.parser.matches.ValueSource.TheVariants.{DefaultValue}
 use Rattle.epx_words.specs.SubcommandRows.{IsNumberIn, first_in, max_skew}
-use Rattle.epx_words.proofs.KeptRowLemmas.{at_row_kept}
+use Rattle.epx_words.proofs.KeptRowLemmas.{at_row-kept}
 
 abbrev pub IsFirstNumber : ℕ → ℕ → List Text → Type 0
 IsFirstNumber least most [] = ⊥
@@ -65,26 +65,27 @@ abbrev pub new_row : Text → Reading → ValueSource → List Text → Row
 new_row id how s values =
     record { id = id; values = values; count = None; source = Some s; reading = how }
 
-pub values_sound : (id : Text) (how : Reading) (s : ValueSource) (values : List Text)
+pub AreSound-with_values : (id : Text) (how : Reading) (s : ValueSource) (values : List Text)
     (rows : List Row) → IsSoundRow (new_row id how s values) → AreSound rows
     → AreSound (with_values id how s values rows)
-values_sound id how s values rows new h =
-    at_row_kept IsSoundRow id (more_values s values) (new_row id how s values ∷ []) rows
+AreSound-with_values id how s values rows new h =
+    at_row-kept IsSoundRow id (more_values s values) (new_row id how s values ∷ []) rows
     (more_sound s values) (new, tt) h
 
 -- an argument whose default is in range keeps the rows sound, whether or not it was used
-pub default_sound : (a : Rule) (v : Text) (vs : List Text) (rows : List Row) → a.defaults ≡ v ∷ vs
+pub AreSound-with_default : (a : Rule) (v : Text) (vs : List Text) (rows : List Row)
+    → a.defaults ≡ v ∷ vs
     → IsSoundRow (new_row a.id (reading_by a) DefaultValue (v ∷ vs)) → AreSound rows
     → AreSound (with_default rows a)
-default_sound a v vs rows is new h = go (has_row a.id rows)
+AreSound-with_default a v vs rows is new h = go (has_row a.id rows)
   where
     go : (b : Bool) → AreSound (cond b rows (default_rows a.id (reading_by a) a.defaults rows))
     go true = h
     go false = subst (λ ds. AreSound (default_rows a.id (reading_by a) ds rows)) (sym is)
-        (values_sound a.id (reading_by a) DefaultValue (v ∷ vs) rows new h)
+        (AreSound-with_values a.id (reading_by a) DefaultValue (v ∷ vs) rows new h)
 
-pub no_default : (a : Rule) (rows : List Row) → a.defaults ≡ [] → with_default rows a ≡ rows
-no_default a rows is = go (has_row a.id rows)
+pub with_default-none : (a : Rule) (rows : List Row) → a.defaults ≡ [] → with_default rows a ≡ rows
+with_default-none a rows is = go (has_row a.id rows)
   where
     go : (b : Bool) → cond b rows (default_rows a.id (reading_by a) a.defaults rows) ≡ rows
     go true = refl
@@ -131,9 +132,9 @@ makes_row id s values row (r ∷ rs) e = go (bytes_eq r.id id) refl (makes_row i
     go false t rest = or_right (bytes_eq r.id id) _ rest
 
 -- an argument with a default has a row
-pub default_has_row : (a : Rule) (v : Text) (vs : List Text) (rows : List Row)
+pub has_row-default : (a : Rule) (v : Text) (vs : List Text) (rows : List Row)
     → a.defaults ≡ v ∷ vs → bytes_eq a.id a.id ≡ true → has_row a.id (with_default rows a) ≡ true
-default_has_row a v vs rows is same = go (has_row a.id rows) refl
+has_row-default a v vs rows is same = go (has_row a.id rows) refl
   where
     go : (b : Bool) → has_row a.id rows ≡ b
         → has_row a.id (cond b rows (default_rows a.id (reading_by a) a.defaults rows)) ≡ true
@@ -144,9 +145,9 @@ default_has_row a v vs rows is same = go (has_row a.id rows) refl
         rows same)
 
 -- and no other default removes it
-pub default_keeps_row : (id : Text) (a : Rule) (rows : List Row) → has_row id rows ≡ true
+pub has_row-kept : (id : Text) (a : Rule) (rows : List Row) → has_row id rows ≡ true
     → has_row id (with_default rows a) ≡ true
-default_keeps_row id a rows has = go (has_row a.id rows)
+has_row-kept id a rows has = go (has_row a.id rows)
   where
     given : (ds : List Text) → has_row id (default_rows a.id (reading_by a) ds rows) ≡ true
     given [] = has
@@ -167,12 +168,12 @@ row_number least most how [] is h = absurd h
 row_number least most how (v ∷ vs) is h =
     subst (λ (x : Reading). IsUnsignedIn least most (read_as x v)) (sym is) h
 
-pub number_read : (id : Text) (least most : ℕ) (rows : List Row)
+pub IsNumberIn-read : (id : Text) (least most : ℕ) (rows : List Row)
     → ((r : Row) → IsSoundRow r → bytes_eq r.id id ≡ true → IsNumberRow least most r)
     → AreSound rows → has_row id rows ≡ true → IsNumberIn least most (one_of id rows)
-number_read id least most [] f h has = absurd (true≢false (sym has))
-number_read id least most (r ∷ rs) f h has =
-    go (bytes_eq r.id id) refl (λ e. number_read id least most rs f h.1 e) has
+IsNumberIn-read id least most [] f h has = absurd (true≢false (sym has))
+IsNumberIn-read id least most (r ∷ rs) f h has =
+    go (bytes_eq r.id id) refl (λ e. IsNumberIn-read id least most rs f h.1 e) has
   where
     go : (b : Bool) → bytes_eq r.id id ≡ b
         → (has_row id rs ≡ true → IsNumberIn least most (one_of id rs))
@@ -187,10 +188,11 @@ value_there [] h = absurd h
 value_there (v ∷ vs) h = refl
 
 -- a first argument that is present has a value
-pub first_read : (rows : List Row) → AreSound rows → is_given (codes "first") rows ≡ true
+pub first_in-given : (rows : List Row) → AreSound rows → is_given (codes "first") rows ≡ true
     → IsSome (first_in rows)
-first_read [] ok given = absurd (true≢false (sym given))
-first_read (r ∷ rs) ok given = go (bytes_eq r.id (codes "first")) refl (λ e. first_read rs ok.1 e)
+first_in-given [] ok given = absurd (true≢false (sym given))
+first_in-given (r ∷ rs) ok given =
+    go (bytes_eq r.id (codes "first")) refl (λ e. first_in-given rs ok.1 e)
     given
   where
     go : (b : Bool) → bytes_eq r.id (codes "first") ≡ b

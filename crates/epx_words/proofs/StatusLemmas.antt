@@ -16,28 +16,29 @@ is_among kinds kind not_memory (inr among) = among
 
 module _ (kinds : Kinds) (kind : ErrorKind) (not_memory : kind ≢ OutOfMemory)
     (has : (kind ≡ OutOfMemory) ⊎ IsAmong kind kinds) where
-  pub is_not_taken : (given : Given) (asked : Words) → IsText (status_of_kind kind) asked
+  pub IsWork-not_taken : (given : Given) (asked : Words) → IsText (status_of_kind kind) asked
       → IsWork asked ↔ IsTaken kinds given
-  is_not_taken given (words.Work task plan paths) h = absurd h
-  is_not_taken given (words.WorkWith task plan paths flags) h = absurd h
-  is_not_taken given (words.Follow plan paths options) h = absurd h
-  is_not_taken given (words.Text text status) h = (
+  IsWork-not_taken given (words.Work task plan paths) h = absurd h
+  IsWork-not_taken given (words.WorkWith task plan paths flags) h = absurd h
+  IsWork-not_taken given (words.Follow plan paths options) h = absurd h
+  IsWork-not_taken given (words.Text text status) h = (
     λ asks. absurd asks,
     λ taken. absurd
         (subst (IsAmong kind) taken.0 (is_among kinds kind not_memory has)),
   )
 
-  pub has_exit_status : (asked : Words) → IsText (status_of_kind kind) asked
+  pub IsExitStatus-of_kind : (asked : Words) → IsText (status_of_kind kind) asked
       → IfText (IsExitStatus kinds) asked
-  has_exit_status (words.Work task plan paths) h = tt
-  has_exit_status (words.WorkWith task plan paths flags) h = tt
-  has_exit_status (words.Follow plan paths options) h = tt
-  has_exit_status (words.Text text status) h = (kind, is_among kinds kind not_memory has, h)
+  IsExitStatus-of_kind (words.Work task plan paths) h = tt
+  IsExitStatus-of_kind (words.WorkWith task plan paths flags) h = tt
+  IsExitStatus-of_kind (words.Follow plan paths options) h = tt
+  IsExitStatus-of_kind (words.Text text status) h = (kind, is_among kinds kind not_memory has, h)
 
-pub is_refused : (kind : ErrorKind) (takes : Bool) (asked : Words) → kind ≢ OutOfMemory
+pub IfText-refused : (kind : ErrorKind) (takes : Bool) (asked : Words) → kind ≢ OutOfMemory
     → (takes ≡ true → kind ≡ OutOfMemory) → IfText (λ status. takes ≡ false) asked
-is_refused kind takes (words.Work task plan paths) not_memory passes = tt
-is_refused kind takes (words.WorkWith task plan paths flags) not_memory passes = tt
-is_refused kind takes (words.Follow plan paths options) not_memory passes = tt
-is_refused kind true (words.Text text status) not_memory passes = absurd (not_memory (passes refl))
-is_refused kind false (words.Text text status) not_memory passes = refl
+IfText-refused kind takes (words.Work task plan paths) not_memory passes = tt
+IfText-refused kind takes (words.WorkWith task plan paths flags) not_memory passes = tt
+IfText-refused kind takes (words.Follow plan paths options) not_memory passes = tt
+IfText-refused kind true (words.Text text status) not_memory passes =
+    absurd (not_memory (passes refl))
+IfText-refused kind false (words.Text text status) not_memory passes = refl

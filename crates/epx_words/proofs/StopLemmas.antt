@@ -17,7 +17,7 @@ use Rattle.clap.specs.Walk.{subcommand_or_other, to_positional, trailing, value,
 use Rattle.clap.specs.Walk.{walked_from, word_met}
 use Rattle.clap.specs.declared.error.kind.ErrorKind.TheVariants.{DisplayHelp, InvalidSubcommand}
 use Rattle.epx_words.specs.SubcommandRows.{IsWorkName}
-use Rattle.epx_words.proofs.KindLemmas.{none_after, none_first}
+use Rattle.epx_words.proofs.KindLemmas.{or_else-nil_second, or_else-nil_first}
 
 abbrev pub StopsAtWork : Option (Text × List Text) → Type 0
 StopsAtWork stop = IfSome stop (λ p. IsWorkName p.0)
@@ -135,12 +135,13 @@ module _ (s : Shape) (names : Names) (helps : s.disable_help_subcommand ≡ fals
       go None e work =
           step_work w word met.0 met.1
           (word_work w.is_trailing w.waiting w.position word w.held
-          (none_first (word_fault s names w.is_trailing w.waiting word w.held) _ e)) ok
+          (or_else-nil_first (word_fault s names w.is_trailing w.waiting word w.held) _ e)) ok
 
-  pub walk_work : (w : Walk) (words : List Text) → walk_fault s names w words ≡ []
+  pub StopsAtWork-walk : (w : Walk) (words : List Text) → walk_fault s names w words ≡ []
       → StopsAtWork w.stopped → StopsAtWork (fold (walked c names) w words).stopped
   unfolding walk_fault
-  walk_work w [] none ok = ok
-  walk_work w (word ∷ words) none ok =
-      walk_work (walked c names w word) words (none_after (turn_fault s names w word) _ none)
-      (turn_work w word (none_first (turn_fault s names w word) _ none) ok)
+  StopsAtWork-walk w [] none ok = ok
+  StopsAtWork-walk w (word ∷ words) none ok =
+      StopsAtWork-walk (walked c names w word) words
+      (or_else-nil_second (turn_fault s names w word) _ none)
+      (turn_work w word (or_else-nil_first (turn_fault s names w word) _ none) ok)

@@ -15,33 +15,36 @@ NamesNone text = (x : Id) → FitsIdTypes x → text ≢ id_text x
 names_none : (text : Text) → NamesNone text → ¬ IsIdName text
 names_none text none named = none named.0 named.1.0 named.1.1
 
-pub no_first : (rows : List Row) → None ≡ first_in rows → ¬ NameIds rows
-no_first rows is named = subst (λ o. MatchOption o ⊥ IsIdName) (sym is) named.0
+pub NameIds-not_without_first : (rows : List Row) → None ≡ first_in rows → ¬ NameIds rows
+NameIds-not_without_first rows is named = subst (λ o. MatchOption o ⊥ IsIdName) (sym is) named.0
 
-pub bad_first : (rows : List Row) (text : Text) → Some text ≡ first_in rows → NamesNone text
+pub NameIds-not_bad_first : (rows : List Row) (text : Text) → Some text ≡ first_in rows
+    → NamesNone text
     → ¬ NameIds rows
-bad_first rows text is none named =
+NameIds-not_bad_first rows text is none named =
     names_none text none (subst (λ o. MatchOption o ⊥ IsIdName) (sym is) named.0)
 
-pub bad_end : (rows : List Row) (text : Text) → Some text ≡ reaches_in rows → NamesNone text
+pub NameIds-not_bad_end : (rows : List Row) (text : Text) → Some text ≡ reaches_in rows
+    → NamesNone text
     → ¬ NameIds rows
-bad_end rows text is none named =
+NameIds-not_bad_end rows text is none named =
     names_none text none (subst (λ o. IfSome o IsIdName) (sym is) named.1)
 
 -- ---- the part of the graph
 
-pub steps_alone : (rows : List Row) (text : Text) → None ≡ around_in rows
+pub NamesPart-not_steps_alone : (rows : List Row) (text : Text) → None ≡ around_in rows
     → Some text ≡ steps_in rows → ¬ NamesPart rows
-steps_alone rows text is steps named =
+NamesPart-not_steps_alone rows text is steps named =
     let none : steps_in rows ≡ None = subst (λ o. ArePartNames o (steps_in rows)) (sym is) named in
     cc
 
-pub bad_around : (rows : List Row) (text : Text) → Some text ≡ around_in rows → NamesNone text
+pub NamesPart-not_bad_around : (rows : List Row) (text : Text) → Some text ≡ around_in rows
+    → NamesNone text
     → ¬ NamesPart rows
-bad_around rows text is none named =
+NamesPart-not_bad_around rows text is none named =
     names_none text none (subst (λ o. ArePartNames o (steps_in rows)) (sym is) named).0
 
-pub bad_steps : (rows : List Row) (text : Text) → Some text ≡ around_in rows
+pub NamesPart-not_bad_steps : (rows : List Row) (text : Text) → Some text ≡ around_in rows
     → ¬ IfSome (steps_in rows) (λ far. (n : ℕ) × IsNumberName n far) → ¬ NamesPart rows
-bad_steps rows text is none named =
+NamesPart-not_bad_steps rows text is none named =
     none (subst (λ o. ArePartNames o (steps_in rows)) (sym is) named).1

@@ -17,7 +17,7 @@ use Rattle.epx_names.specs.declared.task.Task.{Task}
 use Rattle.epx_names.specs.declared.task.Task.TheVariants as task
 use Rattle.epx_words.specs.declared.words.Words.{Words}
 use Rattle.epx_words.specs.declared.words.Words.TheVariants as words
-use Rattle.epx_words.proofs.FaultLemmas.{epx_is_simple}
+use Rattle.epx_words.proofs.FaultLemmas.{is_simple-epx_app}
 
 -- ---- what is to name an instance, a key or a part names one
 
@@ -112,91 +112,94 @@ follow_names_all (Some p) is no_code =
 
 -- ---- the words as they are read
 
-pub is_taken : (kinds : Kinds) (given : Given) (asked : Words) → kinds ≡ []
+pub IsWork-iff_taken : (kinds : Kinds) (given : Given) (asked : Words) → kinds ≡ []
     → IsMeaningOf given asked → IsWork asked ↔ IsTaken kinds given
-is_taken kinds given (words.Work t plan paths) none means = (
+IsWork-iff_taken kinds given (words.Work t plan paths) none means = (
   λ work. (none, (names_subject given t plan _ means.0, means.2)),
   λ taken. tt,
 )
-is_taken kinds given (words.WorkWith t plan paths flags) none means = (
+IsWork-iff_taken kinds given (words.WorkWith t plan paths flags) none means = (
   λ work. (none, (names_subject given t plan _ means.0, means.2)),
   λ taken. tt,
 )
-is_taken kinds given (words.Follow plan paths options) none means = (
+IsWork-iff_taken kinds given (words.Follow plan paths options) none means = (
   λ work. (none, follow_names_all given means.0.name means.1),
   λ taken. tt,
 )
-is_taken kinds given (words.Text text status) none means = (
+IsWork-iff_taken kinds given (words.Text text status) none means = (
   λ work. absurd work,
   λ taken. means.0 taken.1,
 )
 
 module _ {Parsed : Type 0} (app : App) (is : app ≡ epx_app) (texts : List Text) (given : Given)
     (found : is_simple app ≡ true → Parsed × (given ≡ subcommand_of app texts)) where
-  pub given_by_epx : given ≡ subcommand_of epx_app texts
-  given_by_epx = (found (ap is_simple is ∙ epx_is_simple)).1 ∙ ap (λ a. subcommand_of a texts) is
+  pub subcommand_of-given : given ≡ subcommand_of epx_app texts
+  subcommand_of-given = (found (ap is_simple is ∙ is_simple-epx_app)).1
+      ∙ ap (λ a. subcommand_of a texts) is
 
-  pub means_by_epx : (asked : Words) → IsMeaningOf given asked
+  pub IsMeaningOf-epx_app : (asked : Words) → IsMeaningOf given asked
       → IsMeaningOf (subcommand_of epx_app texts) asked
-  means_by_epx asked means = subst (λ g. IsMeaningOf g asked) given_by_epx means
+  IsMeaningOf-epx_app asked means = subst (λ g. IsMeaningOf g asked) subcommand_of-given means
 
 module _ (given : Given) where
   -- what is asked for has each part of the work
-  pub has_part : (P : Task → PlanNumbers → Option (List Text) → Type 0)
+  pub IfWork-has_part : (P : Task → PlanNumbers → Option (List Text) → Type 0)
       → ((t : Task) (plan : PlanNumbers) (paths : Option (List Text)) → AsksFor given t plan paths
       → P t plan paths) → (asked : Words) → IsMeaningOf given asked → IfWork P asked
-  has_part P part (words.Work t plan paths) means = part t plan _ means.0
-  has_part P part (words.WorkWith t plan paths flags) means = part t plan _ means.0
-  has_part P part (words.Follow plan paths options) means = tt
-  has_part P part (words.Text text status) means = tt
+  IfWork-has_part P part (words.Work t plan paths) means = part t plan _ means.0
+  IfWork-has_part P part (words.WorkWith t plan paths flags) means = part t plan _ means.0
+  IfWork-has_part P part (words.Follow plan paths options) means = tt
+  IfWork-has_part P part (words.Text text status) means = tt
 
-  pub has_flags : (asked : Words) → IsMeaningOf given asked → IsWork asked
+  pub FitFlags-asked : (asked : Words) → IsMeaningOf given asked → IsWork asked
       → FitFlags (flags_of asked) (rows_in given)
-  has_flags (words.Work t plan paths) means work = means.1
-  has_flags (words.WorkWith t plan paths flags) means work = means.1
-  has_flags (words.Follow plan paths options) means work = record {
+  FitFlags-asked (words.Work t plan paths) means work = means.1
+  FitFlags-asked (words.WorkWith t plan paths flags) means work = means.1
+  FitFlags-asked (words.Follow plan paths options) means work = record {
     exit_code = (λ e. absurd (true≢false (sym e)), λ has. absurd (means.1 has));
     explain = means.0.explain;
     quiet = means.0.quiet;
   }
-  has_flags (words.Text text status) means work = absurd work
+  FitFlags-asked (words.Text text status) means work = absurd work
 
-  pub is_followed : (asked : Words) → IsMeaningOf given asked → IfFollow (AsksToFollow given) asked
-  is_followed (words.Work t plan paths) means = tt
-  is_followed (words.WorkWith t plan paths flags) means = tt
-  is_followed (words.Follow plan paths options) means = means.0
-  is_followed (words.Text text status) means = tt
+  pub IfFollow-asked : (asked : Words) → IsMeaningOf given asked
+      → IfFollow (AsksToFollow given) asked
+  IfFollow-asked (words.Work t plan paths) means = tt
+  IfFollow-asked (words.WorkWith t plan paths flags) means = tt
+  IfFollow-asked (words.Follow plan paths options) means = means.0
+  IfFollow-asked (words.Text text status) means = tt
 
-  pub not_all_named : (asked : Words) → IsMeaningOf given asked
+  pub IfText-not_all_named : (asked : Words) → IsMeaningOf given asked
       → IfText (λ status. (¬ NamesAll given) × (status ≡ 2)) asked
-  not_all_named (words.Work t plan paths) means = tt
-  not_all_named (words.WorkWith t plan paths flags) means = tt
-  not_all_named (words.Follow plan paths options) means = tt
-  not_all_named (words.Text text status) means = means
+  IfText-not_all_named (words.Work t plan paths) means = tt
+  IfText-not_all_named (words.WorkWith t plan paths flags) means = tt
+  IfText-not_all_named (words.Follow plan paths options) means = tt
+  IfText-not_all_named (words.Text text status) means = means
 
 -- a refusal of words that ask for a status and name no log
-pub no_log_named : (given : Given) (rows : List Row) (named : Bool) (asked : Words)
+pub IsMeaningOf-no_log : (given : Given) (rows : List Row) (named : Bool) (asked : Words)
     → rows_in given ≡ rows → (named ≡ true) ↔ NamesLogs rows → named ≡ false → IsText 2 asked
     → IsMeaningOf given asked
-no_log_named given rows named (words.Work t plan paths) are means none is = absurd is
-no_log_named given rows named (words.WorkWith t plan paths flags) are means none is = absurd is
-no_log_named given rows named (words.Follow plan paths options) are means none is = absurd is
-no_log_named given rows named (words.Text text status) are means none is =
+IsMeaningOf-no_log given rows named (words.Work t plan paths) are means none is = absurd is
+IsMeaningOf-no_log given rows named (words.WorkWith t plan paths flags) are means none is =
+    absurd is
+IsMeaningOf-no_log given rows named (words.Follow plan paths options) are means none is = absurd is
+IsMeaningOf-no_log given rows named (words.Text text status) are means none is =
     (λ all. true≢false (sym (means.1 (subst NamesLogs are all.1)) ∙ none), is)
 
 -- a refusal of words that do not name what they are about
-pub no_subject_named : (given : Given) (p : Text × List Row) (asked : Words) → given ≡ Some p
+pub IsMeaningOf-no_subject : (given : Given) (p : Text × List Row) (asked : Words) → given ≡ Some p
     → ¬ NamesSubject (Some p) → IsText 2 asked → IsMeaningOf given asked
-no_subject_named given p (words.Work t plan paths) are none is = absurd is
-no_subject_named given p (words.WorkWith t plan paths flags) are none is = absurd is
-no_subject_named given p (words.Follow plan paths options) are none is = absurd is
-no_subject_named given p (words.Text text status) are none is =
+IsMeaningOf-no_subject given p (words.Work t plan paths) are none is = absurd is
+IsMeaningOf-no_subject given p (words.WorkWith t plan paths flags) are none is = absurd is
+IsMeaningOf-no_subject given p (words.Follow plan paths options) are none is = absurd is
+IsMeaningOf-no_subject given p (words.Text text status) are none is =
     (λ all. none (subst NamesSubject are all.0), is)
 
 -- what holds of each status of a text
-pub text_weaker : (P Q : ℕ → Type 0) (asked : Words) → ((status : ℕ) → P status → Q status)
+pub IfText-weaker : (P Q : ℕ → Type 0) (asked : Words) → ((status : ℕ) → P status → Q status)
     → IfText P asked → IfText Q asked
-text_weaker P Q (words.Work t plan paths) weaker h = tt
-text_weaker P Q (words.WorkWith t plan paths flags) weaker h = tt
-text_weaker P Q (words.Follow plan paths options) weaker h = tt
-text_weaker P Q (words.Text text status) weaker h = weaker status h
+IfText-weaker P Q (words.Work t plan paths) weaker h = tt
+IfText-weaker P Q (words.WorkWith t plan paths flags) weaker h = tt
+IfText-weaker P Q (words.Follow plan paths options) weaker h = tt
+IfText-weaker P Q (words.Text text status) weaker h = weaker status h

@@ -11,7 +11,7 @@ use clap::{Arg, ArgAction, Command};
 use epx_types::plan::{MAX_CUT, MAX_WORKERS};
 use std::alloc::{AllocError, Global};
 
-const VERSION: &str = "0.1.0";
+const VERSION: &str = "0.2.0";
 
 /// The greatest skew of clocks. The times of calls are below 2^63 too, so that sums fit a `u64`.
 const MAX_SKEW: u64 = (1 << 63) - 1;

@@ -1,6 +1,6 @@
 //! The meaning of a command line.
-ghost use Rattle.std.specs.Prelude.{◌≡◌, ◌≤◌, ◌≢◌, ◌⊎◌, ◌↔◌, [], None, Some, IfOk, MatchResult};
-ghost use Rattle.std.specs.Prelude.{codes, length, map, false, option_map, string_bytes, true};
+ghost use Rattle.std.specs.Prelude.{◌≡◌, ◌≢◌, ◌⊎◌, ◌↔◌, [], None, Some, IfOk};
+ghost use Rattle.std.specs.Prelude.{codes, map, false, option_map, string_bytes, true};
 ghost use Rattle.std.specs.Option.{IsSome};
 ghost use Rattle.clap.specs.Words.{fault_of, first_of, found_of, kind_of, one_of, rows_of};
 ghost use Rattle.clap.specs.Words.{subcommand_of, subcommand_rows_of, takes};

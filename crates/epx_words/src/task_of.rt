@@ -2,7 +2,8 @@
 ghost use Rattle.std.specs.Prelude.{◌≡◌, ◌≢◌, ◌↔◌, ℕ, None, Some, codes, true, IfNone, IfSome};
 ghost use Rattle.clap.specs.Words.{found_of, one_of, rows_of};
 ghost use Rattle.epx_words.specs.Requests.{FitsRows, IsStepsOf, task_name};
-ghost use Rattle.epx_words.specs.Subjects.{IsNumberName, NameIds, NamesKey, NamesPart, NamesSubject};
+ghost use Rattle.epx_words.specs.Subjects.{IsNumberName, NameIds, NamesKey, NamesPart};
+ghost use Rattle.epx_words.specs.Subjects.{NamesSubject};
 ghost use Rattle.epx_words.specs.SubcommandRows.{HasFlag, IsNumberIn, IsTaskName, around_in};
 ghost use Rattle.epx_words.specs.SubcommandRows.{max_skew, steps_in};
 

@@ -2,12 +2,12 @@
 -- this.
 use Rattle.std.specs.Prelude.{◌≡◌, ◌↔◌, ℕ, ◌<◌, ◌≤◌, List, Bool, length, slice_index, All, IsTrue}
 use Rattle.epx_graph.specs.Graphs.{DependencyGraph, edges_of}
-use Rattle.epx_graph.specs.NodePaths.{NodeReaches}
-use Rattle.epx_components.specs.Partitions.{ComponentParts, number_for}
+use Rattle.epx_graph.specs.between.NodePaths.{NodeReaches}
+use Rattle.epx_components.specs.between.Partitions.{ComponentParts, number_for}
 use Rattle.epx_audit.specs.declared.batch.SourceBatch.{SourceBatch}
 use Rattle.epx_audit.specs.declared.doubtful_touches.DoubtfulTouch.{DoubtfulTouch}
 use Rattle.epx_audit.specs.inner.DoubtfulKeys.{ShareKey}
-use Rattle.epx_components.specs.ReadyMarks.{is_marked}
+use Rattle.epx_components.specs.between.ReadyMarks.{is_marked}
 use Rattle.epx_audit.specs.inner.SourceBits.{has_bit}
 
 -- bit b of a component's word: source b reaches it

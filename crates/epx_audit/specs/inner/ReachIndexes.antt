@@ -5,7 +5,7 @@ use Rattle.epx_types.specs.CommittedMap.{ids_of}
 use Rattle.epx_types.specs.ExecutionOrder.{Ranked}
 use Rattle.epx_types.specs.Instances.{Instance}
 use Rattle.epx_graph.specs.Graphs.{DependencyGraph, edges_of}
-use Rattle.epx_graph.specs.NodePaths.{NodeReaches}
+use Rattle.epx_graph.specs.between.NodePaths.{NodeReaches}
 use Rattle.epx_audit.specs.declared.reach_index.Chain.{Chain}
 use Rattle.epx_audit.specs.declared.reach_index.ReachIndex.{ReachIndex}
 use Rattle.epx_audit.specs.inner.PathCovers.{IsPathCover}

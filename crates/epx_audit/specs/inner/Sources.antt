@@ -2,7 +2,7 @@
 use Rattle.std.specs.Prelude.{◌≡◌, ℕ, ◌<◌, List, Bool, length, slice_index, Contains, IsTrue}
 use Rattle.epx_types.specs.Instances.{Instance}
 use Rattle.epx_audit.specs.inner.NodeConflicts.{IsSettled, IsPartner}
-use Rattle.epx_components.specs.ReadyMarks.{is_marked}
+use Rattle.epx_components.specs.between.ReadyMarks.{is_marked}
 
 -- all ready nodes that are marked as unsettled
 pub record AreSources (ready unsettled : List Bool) (sources : List ℕ) : Type 0 where

@@ -1,8 +1,8 @@
 -- Nodes that are not found to be related to each node that shares a doubtful key with them.
 use Rattle.std.specs.Prelude.{◌≡◌, ◌⊎◌, ℕ, ◌-◌, ◌<◌, ◌≤◌, List, Bool, true, false, length}
 use Rattle.std.specs.Prelude.{slice_index_or, Contains, IsTrue}
-use Rattle.epx_graph.specs.NodePaths.{NodeReaches}
-use Rattle.epx_components.specs.ReadyMarks.{is_marked}
+use Rattle.epx_graph.specs.between.NodePaths.{NodeReaches}
+use Rattle.epx_components.specs.between.ReadyMarks.{is_marked}
 use Rattle.epx_audit.specs.declared.doubtful_touches.DoubtfulTouch.{DoubtfulTouch}
 
 -- the touch of a doubtful key at an index of a list; past its end, a read of key 0 by node 0

@@ -9,8 +9,8 @@ use Rattle.atomic_table.specs.Table.{State, Me, Step}
 use Rattle.epx_claims.specs.declared.seat_state.SeatState.{SeatState}
 use Rattle.epx_claims.specs.declared.seat_state.Terms.{Terms}
 use Rattle.epx_claims.specs.declared.seat_state.View.{View}
-use Rattle.epx_claims.specs.Count.{total}
-use Rattle.epx_claims.specs.ClaimState.{ClaimState, StateStep}
+use Rattle.epx_claims.specs.between.Count.{total}
+use Rattle.epx_claims.specs.between.ClaimState.{ClaimState, StateStep}
 
 -- the state of a seat: the pieces that it has drawn, its share, and whether it has ended
 abbrev pub seat_state : List ℕ → ℕ → Bool → SeatState

@@ -3,7 +3,7 @@ use Rattle.std.specs.Prelude.{◌≡◌, ℕ, List, [], ◌∷◌}
 use Rattle.epx_claims.specs.declared.seat_state.SeatState.{SeatState}
 use Rattle.epx_claims.specs.declared.seat.ClaimSeat.TheInside.{Inside}
 use Rattle.epx_claims.specs.inner.Rule.{seat_state}
-use Rattle.epx_claims.specs.Seated.{SeatView}
+use Rattle.epx_claims.specs.between.Seated.{SeatView}
 
 -- what the first seat state has drawn
 abbrev pub drawn_of : List SeatState → List ℕ

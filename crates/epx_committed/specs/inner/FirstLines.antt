@@ -4,9 +4,9 @@ use Rattle.std.specs.declared.alloc.Global.{Global}
 use Rattle.epx_types.specs.PlacedLines.{Placed}
 use Rattle.epx_committed.specs.declared.ledger.FirstLines.{FirstLines}
 use Rattle.epx_committed.specs.declared.rows.Row.{Row}
-use Rattle.epx_committed.specs.Ledgers.{LedgerView}
+use Rattle.epx_committed.specs.between.Ledgers.{LedgerView}
 use Rattle.epx_committed.specs.inner.LineIndexes.{IsIndexOf}
-use Rattle.epx_committed.specs.inner.LineRows.{firsts_at, NamesItsLine}
+use Rattle.epx_committed.specs.LineRows.{firsts_at, NamesItsLine}
 
 -- the rows name lines of the lists, no two have the same Id, and the index has their positions
 pub record AreFirstLines (lists : List (Vec Placed Global)) (noted : FirstLines) : Type 0 where

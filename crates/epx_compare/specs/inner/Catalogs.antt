@@ -4,13 +4,13 @@ use Rattle.std.specs.Prelude.{slice_get}
 use Rattle.epx_types.specs.declared.id.Id.{Id}
 use Rattle.epx_types.specs.PlacedLines.{Placed}
 use Rattle.epx_merge.specs.LogLines.{BadLineAt}
-use Rattle.epx_rows.specs.PositionGroups.{AreGroupsOf}
+use Rattle.epx_rows.specs.between.PositionGroups.{AreGroupsOf}
 use Rattle.epx_compare.specs.declared.catalog.Catalog.{Catalog}
 use Rattle.epx_compare.specs.declared.comparison.Comparison.{Comparison}
 use Rattle.epx_compare.specs.Comparisons.{comparison_text, findings_text}
 use Rattle.epx_versions.specs.LineVersions.{versions_of}
 use Rattle.epx_compare.specs.MissingDeps.{AreMissingDeps}
-use Rattle.epx_versions.specs.NotedRows.{AreNoted}
+use Rattle.epx_versions.specs.between.NotedRows.{AreNoted}
 
 -- the Id of each version, in the order of their numbers
 abbrev pub version_ids : List Placed → List Id

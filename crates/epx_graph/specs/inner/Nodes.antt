@@ -7,7 +7,7 @@ use Rattle.epx_types.specs.Ids.{IsRising}
 use Rattle.epx_types.specs.Instances.{Instance}
 use Rattle.epx_types.specs.CommittedMap.{ids_of, position_of}
 use Rattle.epx_graph.specs.GraphOf.{IsMissing}
-use Rattle.epx_rows.specs.Rows.{row_of}
+use Rattle.epx_rows.specs.between.Rows.{row_of}
 
 -- the positions of the Ids that are committed
 abbrev pub positions_of : List Instance → List Id → List ℕ

@@ -2,7 +2,7 @@
 -- in one step.
 use Rattle.std.specs.Prelude.{◌≡◌, ◌⊎◌, ℕ, zero, suc, ◌+◌, ◌<◌, ◌≤◌, List, length, Contains, Option}
 use Rattle.std.specs.Prelude.{Some, None, not, is_some, count_by, slice_index_or}
-use Rattle.epx_rows.specs.Rows.{row_of}
+use Rattle.epx_rows.specs.between.Rows.{row_of}
 use Rattle.epx_graph.specs.declared.search.MarkKind.{MarkKind}
 use Rattle.epx_graph.specs.declared.search.MarkKind.TheVariants as kind
 

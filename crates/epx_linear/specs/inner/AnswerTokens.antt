@@ -4,7 +4,7 @@ use Rattle.json.specs.Token.{Token}
 use Rattle.json.specs.Json.{after_end_array}
 use Rattle.serde_json.specs.Data.{Data}
 use Rattle.epx_types.specs.declared.reply.Reply.{Reply}
-use Rattle.epx_lines.specs.Tokens.{ParsesAllTo}
+use Rattle.epx_lines.specs.between.Tokens.{ParsesAllTo}
 use Rattle.epx_verify.specs.SaidLines.{reply_of}
 
 -- the answer by the elements after the times, if there are any

@@ -2,13 +2,13 @@
 use Rattle.std.specs.Prelude.{◌≡◌, ◌≤◌, ◌<◌, ◌+◌, ◌-◌, ◌*◌, ◌++◌, ◌⊎◌, [], ℕ, List}
 use Rattle.std.specs.Prelude.{length, slice_index_or, slice_set}
 use Rattle.epx_devices.specs.Models.{SourceModel}
-use Rattle.epx_devices.specs.LogParts.{IsReadUpTo}
+use Rattle.epx_devices.specs.between.LogParts.{IsReadUpTo}
 use Rattle.epx_lines.specs.Lines.{lines_of}
 use Rattle.epx_types.specs.Limits.{max_log_bytes}
 use Rattle.epx_merge.specs.LogLines.{MeaningAt}
 use Rattle.epx_merge.specs.LogParts.{EndsLine, lines_so_far}
 use Rattle.epx_merge.specs.declared.gathered_lines.ReadPosition.{ReadPosition}
-use Rattle.epx_merge.specs.SourceReadings.{AreDeliveredUpTo}
+use Rattle.epx_merge.specs.between.SourceReadings.{AreDeliveredUpTo}
 
 -- the source after these logs is as it was, or these bytes of it are read
 abbrev pub IsNextBegun : {S : Type 0} → SourceModel S → List S → List S → ℕ → List ℕ → Type 0

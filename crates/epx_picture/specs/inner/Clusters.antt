@@ -3,7 +3,7 @@ use Rattle.std.specs.Prelude.{◌≡◌, ◌≢◌, ◌↔◌, ℕ, ◌<◌, Lis
 use Rattle.std.specs.Prelude.{slice_index_or, Some, IsTrue}
 use Rattle.epx_graph.specs.Graphs.{DependencyGraph}
 use Rattle.epx_components.specs.declared.node_ranks.NodeRank.{NodeRank}
-use Rattle.epx_components.specs.NodeRanks.{IsNodeRank}
+use Rattle.epx_components.specs.between.NodeRanks.{IsNodeRank}
 
 -- a rank for each node
 pub record AreNodeRanks (g : DependencyGraph) (node_ranks : List NodeRank) : Type 0 where

@@ -7,7 +7,7 @@ use Rattle.epx_graph.specs.Graphs.{DependencyGraph}
 use Rattle.epx_ranking.specs.OrderFaults.{IsRepeatAt, IsStrangerAt, ReadyOnce}
 use Rattle.epx_ranking.specs.declared.order_fault.OrderFault.{OrderFault}
 use Rattle.epx_ranking.specs.declared.order_fault.OrderFault.TheVariants.{Memory, Stranger, Repeat}
-use Rattle.epx_components.specs.ReadyMarks.{is_marked}
+use Rattle.epx_components.specs.between.ReadyMarks.{is_marked}
 
 -- the nodes of the first n instances of a list, and for each node whether it is one of them
 pub record AreListed (g : DependencyGraph) (ids : List Id) (n : ℕ) (nodes : List ℕ)

@@ -9,8 +9,8 @@ use Rattle.epx_ranking.specs.declared.order_fault.OrderFault.{OrderFault}
 use Rattle.epx_ranking.specs.declared.order_fault.OrderFault.TheVariants.{Memory, Stranger, Repeat}
 use Rattle.epx_ranking.specs.declared.order_fault.OrderFault.TheVariants.{Missing, Early, Sequence}
 use Rattle.epx_ranking.specs.declared.check.sequence_key.SequenceKey.{SequenceKey}
-use Rattle.epx_components.specs.Partitions.{ComponentParts, component_of, number_for}
-use Rattle.epx_components.specs.ReadyMarks.{is_marked}
+use Rattle.epx_components.specs.between.Partitions.{ComponentParts, component_of, number_for}
+use Rattle.epx_components.specs.between.ReadyMarks.{is_marked}
 
 -- what decides the position of an instance inside its component: its sequence number, then its Id
 abbrev pub sequence_key_of : Instance → SequenceKey

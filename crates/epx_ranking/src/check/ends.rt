@@ -3,7 +3,7 @@
 ghost use Rattle.std.specs.Prelude.{◌≡◌, ◌⊎◌, ℕ, ◌<◌, length, slice_index, All, IfOk};
 ghost use Rattle.epx_graph.specs.Graphs.{edges_of};
 ghost use Rattle.epx_ranking.specs.inner.Ends.{AreEnds, AreRaised, IsEndBelow};
-ghost use Rattle.epx_components.specs.Partitions.{parts, number_for, IsPartitionOf};
+ghost use Rattle.epx_components.specs.between.Partitions.{parts, number_for, IsPartitionOf};
 
 use super::sequence_key::SequenceKey;
 use epx_components::{Collector, Partition, collect_bottom_up};

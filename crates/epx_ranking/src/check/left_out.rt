@@ -1,7 +1,7 @@
 //! The first instance of each component that a list leaves out.
 ghost use Rattle.std.specs.Prelude.{◌≡◌, ◌<◌, ◌≤◌, length, All, IfOk};
 ghost use Rattle.epx_ranking.specs.inner.SequenceKeys.{AreLeftOut};
-ghost use Rattle.epx_components.specs.Partitions.{parts};
+ghost use Rattle.epx_components.specs.between.Partitions.{parts};
 
 use super::sequence_key::{SequenceKey, comes_after, no_sequence_keys};
 use epx_committed::Merged;

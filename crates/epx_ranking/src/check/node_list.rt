@@ -6,7 +6,7 @@ ghost use Rattle.epx_types.specs.Instances.{Instance};
 ghost use Rattle.epx_graph.specs.GraphOf.{IsGraphOf};
 ghost use Rattle.epx_ranking.specs.inner.NodeLists.{AreListed, IsListedIfReady, IsListingFault};
 ghost use Rattle.epx_ranking.specs.OrderFaults.{ReadyOnce};
-ghost use Rattle.epx_components.specs.ReadyMarks.{is_marked, AreReadyMarks};
+ghost use Rattle.epx_components.specs.between.ReadyMarks.{is_marked, AreReadyMarks};
 
 use crate::order_fault::OrderFault;
 use epx_components::ready_node;

@@ -7,6 +7,7 @@ use Rattle.epx_types.specs.Contents.{Contents}
 use Rattle.epx_lines.specs.Lines.{lines_of}
 use Rattle.epx_report.specs.declared.from_value.BaseLine.{BaseLine}
 use Rattle.epx_report.specs.Forms.{base_line_of}
+use Rattle.epx_report.specs.between.PutPairs.{put_pairs}
 use Rattle.epx_report.specs.inner.Progress.{Progress, nothing_seen, after, is_complete}
 
 -- the state after one more line, if the line is allowed at its position
@@ -32,11 +33,6 @@ reading s n (l ∷ ls) = or_line_number n (after_line s l) (λ t. reading t (n +
 -- what all lines of the bytes say; the first line has the number 1
 abbrev pub base_reading : List ℕ → Result Progress ℕ
 base_reading bytes = reading nothing_seen 1 (lines_of bytes)
-
--- the contents after values are put under keys, one after another
-abbrev pub put_pairs : List (List ℕ × ℤ) → Contents → Contents
-put_pairs [] c = c
-put_pairs (p ∷ ps) c = put_pairs ps (contents.insert c p.0 p.1)
 
 -- the bytes read as a base of these instances and contents
 pub record IsReadBase (bytes : List ℕ) (done : List Id) (stored : Contents) : Type 0 where

@@ -8,7 +8,8 @@ use Rattle.epx_types.specs.Contents.{Contents}
 use Rattle.epx_types.specs.Ids.{id_cmp, IsRising}
 use Rattle.epx_types.specs.Keys.{key_cmp}
 use Rattle.epx_report.specs.declared.from_value.BaseLine.{BaseLine}
-use Rattle.epx_report.specs.declared.from_value.BaseLine.TheVariants.{Header, Done, Reply, Waiting, Store}
+use Rattle.epx_report.specs.declared.from_value.BaseLine.TheVariants.{Header, Done, Reply, Waiting}
+use Rattle.epx_report.specs.declared.from_value.BaseLine.TheVariants.{Store}
 use Rattle.epx_report.specs.Bases.{BaseParts, AreBaseParts, AreDoneIn}
 use Rattle.epx_report.specs.inner.Progress.{last, is_after_last}
 

@@ -11,7 +11,8 @@ use Rattle.epx_types.specs.Keys.{key_cmp}
 use Rattle.epx_types.specs.Done.{is_among}
 use Rattle.epx_report.specs.declared.from_value.Counts.{Counts}
 use Rattle.epx_report.specs.declared.from_value.BaseLine.{BaseLine}
-use Rattle.epx_report.specs.declared.from_value.BaseLine.TheVariants.{Header, Done, Reply, Waiting, Store}
+use Rattle.epx_report.specs.declared.from_value.BaseLine.TheVariants.{Header, Done, Reply, Waiting}
+use Rattle.epx_report.specs.declared.from_value.BaseLine.TheVariants.{Store}
 
 -- what the lines so far say
 pub record Progress : Type 0 where

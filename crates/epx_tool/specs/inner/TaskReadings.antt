@@ -17,7 +17,7 @@ use Rattle.epx_merge.specs.SourceEndings.{LeavesSources}
 use Rattle.epx_tool.specs.TaskAnswers.{AnswersLogs, IsBadInput}
 use Rattle.epx_tool.specs.TaskTexts.{IsTaskText}
 use Rattle.epx_tool.specs.WithInput.{AnswersWithInput, IsShort}
-use Rattle.epx_merge.specs.SourceReadings.{EndsMaking}
+use Rattle.epx_merge.specs.between.SourceReadings.{EndsMaking}
 
 -- In these definitions E is the model of the source of the extra input, and D that of the logs.
 

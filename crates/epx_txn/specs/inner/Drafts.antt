@@ -21,12 +21,14 @@ contents_through d c = apply_writes (contents.entries d) c
 
 -- the keys that the operation writes are added to the written ones
 abbrev pub AddsKeys : Op → Draft → Draft → Type 0
-AddsKeys op d e = contents.keys e ≡ add_keys (contents.keys d) (written_by op)
+AddsKeys op before after = contents.keys after ≡ add_keys (contents.keys before) (written_by op)
 
--- what an operation does to a draft d over the contents c; e is the draft afterwards
+-- what an operation does to a draft over the contents c
 abbrev pub IsStepOf : Step → Op → Contents → Draft → Draft → Type 0
-IsStepOf (Read v) op c d e =
-    (operate op (contents_through d c) ≡ Some (contents_through e c, v ∷ [])) × AddsKeys op d e
-IsStepOf Done op c d e = (operate op (contents_through d c) ≡ Some (contents_through e c, []))
-    × AddsKeys op d e
-IsStepOf Abort op c d e = operate op (contents_through d c) ≡ None
+IsStepOf (Read v) op c before after =
+    (operate op (contents_through before c) ≡ Some (contents_through after c, v ∷ []))
+    × AddsKeys op before after
+IsStepOf Done op c before after =
+    (operate op (contents_through before c) ≡ Some (contents_through after c, []))
+    × AddsKeys op before after
+IsStepOf Abort op c before after = operate op (contents_through before c) ≡ None

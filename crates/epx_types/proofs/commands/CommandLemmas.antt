@@ -19,11 +19,11 @@ use Rattle.epx_types.proofs.lists.MembershipLemmas.{Contains-nil, Contains-head,
 use Rattle.epx_types.proofs.lists.MembershipLemmas.{Contains-from_map, map-agree}
 use Rattle.epx_types.proofs.lists.ListPositionLemmas.{AllPairs-slice_get, AllPairs-from_slice_get}
 use Rattle.epx_types.proofs.lists.ListPositionLemmas.{slice_get-from_map}
-use Rattle.epx_types.proofs.lists.TotalOrderLemmas.{below_irrefl}
-use Rattle.epx_types.proofs.keys.KeyListLemmas.{key_cmp_total, AllPairs-rising_keys}
+use Rattle.epx_types.proofs.lists.TotalOrderLemmas.{is_lt-irrefl}
+use Rattle.epx_types.proofs.keys.KeyListLemmas.{key_cmp-IsTotalOrder, AllPairs-rising_keys}
 use Rattle.epx_types.proofs.keys.KeyListLemmas.{Contains-rising_keys, Contains-from_rising_keys}
 use Rattle.epx_types.proofs.keys.KeyListLemmas.{Contains-flat_map_within}
-use Rattle.epx_types.proofs.commands.ContentsLemmas.{same_contents, get-assign_cases}
+use Rattle.epx_types.proofs.commands.ContentsLemmas.{Contents-extensional, get-assign_cases}
 use Rattle.epx_types.proofs.commands.ContentsLemmas.{get-assign_agree, get-apply_writes}
 
 -- ---- what a command writes
@@ -103,9 +103,9 @@ command_on-EndsChangingOnly : (ops : List Op) (c : Contents)
 command_on-EndsChangingOnly ops c = operate_all-EndsChangingOnly c 0 ops c []
 
 -- a key is written, or keeps its value
-pub written_or_same : (ops : List Op) (c : Contents) (q : List ℕ)
+pub written_keys-or_same : (ops : List Op) (c : Contents) (q : List ℕ)
     → Contains (written_keys ops) q ⊎ (contents.get (command_on ops c).after q ≡ contents.get c q)
-written_or_same ops c q = by (command_on ops c).reply (command_on ops c).after
+written_keys-or_same ops c q = by (command_on ops c).reply (command_on ops c).after
     (command_on-EndsChangingOnly ops c) where
       by : (reply : Reply) (after : Contents)
           → EndsChangingOnly (flat_map written_by ops) c c reply after
@@ -140,7 +140,8 @@ apply_writes-writes_of ops c =
           → apply_writes (writes_by reply ops after) c ≡ after
       by (Abort j) after settles = sym settles
       by (Values got) after settles =
-          same_contents _ _ (λ q. get-apply_writes (written_keys ops) after c q (elim (settles q) [
+          Contents-extensional _ _
+          (λ q. get-apply_writes (written_keys ops) after c q (elim (settles q) [
             | inl written ↦ inl (Contains-rising_keys (flat_map written_by ops) q written)
             | inr kept ↦ inr (sym kept)
           ]))
@@ -169,7 +170,7 @@ writes_of-distinct ops c = by (command_on ops c).reply (command_on ops c).after 
       let same : a.0 ≡ b.0 = ap (λ x. x.0) a.2 ∙ e ∙ sym (ap (λ x. x.0) b.2) in
       let lower = AllPairs-slice_get KeyBelow (written_keys ops)
       (AllPairs-rising_keys (flat_map written_by ops)) i k a.0 b.0 l a.1 b.1 in
-      below_irrefl key_cmp_total a.0 (subst (KeyBelow a.0) (sym same) lower))
+      is_lt-irrefl key_cmp-IsTotalOrder a.0 (subst (KeyBelow a.0) (sym same) lower))
 
 -- ---- where a command aborts
 

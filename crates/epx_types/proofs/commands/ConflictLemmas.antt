@@ -6,8 +6,8 @@ use Rattle.epx_types.specs.Conflicts.{Conflict}
 use Rattle.epx_types.specs.Contents.{Contents, AgreeOn}
 use Rattle.epx_types.specs.Commands.{command_on}
 use Rattle.epx_types.specs.CommandKeys.{touched_keys, written_keys}
-use Rattle.epx_types.proofs.commands.ContentsLemmas.{same_contents}
-use Rattle.epx_types.proofs.commands.CommandLemmas.{written_or_same, written_keys-touched}
+use Rattle.epx_types.proofs.commands.ContentsLemmas.{Contents-extensional}
+use Rattle.epx_types.proofs.commands.CommandLemmas.{written_keys-or_same, written_keys-touched}
 use Rattle.epx_types.proofs.commands.CommandLemmas.{command_on-HasSameOutcome}
 
 -- conflict is symmetric
@@ -18,24 +18,24 @@ Conflict-symm a b (k, inr both) = (k, inl (both.1, both.0))
 -- a key that a command does not write keeps its value
 kept : (ops : List Op) (c : Contents) (q : List ℕ) → ¬ Contains (written_keys ops) q
     → contents.get (command_on ops c).after q ≡ contents.get c q
-kept ops c q not_written = elim (written_or_same ops c q)
+kept ops c q not_written = elim (written_keys-or_same ops c q)
     [ inl written ↦ absurd (not_written written) | inr same ↦ same ]
 
 module _ (a b : List Op) (apart : ¬ Conflict a b) (c : Contents) where
   -- the keys that b touches keep their values when a is executed
-  pub touched_unchanged : AgreeOn (touched_keys b) (command_on a c).after c
-  touched_unchanged k touched = kept a c k (λ written. apart (k, inl (written, touched)))
+  pub AgreeOn-touched_keys : AgreeOn (touched_keys b) (command_on a c).after c
+  AgreeOn-touched_keys k touched = kept a c k (λ written. apart (k, inl (written, touched)))
 
   -- b has the same reply after a as without a
   pub reply-no_conflict : (command_on b (command_on a c).after).reply ≡ (command_on b c).reply
-  reply-no_conflict = (command_on-HasSameOutcome b (command_on a c).after c touched_unchanged).0
+  reply-no_conflict = (command_on-HasSameOutcome b (command_on a c).after c AgreeOn-touched_keys).0
 
   -- a key that b writes has the same value in either order
   at_written : (q : List ℕ) → Contains (written_keys b) q
       → contents.get (command_on b (command_on a c).after).after q
       ≡ contents.get (command_on a (command_on b c).after).after q
   at_written q written =
-      (command_on-HasSameOutcome b (command_on a c).after c touched_unchanged).1 q
+      (command_on-HasSameOutcome b (command_on a c).after c AgreeOn-touched_keys).1 q
       (written_keys-touched b q written)
       ∙ sym (kept a (command_on b c).after q
       (λ other. apart (q, inr (written_keys-touched a q other, written))))
@@ -44,9 +44,9 @@ module _ (a b : List Op) (apart : ¬ Conflict a b) (c : Contents) where
 pub after-exchanged : (a b : List Op) → ¬ Conflict a b → (c : Contents)
     → (command_on b (command_on a c).after).after ≡ (command_on a (command_on b c).after).after
 after-exchanged a b apart c =
-    same_contents _ _ (λ q. by q (written_or_same b (command_on a c).after q)
-    (written_or_same a (command_on b c).after q) (written_or_same a c q)
-    (written_or_same b c q))
+    Contents-extensional _ _ (λ q. by q (written_keys-or_same b (command_on a c).after q)
+    (written_keys-or_same a (command_on b c).after q) (written_keys-or_same a c q)
+    (written_keys-or_same b c q))
   where
     turned : ¬ Conflict b a
     turned conflict = apart (Conflict-symm b a conflict)

@@ -13,7 +13,7 @@ use Rattle.epx_types.specs.Writes.{Write, writes_of, apply_writes, HasDistinctKe
 use Rattle.epx_types.proofs.lists.MembershipLemmas.{Contains-nil, Contains-head, Contains-cons}
 use Rattle.epx_types.proofs.lists.ListPositionLemmas.{AllPairs-append}
 use Rattle.epx_types.proofs.commands.ConflictLemmas.{Conflict-symm, reply-no_conflict}
-use Rattle.epx_types.proofs.commands.ConflictLemmas.{after-exchanged, touched_unchanged}
+use Rattle.epx_types.proofs.commands.ConflictLemmas.{after-exchanged, AgreeOn-touched_keys}
 use Rattle.epx_types.proofs.commands.CommandLemmas.{apply_writes-writes_of, writes_of-written}
 use Rattle.epx_types.proofs.commands.CommandLemmas.{writes_of-distinct, writes_of-alike}
 use Rattle.epx_types.proofs.commands.CommandLemmas.{written_keys-touched}
@@ -94,7 +94,7 @@ writes_over-after a [] apart c = refl
 writes_over-after a (b ∷ others) apart c =
     ap₂ (λ ws vs. ws ++ vs)
     (writes_of-alike b (command_on a c).after c
-    (touched_unchanged a b (apart b (Contains-head b others)) c))
+    (AgreeOn-touched_keys a b (apart b (Contains-head b others)) c))
     (writes_over-after a others (λ d h. apart d (Contains-cons b others d h)) c)
 
 -- each has the reply that it has over the initial contents

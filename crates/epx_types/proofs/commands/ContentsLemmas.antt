@@ -8,24 +8,26 @@ use Rattle.epx_types.specs.Keys.{key_cmp}
 use Rattle.epx_types.specs.Contents.{Contents, assign}
 use Rattle.epx_types.specs.Writes.{apply_writes}
 use Rattle.epx_types.proofs.lists.MembershipLemmas.{Contains-nil, Contains-cons_cases}
-use Rattle.epx_types.proofs.keys.KeyListLemmas.{key_cmp_total, key_cmp-IsAntisymmetric, key_cases}
+use Rattle.epx_types.proofs.keys.KeyListLemmas.{key_cmp-IsTotalOrder, key_cmp-IsAntisymmetric}
+use Rattle.epx_types.proofs.keys.KeyListLemmas.{key_cmp-cases}
 
 -- contents in which each key has the same value are equal
-pub same_contents : (c d : Contents) → ((q : List ℕ) → contents.get c q ≡ contents.get d q) → c ≡ d
-same_contents c d same = same_map key_cmp_total key_cmp-IsAntisymmetric c d same
+pub Contents-extensional : (c d : Contents) → ((q : List ℕ) → contents.get c q ≡ contents.get d q)
+    → c ≡ d
+Contents-extensional c d same = same_map key_cmp-IsTotalOrder key_cmp-IsAntisymmetric c d same
 
 -- the value of a key after an assignment
 pub get-assign : (c : Contents) (k : List ℕ) (v : Option ℤ) (q : List ℕ)
     → contents.get (assign c k v) q ≡ cond (eq_by_cmp key_cmp q k) v (contents.get c q)
-get-assign c k None q = get-remove key_cmp_total c k q
-get-assign c k (Some v) q = get-insert key_cmp_total c k v q
+get-assign c k None q = get-remove key_cmp-IsTotalOrder c k q
+get-assign c k (Some v) q = get-insert key_cmp-IsTotalOrder c k v q
 
 -- an assignment changes only its key
 pub get-assign_cases : (c : Contents) (k : List ℕ) (v : Option ℤ) (q : List ℕ)
     → (q ≡ k) × (contents.get (assign c k v) q ≡ v) ⊎ (¬ (q ≡ k))
     × (contents.get (assign c k v) q ≡ contents.get c q)
 get-assign_cases c k v q =
-    elim (key_cases q k) [
+    elim (key_cmp-cases q k) [
       | inl tied ↦ inl (tied.1, get-assign c k v q ∙ ap (λ b. cond b v (contents.get c q)) tied.0)
       | inr other ↦ inr (
         other.1,

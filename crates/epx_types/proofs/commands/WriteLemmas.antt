@@ -10,10 +10,11 @@ use Rattle.std.specs.FinMap.{get-entries}
 use Rattle.epx_types.specs.Keys.{key_cmp}
 use Rattle.epx_types.specs.Contents.{Contents, assign}
 use Rattle.epx_types.specs.Writes.{Write, apply_writes}
-use Rattle.epx_types.proofs.keys.KeyListLemmas.{key_cmp_total, key_cmp-IsAntisymmetric}
+use Rattle.epx_types.proofs.keys.KeyListLemmas.{key_cmp-IsTotalOrder, key_cmp-IsAntisymmetric}
 use Rattle.epx_types.proofs.commands.ContentsLemmas.{get-assign}
-use Rattle.epx_types.proofs.keys.SortedEntryLemmas.{write_all, get-write_all, find_below, first_of}
-use Rattle.epx_types.proofs.keys.SortedEntryLemmas.{second_of}
+use Rattle.epx_types.proofs.keys.SortedEntryLemmas.{write_all, get-write_all, find-below_all}
+use Rattle.epx_types.proofs.keys.SortedEntryLemmas.{and-first}
+use Rattle.epx_types.proofs.keys.SortedEntryLemmas.{and-second}
 
 -- applying two lists of writes one after the other
 pub apply_writes-append : (vs ws : List Write) (c : Contents)
@@ -38,19 +39,19 @@ get-put_sorted ws h c q =
     ∙ ap (λ o. unwrap_or o (contents.get c q)) (option_map_same (find key_cmp q ws))
 
 -- after writes by rising key, reading the written keys returns the writes
-pub read_after_writes : (ws : List Write) → T (is_sorted key_cmp ws) → (c : Contents)
+pub apply_writes-read_back : (ws : List Write) → T (is_sorted key_cmp ws) → (c : Contents)
     → map (λ k. (k, contents.get (apply_writes ws c) k)) (keys_of ws) ≡ ws
-read_after_writes [] h c = refl
-read_after_writes (w ∷ ws) h c =
+apply_writes-read_back [] h c = refl
+apply_writes-read_back (w ∷ ws) h c =
     let here : contents.get (apply_writes ws (assign c w.0 w.1)) w.0 ≡ w.1 =
-    get-put_sorted ws (second_of _ _ h) (assign c w.0 w.1) w.0
+    get-put_sorted ws (and-second _ _ h) (assign c w.0 w.1) w.0
     ∙ ap (λ o. unwrap_or o (contents.get (assign c w.0 w.1) w.0))
-    (find_below w.0 ws (first_of _ _ h))
+    (find-below_all w.0 ws (and-first _ _ h))
     ∙ get-assign c w.0 w.1 w.0
-    ∙ ap (λ o. cond (is_eq o) w.1 (contents.get c w.0)) (tied_itself key_cmp_total w.0) in
+    ∙ ap (λ o. cond (is_eq o) w.1 (contents.get c w.0)) (tied_itself key_cmp-IsTotalOrder w.0) in
     ap (λ v. (w.0, v) ∷ map (λ k. (k, contents.get (apply_writes ws (assign c w.0 w.1)) k))
     (keys_of ws)) here
-    ∙ ap (λ vs. w ∷ vs) (read_after_writes ws (second_of _ _ h) (assign c w.0 w.1))
+    ∙ ap (λ vs. w ∷ vs) (apply_writes-read_back ws (and-second _ _ h) (assign c w.0 w.1))
 
 -- ---- writes collected in a finite map
 
@@ -66,9 +67,9 @@ pub put_entries-insert : (o : FinMap key_cmp (Option ℤ)) (k : List ℕ) (w : O
     → apply_writes (contents.entries (contents.insert o k w)) c
     ≡ assign (apply_writes (contents.entries o) c) k w
 put_entries-insert o k w c =
-    same_map key_cmp_total key_cmp-IsAntisymmetric _ _ (λ q.
+    same_map key_cmp-IsTotalOrder key_cmp-IsAntisymmetric _ _ (λ q.
     get-put_entries (contents.insert o k w) c q
-    ∙ ap (λ r. unwrap_or r (contents.get c q)) (get-insert key_cmp_total o k w q)
+    ∙ ap (λ r. unwrap_or r (contents.get c q)) (get-insert key_cmp-IsTotalOrder o k w q)
     ∙ elim (eq_by_cmp key_cmp q k) as (λ b. unwrap_or (cond b (Some w) (contents.get o q))
     (contents.get c q) ≡ cond b w (unwrap_or (contents.get o q) (contents.get c q)))
     [ true ↦ refl | false ↦ refl ]

@@ -13,10 +13,11 @@ use Rattle.epx_types.proofs.lists.MembershipLemmas.{Contains-nil, Contains-head,
 use Rattle.epx_types.proofs.lists.MembershipLemmas.{Contains-cons_cases}
 use Rattle.epx_types.proofs.lists.ListPositionLemmas.{AllPairs-same}
 use Rattle.epx_types.proofs.lists.RisingIdLemmas.{AllPairs-from_rising_ids}
-use Rattle.epx_types.proofs.lists.TotalOrderLemmas.{below_irrefl, below_trans, same_from_neither}
-use Rattle.epx_types.proofs.lists.TotalOrderLemmas.{same_rising}
-use Rattle.epx_types.proofs.lists.ComparisonLemmas.{id_cmp_total, id_cmp-IsAntisymmetric}
-use Rattle.epx_types.proofs.lists.ComparisonLemmas.{place_cmp_total, place_cmp-IsAntisymmetric}
+use Rattle.epx_types.proofs.lists.TotalOrderLemmas.{is_lt-irrefl, is_lt-trans, is_lt-neither_same}
+use Rattle.epx_types.proofs.lists.TotalOrderLemmas.{AllPairs-is_unique}
+use Rattle.epx_types.proofs.lists.ComparisonLemmas.{id_cmp-IsTotalOrder, id_cmp-IsAntisymmetric}
+use Rattle.epx_types.proofs.lists.ComparisonLemmas.{place_cmp-IsTotalOrder}
+use Rattle.epx_types.proofs.lists.ComparisonLemmas.{place_cmp-IsAntisymmetric}
 use Rattle.epx_types.proofs.graph.ReachingLemmas.{UpTo-antisymm}
 
 -- ---- the committed map
@@ -34,8 +35,8 @@ IsCommittedBy-contains lines m n p q e h =
 pub IsCommittedBy-unique : (lines : List Placed) (m n : List Instance) → IsCommittedBy lines m
     → IsCommittedBy lines n → m ≡ n
 IsCommittedBy-unique lines m n p q =
-    same_rising (λ d e. Below d.id e.id) (λ e. below_irrefl id_cmp_total e.id)
-    (λ c d e. below_trans id_cmp_total c.id d.id e.id)
+    AllPairs-is_unique (λ d e. Below d.id e.id) (λ e. is_lt-irrefl id_cmp-IsTotalOrder e.id)
+    (λ c d e. is_lt-trans id_cmp-IsTotalOrder c.id d.id e.id)
     m n (rising_instances m p.rising) (rising_instances n q.rising)
     (IsCommittedBy-contains lines m n p q) (IsCommittedBy-contains lines n m q p)
 
@@ -44,8 +45,8 @@ pub IsRising-same : (m : List Instance) → IsRising (ids_of m) → (d e : Insta
     → Contains m e → d.id ≡ e.id → d ≡ e
 IsRising-same m rising d e in_d in_e same =
     AllPairs-same (λ a b. Below a.id b.id) m (rising_instances m rising) d e in_d in_e
-    (λ l. below_irrefl id_cmp_total d.id (subst (Below d.id) (sym same) l))
-    (λ l. below_irrefl id_cmp_total e.id (subst (Below e.id) same l))
+    (λ l. is_lt-irrefl id_cmp-IsTotalOrder d.id (subst (Below d.id) (sym same) l))
+    (λ l. is_lt-irrefl id_cmp-IsTotalOrder e.id (subst (Below e.id) same l))
 
 -- lines that have a committed map agree
 pub IsCommittedBy-Agree : (lines : List Placed) (m : List Instance) → IsCommittedBy lines m
@@ -78,15 +79,15 @@ instance_of-finds (d ∷ m) e h =
       | inr other ↦ elim (Contains-cons_cases d m e h) [
         | inl same ↦ let tied : is_eq (id_cmp d.id e.id) ≡ true =
             ap (λ i. is_eq (id_cmp d.id i.id)) (sym same)
-            ∙ ap is_eq (tied_itself id_cmp_total d.id) in absurd (cc (tied, other))
+            ∙ ap is_eq (tied_itself id_cmp-IsTotalOrder d.id) in absurd (cc (tied, other))
         | inr rest ↦ let found = instance_of-finds m e rest in (found.0, rw other found.1)
       ]
     ]
 
 -- a look-up finds exactly the committed instance of an Id
-pub instance_of_iff : (m : List Instance) → IsRising (ids_of m) → (x : Id) (e : Instance)
+pub instance_of-iff_contains : (m : List Instance) → IsRising (ids_of m) → (x : Id) (e : Instance)
     → (instance_of m x ≡ Some e) ↔ Contains m e × (e.id ≡ x)
-instance_of_iff m rising x e = (instance_of-found m x e, back) where
+instance_of-iff_contains m rising x e = (instance_of-found m x e, back) where
   back : Contains m e × (e.id ≡ x) → instance_of m x ≡ Some e
   back h =
       let found = instance_of-finds m e h.0 in
@@ -119,12 +120,13 @@ module _ (lines : List Placed) where
       let ids = UpTo-antisymm id id'
       (IsFirstDisagreement-least id id' first second first' second' p q)
       (IsFirstDisagreement-least id' id first' second' first second q p) in
-      let opening = same_from_neither place_cmp_total place_cmp-IsAntisymmetric first.place
+      let opening = is_lt-neither_same place_cmp-IsTotalOrder place_cmp-IsAntisymmetric first.place
       first'.place
       (q.opens first p.has_first (p.named ∙ ids))
       (p.opens first' q.has_first (q.named ∙ sym ids)) in
       let firsts = own first first' p.has_first q.has_first opening in
-      let following = same_from_neither place_cmp_total place_cmp-IsAntisymmetric second.place
+      let following =
+      is_lt-neither_same place_cmp-IsTotalOrder place_cmp-IsAntisymmetric second.place
       second'.place
       (q.follows second p.has_second (let P : Placed → Type 0 = λ line. Differ line second in
       subst P firsts p.differ))

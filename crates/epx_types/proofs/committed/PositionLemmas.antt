@@ -12,12 +12,12 @@ use Rattle.epx_types.specs.declared.id.Id.{Id}
 use Rattle.epx_types.specs.Ids.{id_cmp, Below, IsRising}
 use Rattle.epx_types.specs.Instances.{Instance}
 use Rattle.epx_types.specs.CommittedMap.{ids_of, instance_of, position_of}
-use Rattle.epx_types.proofs.committed.AgreementLemmas.{instance_of_iff}
+use Rattle.epx_types.proofs.committed.AgreementLemmas.{instance_of-iff_contains}
 use Rattle.epx_types.proofs.lists.ListPositionLemmas.{AllPairs-slice_get, Contains-slice_get}
 use Rattle.epx_types.proofs.lists.ListPositionLemmas.{slice_get-map}
 use Rattle.epx_types.proofs.lists.RisingIdLemmas.{AllPairs-from_IsRising}
-use Rattle.epx_types.proofs.lists.TotalOrderLemmas.{below_irrefl}
-use Rattle.epx_types.proofs.lists.ComparisonLemmas.{id_cmp_total, id_cmp-IsAntisymmetric}
+use Rattle.epx_types.proofs.lists.TotalOrderLemmas.{is_lt-irrefl}
+use Rattle.epx_types.proofs.lists.ComparisonLemmas.{id_cmp-IsTotalOrder, id_cmp-IsAntisymmetric}
 
 -- the first position at which a test passes
 first_position : {X : Type 0} (p : X → Bool) (xs : List X) (i : ℕ) (x : X)
@@ -64,7 +64,7 @@ position_of-found m rising x i e at is =
     (slice_get-map (λ (c : Instance). c.id) m i e at)))
   where
     tied : (y : Id) → y ≡ x → is_eq (id_cmp y x) ≡ true
-    tied y same = ap (λ z. is_eq (id_cmp z x)) same ∙ ap is_eq (tied_itself id_cmp_total x)
+    tied y same = ap (λ z. is_eq (id_cmp z x)) same ∙ ap is_eq (tied_itself id_cmp-IsTotalOrder x)
 
     not_yet : (d : Instance) → Below d.id e.id → is_eq (id_cmp d.id x) ≡ false
     not_yet d below =
@@ -72,7 +72,7 @@ position_of-found m rising x i e at is =
           | inl here ↦
               let same : d.id ≡ e.id = id_cmp-IsAntisymmetric d.id x
               ((Equal-is (id_cmp d.id x)).0 here) ∙ sym is in
-              absurd (below_irrefl id_cmp_total d.id (subst (Below d.id) (sym same) below))
+              absurd (is_lt-irrefl id_cmp-IsTotalOrder d.id (subst (Below d.id) (sym same) below))
           | inr other ↦ other
         ]
 
@@ -89,5 +89,5 @@ pub instance_of-position : (m : List Instance) → IsRising (ids_of m)
 instance_of-position m rising x i e found at =
     let position = position_of-instance m x i found in
     let same : position.0 ≡ e = cc (position.1, at) in
-    (instance_of_iff m rising x e).1
+    (instance_of-iff_contains m rising x e).1
     (Contains-slice_get m i e at, sym (ap (λ (d : Instance). d.id) same) ∙ position.2)

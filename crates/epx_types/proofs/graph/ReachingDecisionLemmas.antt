@@ -10,24 +10,24 @@ use Rattle.epx_types.proofs.lists.MembershipLemmas.{Contains-cons_cases, Contain
 use Rattle.epx_types.proofs.graph.DependencyLemmas.{DependsOn-committed}
 use Rattle.epx_types.proofs.graph.ReachingLemmas.{Reaches-dependency, Reaches-trans}
 use Rattle.epx_types.proofs.graph.WaitingLemmas.{Id-cases, Contains-Id_cases}
-use Rattle.epx_types.proofs.lists.SearchLemmas.{some_or_none}
+use Rattle.epx_types.proofs.lists.SearchLemmas.{Contains-some_or_none}
 
 -- both properties hold, or not both
-pub both_cases : {A B : Type 0} → A ⊎ (¬ A) → B ⊎ (¬ B) → (A × B) ⊎ (¬ (A × B))
-both_cases (inl a) (inl b) = inl (a, b)
-both_cases (inl a) (inr none) = inr (λ h. none h.1)
-both_cases (inr none) b = inr (λ h. none h.0)
+pub both-cases : {A B : Type 0} → A ⊎ (¬ A) → B ⊎ (¬ B) → (A × B) ⊎ (¬ (A × B))
+both-cases (inl a) (inl b) = inl (a, b)
+both-cases (inl a) (inr none) = inr (λ h. none h.1)
+both-cases (inr none) b = inr (λ h. none h.0)
 
 -- the negation of a decidable property is decidable
-pub not_cases : {A : Type 0} → A ⊎ (¬ A) → (¬ A) ⊎ (¬ (¬ A))
-not_cases (inl a) = inr (λ none. none a)
-not_cases (inr none) = inl none
+pub negation-cases : {A : Type 0} → A ⊎ (¬ A) → (¬ A) ⊎ (¬ (¬ A))
+negation-cases (inl a) = inr (λ none. none a)
+negation-cases (inr none) = inl none
 
 module _ (m : List Instance) where
   pub DependsOn-cases : (x y : Id) → DependsOn m x y ⊎ (¬ DependsOn m x y)
   DependsOn-cases x y =
-      elim (some_or_none (λ e. (e.id ≡ x) × Contains e.deps y)
-      (λ e. both_cases (Id-cases e.id x) (Contains-Id_cases e.deps y)) m) [
+      elim (Contains-some_or_none (λ e. (e.id ≡ x) × Contains e.deps y)
+      (λ e. both-cases (Id-cases e.id x) (Contains-Id_cases e.deps y)) m) [
         | inl found ↦ inl (found.0, found.1, found.2.0, found.2.1)
         | inr none ↦ inr (λ d. none d.0 d.1 (d.2, d.3))
       ]
@@ -44,7 +44,7 @@ module _ (m : List Instance) where
   Via-cases (z ∷ zs) x y =
       elim (Via-cases zs x y) [
         | inl past ↦ inl (inl past)
-        | inr not_past ↦ elim (both_cases (Via-cases zs x z) (Via-cases zs z y)) [
+        | inr not_past ↦ elim (both-cases (Via-cases zs x z) (Via-cases zs z y)) [
           | inl through ↦ inl (inr through)
           | inr not_through ↦ inr
               (λ h. elim h [ inl past ↦ not_past past | inr through ↦ not_through through ])
@@ -106,7 +106,7 @@ module _ (m : List Instance) where
       ]
 
   pub InOneComponent-cases : (x y : Id) → InOneComponent m x y ⊎ (¬ InOneComponent m x y)
-  InOneComponent-cases x y = both_cases (Reaches-cases x y) (Reaches-cases y x)
+  InOneComponent-cases x y = both-cases (Reaches-cases x y) (Reaches-cases y x)
 
   -- all that an instance may reach: itself and all dependencies of the map
   pub within_reach : Id → List Id

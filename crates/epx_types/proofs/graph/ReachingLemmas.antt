@@ -8,12 +8,12 @@ use Rattle.epx_types.specs.Reaching.{DependsOn, IsPath, Reaches}
 use Rattle.epx_types.specs.Depth.{Descends, IsDepth, FallsOneWay}
 use Rattle.epx_types.specs.Components.{IsLeader, InOneComponent}
 use Rattle.epx_types.specs.Readiness.{IsReady, WaitsFor}
-use Rattle.epx_types.proofs.lists.ComparisonLemmas.{id_cmp_total, id_cmp-IsAntisymmetric}
-use Rattle.epx_types.proofs.lists.TotalOrderLemmas.{same_from_both}
+use Rattle.epx_types.proofs.lists.ComparisonLemmas.{id_cmp-IsTotalOrder, id_cmp-IsAntisymmetric}
+use Rattle.epx_types.proofs.lists.TotalOrderLemmas.{is_lt-both_same}
 
 -- two Ids, each at most the other, are equal
 pub UpTo-antisymm : (x y : Id) → UpTo x y → UpTo y x → x ≡ y
-UpTo-antisymm x y p q = same_from_both id_cmp_total id_cmp-IsAntisymmetric x y p q
+UpTo-antisymm x y p q = is_lt-both_same id_cmp-IsTotalOrder id_cmp-IsAntisymmetric x y p q
 
 module _ (m : List Instance) where
   -- an instance reaches itself

@@ -12,8 +12,8 @@ use Rattle.epx_types.specs.Reaching.{IsPath, Reaches}
 use Rattle.epx_types.specs.Readiness.{IsReady, WaitsFor, NoneMissing}
 use Rattle.epx_types.proofs.lists.MembershipLemmas.{Contains-nil, Contains-head, Contains-cons}
 use Rattle.epx_types.proofs.lists.MembershipLemmas.{Contains-cons_cases}
-use Rattle.epx_types.proofs.lists.TotalOrderLemmas.{below_cases, below_irrefl}
-use Rattle.epx_types.proofs.lists.ComparisonLemmas.{id_cmp_total, id_cmp-IsAntisymmetric}
+use Rattle.epx_types.proofs.lists.TotalOrderLemmas.{is_lt-cases, is_lt-irrefl}
+use Rattle.epx_types.proofs.lists.ComparisonLemmas.{id_cmp-IsTotalOrder, id_cmp-IsAntisymmetric}
 
 -- ---- induction over smaller Ids
 
@@ -57,10 +57,10 @@ module _ (P : Id → Type 0) (step : (x : Id) → ((y : Id) → Below y x → P 
 -- equality of Ids is decidable
 pub Id-cases : (x y : Id) → (x ≡ y) ⊎ (¬ (x ≡ y))
 Id-cases x y =
-    elim (below_cases id_cmp_total id_cmp-IsAntisymmetric x y) [
-      | inl l ↦ inr (λ e. below_irrefl id_cmp_total x (subst (Below x) (sym e) l))
+    elim (is_lt-cases id_cmp-IsTotalOrder id_cmp-IsAntisymmetric x y) [
+      | inl l ↦ inr (λ e. is_lt-irrefl id_cmp-IsTotalOrder x (subst (Below x) (sym e) l))
       | inr (inl e) ↦ inl e
-      | inr (inr l) ↦ inr (λ e. below_irrefl id_cmp_total y (subst (Below y) e l))
+      | inr (inr l) ↦ inr (λ e. is_lt-irrefl id_cmp-IsTotalOrder y (subst (Below y) e l))
     ]
 
 -- membership of an Id in a list is decidable
@@ -85,7 +85,7 @@ module _ (m : List Instance) where
         committed = committed;
         reached = reached;
         missing = missing;
-        least = λ z on lacks. elim (below_cases id_cmp_total id_cmp-IsAntisymmetric y z) [
+        least = λ z on lacks. elim (is_lt-cases id_cmp-IsTotalOrder id_cmp-IsAntisymmetric y z) [
           | inl l ↦ inr l
           | inr (inl e) ↦ inl e
           | inr (inr l) ↦ absurd (lower z l on lacks)

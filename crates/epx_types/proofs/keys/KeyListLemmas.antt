@@ -15,23 +15,23 @@ use Rattle.epx_types.specs.Keys.{key_cmp, KeyBelow, add_keys, rising_keys}
 use Rattle.epx_types.proofs.lists.MembershipLemmas.{Contains-nil, Contains-head, Contains-cons}
 use Rattle.epx_types.proofs.lists.MembershipLemmas.{Contains-cons_cases}
 use Rattle.epx_types.proofs.lists.ListPositionLemmas.{AllPairs-first, AllPairs-tail}
-use Rattle.epx_types.proofs.lists.TotalOrderLemmas.{below_trans}
+use Rattle.epx_types.proofs.lists.TotalOrderLemmas.{is_lt-trans}
 
 -- the order of keys is total
-pub key_cmp_total : IsTotalOrder key_cmp
-key_cmp_total = nat_list_cmp_total
+pub key_cmp-IsTotalOrder : IsTotalOrder key_cmp
+key_cmp-IsTotalOrder = nat_list_cmp_total
 
 -- keys that compare as equal are equal
 pub key_cmp-IsAntisymmetric : IsAntisymmetric key_cmp
 key_cmp-IsAntisymmetric = slice_cmp-IsAntisymmetric nat_cmp-IsAntisymmetric
 
 key_itself : (q k : List ℕ) → q ≡ k → key_cmp q k ≡ Equal
-key_itself q k e = ap (key_cmp q) (sym e) ∙ tied_itself key_cmp_total q
+key_itself q k e = ap (key_cmp q) (sym e) ∙ tied_itself key_cmp-IsTotalOrder q
 
 -- the test whether two keys are equal, with its meaning
-pub key_cases : (q k : List ℕ) → (eq_by_cmp key_cmp q k ≡ true) × (q ≡ k)
+pub key_cmp-cases : (q k : List ℕ) → (eq_by_cmp key_cmp q k ≡ true) × (q ≡ k)
     ⊎ (eq_by_cmp key_cmp q k ≡ false) × (¬ (q ≡ k))
-key_cases q k =
+key_cmp-cases q k =
     elim (key_cmp q k) as (λ r. key_cmp q k ≡ r → (eq_by_cmp key_cmp q k ≡ true) × (q ≡ k)
     ⊎ (eq_by_cmp key_cmp q k ≡ false) × (¬ (q ≡ k))) [
       | Less ↦ λ e. inr (ap is_eq e, λ same. absurd (cc (e, key_itself q k same)))
@@ -136,7 +136,7 @@ KeyBelow-Less j k e = ap is_lt e
 All-KeyBelow_trans : (j k : List ℕ) (ks : List (List ℕ)) → KeyBelow j k → All (KeyBelow k) ks
     → All (KeyBelow j) ks
 All-KeyBelow_trans j k ks l h =
-    All-weaker (KeyBelow k) (KeyBelow j) (λ x. below_trans key_cmp_total j k x l) ks h
+    All-weaker (KeyBelow k) (KeyBelow j) (λ x. is_lt-trans key_cmp-IsTotalOrder j k x l) ks h
 
 AllPairs-insert_key : (ks : List (List ℕ)) (k : List ℕ) → AllPairs KeyBelow ks
     → AllPairs KeyBelow (insert_key key_cmp ks k)
@@ -153,7 +153,7 @@ AllPairs-insert_key (x ∷ ks) k h =
       | Equal ↦ λ e. rw e h
       | Greater ↦ λ e.
           let above : KeyBelow x k = KeyBelow-Less x k
-          (key_cmp_total.antisymm x k ∙ ap ordering_reverse e) in
+          (key_cmp-IsTotalOrder.antisymm x k ∙ ap ordering_reverse e) in
           rw e (AllPairs-cons KeyBelow x (insert_key key_cmp ks k)
           (All-insert_key key_cmp k (KeyBelow x) ks first above)
           (AllPairs-insert_key ks k rest))

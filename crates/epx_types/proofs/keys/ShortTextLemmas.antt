@@ -6,13 +6,13 @@ use Rattle.std.proofs.Math.Seq.{take-append_seam}
 use Rattle.std.proofs.lemmas.List.{drop-replicate}
 use Rattle.std.specs.Int.{from_be_bytes, w64}
 use Rattle.epx_types.specs.KeyHeads.{AreBytes, followed_by, head_of}
-use Rattle.epx_types.specs.inner.ShortTexts.{IsShortText}
+use Rattle.epx_types.specs.ShortTexts.{IsShortText}
 
 -- a text that is copied over zeros
-pub short_text_over_zeros : (text copied : List ℕ) → copied ≡ text → length text ≤ 22
+pub IsShortText-over_zeros : (text copied : List ℕ) → copied ≡ text → length text ≤ 22
     → IsUtf8 text → AreBytes text
     → IsShortText (length text) (copied ++ drop (length text) (replicate 22 0))
-short_text_over_zeros text copied same fits utf8 bytes = (
+IsShortText-over_zeros text copied same fits utf8 bytes = (
   fits,
   ∣ subst IsUtf8 (sym front) utf8 ∣₁,
   subst AreBytes (sym front) bytes,
@@ -36,20 +36,20 @@ zeros_keep_head (suc n) a m (b ∷ text) = zeros_keep_head n (a * 256 + b) m tex
 abbrev at : List ℕ → ℕ → ℕ
 at bytes i = slice_index_or bytes i 0
 
-pub number_is_head : (bytes : List ℕ) → from_be_bytes w64 (at bytes 0 ∷ at bytes 1 ∷ at bytes 2
+pub from_be_bytes-head : (bytes : List ℕ) → from_be_bytes w64 (at bytes 0 ∷ at bytes 1 ∷ at bytes 2
     ∷ at bytes 3 ∷ at bytes 4 ∷ at bytes 5 ∷ at bytes 6 ∷ at bytes 7 ∷ []) ≡ head_of bytes
-number_is_head [] = omega arith
-number_is_head (a ∷ []) = omega arith
-number_is_head (a ∷ b ∷ []) = omega arith
-number_is_head (a ∷ b ∷ c ∷ []) = omega arith
-number_is_head (a ∷ b ∷ c ∷ d ∷ []) = omega arith
-number_is_head (a ∷ b ∷ c ∷ d ∷ e ∷ []) = omega arith
-number_is_head (a ∷ b ∷ c ∷ d ∷ e ∷ f ∷ []) = omega arith
-number_is_head (a ∷ b ∷ c ∷ d ∷ e ∷ f ∷ g ∷ []) = omega arith
-number_is_head (a ∷ b ∷ c ∷ d ∷ e ∷ f ∷ g ∷ h ∷ rest) = omega arith
+from_be_bytes-head [] = omega arith
+from_be_bytes-head (a ∷ []) = omega arith
+from_be_bytes-head (a ∷ b ∷ []) = omega arith
+from_be_bytes-head (a ∷ b ∷ c ∷ []) = omega arith
+from_be_bytes-head (a ∷ b ∷ c ∷ d ∷ []) = omega arith
+from_be_bytes-head (a ∷ b ∷ c ∷ d ∷ e ∷ []) = omega arith
+from_be_bytes-head (a ∷ b ∷ c ∷ d ∷ e ∷ f ∷ []) = omega arith
+from_be_bytes-head (a ∷ b ∷ c ∷ d ∷ e ∷ f ∷ g ∷ []) = omega arith
+from_be_bytes-head (a ∷ b ∷ c ∷ d ∷ e ∷ f ∷ g ∷ h ∷ rest) = omega arith
 
 -- the head of a short text, read with the zeros after it
-pub head_of_short : (n : ℕ) (bytes : List ℕ) → IsShortText n bytes
+pub head_of-short_text : (n : ℕ) (bytes : List ℕ) → IsShortText n bytes
     → head_of bytes ≡ head_of (take n bytes)
-head_of_short n bytes is =
+head_of-short_text n bytes is =
     ap head_of is.3 ∙ zeros_keep_head 8 0 _ (take n bytes)

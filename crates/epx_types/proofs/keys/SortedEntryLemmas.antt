@@ -12,26 +12,28 @@ use Rattle.std.specs.FinMap.{FinMap, find, put, is_sorted, same_map, get-from_en
 use Rattle.std.specs.FinMap.{entries-insert}
 use Rattle.std.specs.FinMap.Entries.{below_all, by_order}
 use Rattle.epx_types.specs.Keys.{key_cmp}
-use Rattle.epx_types.proofs.keys.KeyListLemmas.{key_cmp_total, key_cmp-IsAntisymmetric, key_cases}
+use Rattle.epx_types.proofs.keys.KeyListLemmas.{key_cmp-IsTotalOrder, key_cmp-IsAntisymmetric}
+use Rattle.epx_types.proofs.keys.KeyListLemmas.{key_cmp-cases}
 
 -- the test whether a key is below another, as an order
-pub less_from_is_lt : (o : Ordering) → T (is_lt o) → o ≡ Less
-less_from_is_lt Less h = refl
-less_from_is_lt Equal h = absurd h
-less_from_is_lt Greater h = absurd h
+pub Less-from_is_lt : (o : Ordering) → T (is_lt o) → o ≡ Less
+Less-from_is_lt Less h = refl
+Less-from_is_lt Equal h = absurd h
+Less-from_is_lt Greater h = absurd h
 
 -- keys that compare as equal are equal
-pub same_key : (x y : List ℕ) → eq_by_cmp key_cmp x y ≡ true → x ≡ y
-same_key x y e = elim (key_cases x y) [ inl tied ↦ tied.1 | inr other ↦ absurd (cc (e, other.0)) ]
+pub eq_by_cmp-same_key : (x y : List ℕ) → eq_by_cmp key_cmp x y ≡ true → x ≡ y
+eq_by_cmp-same_key x y e =
+    elim (key_cmp-cases x y) [ inl tied ↦ tied.1 | inr other ↦ absurd (cc (e, other.0)) ]
 
 -- the parts of a test that holds
-pub first_of : (a b : Bool) → T (a && b) → T a
-first_of true b h = tt
-first_of false b h = absurd h
+pub and-first : (a b : Bool) → T (a && b) → T a
+and-first true b h = tt
+and-first false b h = absurd h
 
-pub second_of : (a b : Bool) → T (a && b) → T b
-second_of true b h = h
-second_of false b h = absurd h
+pub and-second : (a b : Bool) → T (a && b) → T b
+and-second true b h = h
+and-second false b h = absurd h
 
 module _ {X : Type 0} where
   -- an entry whose key is below all others is put first
@@ -40,7 +42,7 @@ module _ {X : Type 0} where
   put_first k v [] h = refl
   put_first k v (e ∷ es) h =
       ap (λ o. by_order o ((k, v) ∷ e ∷ es) ((e.0, v) ∷ es) (e ∷ put key_cmp k v es))
-      (less_from_is_lt (key_cmp k e.0) (first_of _ _ h))
+      (Less-from_is_lt (key_cmp k e.0) (and-first _ _ h))
 
   no_entries : (es : List (List ℕ × X)) → length es ≡ 0 → es ≡ []
   no_entries [] e = refl
@@ -55,17 +57,17 @@ module _ {X : Type 0} where
       → contents.entries (contents.from_entries {R = key_cmp} es) ≡ es
   entries-from_entries [] h = entries-empty
   entries-from_entries (e ∷ es) h =
-      entries-insert key_cmp_total (contents.from_entries es) e.0 e.1
-      ∙ ap (put key_cmp e.0 e.1) (entries-from_entries es (second_of _ _ h))
-      ∙ put_first e.0 e.1 es (first_of _ _ h)
+      entries-insert key_cmp-IsTotalOrder (contents.from_entries es) e.0 e.1
+      ∙ ap (put key_cmp e.0 e.1) (entries-from_entries es (and-second _ _ h))
+      ∙ put_first e.0 e.1 es (and-first _ _ h)
 
   -- a key below all others is not found
-  pub find_below : (k : List ℕ) (es : List (List ℕ × X)) → T (below_all key_cmp k es)
+  pub find-below_all : (k : List ℕ) (es : List (List ℕ × X)) → T (below_all key_cmp k es)
       → find key_cmp k es ≡ None
-  find_below k [] h = refl
-  find_below k (e ∷ es) h =
+  find-below_all k [] h = refl
+  find-below_all k (e ∷ es) h =
       ap (λ o. cond (is_eq o) (Some e.1) (find key_cmp k es))
-      (less_from_is_lt (key_cmp k e.0) (first_of _ _ h)) ∙ find_below k es (second_of _ _ h)
+      (Less-from_is_lt (key_cmp k e.0) (and-first _ _ h)) ∙ find-below_all k es (and-second _ _ h)
 
 -- entries written into a map one after another, by any function that writes one
 module _ {X Y : Type 0} (write : FinMap key_cmp X → List ℕ → Y → FinMap key_cmp X) where
@@ -82,13 +84,14 @@ module _ {X Y : Type 0} (write : FinMap key_cmp X → List ℕ → Y → FinMap 
         ≡ unwrap_or (option_map gives (find key_cmp q es)) (contents.get m q)
     get-write_all [] h m q = refl
     get-write_all (e ∷ es) h m q =
-        get-write_all es (second_of _ _ h) (write m e.0 e.1) q
+        get-write_all es (and-second _ _ h) (write m e.0 e.1) q
         ∙ ap (unwrap_or (option_map gives (find key_cmp q es))) (law m e.0 e.1 q)
         ∙ elim (eq_by_cmp key_cmp q e.0) as (λ b. eq_by_cmp key_cmp q e.0 ≡ b
         → unwrap_or (option_map gives (find key_cmp q es)) (cond b (gives e.1) (contents.get m q))
         ≡ unwrap_or (option_map gives (cond b (Some e.1) (find key_cmp q es))) (contents.get m q)) [
           | true ↦ λ t. ap (λ o. unwrap_or (option_map gives o) (gives e.1))
-              (ap (λ k. find key_cmp k es) (same_key q e.0 t) ∙ find_below e.0 es (first_of _ _ h))
+              (ap (λ k. find key_cmp k es) (eq_by_cmp-same_key q e.0 t)
+              ∙ find-below_all e.0 es (and-first _ _ h))
           | false ↦ λ t. refl
         ] refl
 
@@ -99,11 +102,11 @@ insert_all-from_entries {X} es h =
     let found : (o : Option X) → unwrap_or (option_map Some o) None ≡ o =
     λ o. elim o as (λ (o : Option X). unwrap_or (option_map Some o) None ≡ o)
     [ None ↦ refl | Some x ↦ refl ] in
-    same_map key_cmp_total key_cmp-IsAntisymmetric _ _ (λ q.
-    get-write_all contents.insert Some (get-insert key_cmp_total) es h contents.empty q
+    same_map key_cmp-IsTotalOrder key_cmp-IsAntisymmetric _ _ (λ q.
+    get-write_all contents.insert Some (get-insert key_cmp-IsTotalOrder) es h contents.empty q
     ∙ ap (unwrap_or (option_map Some (find key_cmp q es))) (contents.get-empty key_cmp q)
     ∙ found (find key_cmp q es)
-    ∙ sym (get-from_entries key_cmp_total es q))
+    ∙ sym (get-from_entries key_cmp-IsTotalOrder es q))
 
 -- the keys after putting an entry are the keys with its key inserted
 pub keys_of-put : {X : Type 0} (k : List ℕ) (v : X) (es : List (List ℕ × X))

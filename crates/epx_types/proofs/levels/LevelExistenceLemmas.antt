@@ -7,22 +7,23 @@ use Rattle.epx_types.specs.declared.op.Op.{Op}
 use Rattle.epx_types.specs.CommandKeys.{touched_keys, written_keys}
 use Rattle.epx_types.specs.Conflicts.{Conflict}
 use Rattle.epx_types.specs.Levels.{ConflictAt, Climbs, IsLevel, AreLevels}
-use Rattle.epx_types.proofs.keys.KeyListLemmas.{key_cases}
-use Rattle.epx_types.proofs.lists.SearchLemmas.{some_or_none, Contains-cases, greatest_up_to}
+use Rattle.epx_types.proofs.keys.KeyListLemmas.{key_cmp-cases}
+use Rattle.epx_types.proofs.lists.SearchLemmas.{Contains-some_or_none, Contains-cases}
+use Rattle.epx_types.proofs.lists.SearchLemmas.{greatest-exists}
 use Rattle.epx_types.proofs.levels.LevelLemmas.{Climbs-length}
-use Rattle.epx_types.proofs.graph.ReachingDecisionLemmas.{both_cases}
+use Rattle.epx_types.proofs.graph.ReachingDecisionLemmas.{both-cases}
 use Rattle.epx_types.proofs.commands.RearrangementLemmas.{list_positions, Contains-list_positions}
 
 -- ---- conflict is decidable
 
 Contains-key_cases : (ks : List (List ℕ)) (k : List ℕ) → Contains ks k ⊎ (¬ Contains ks k)
 Contains-key_cases = Contains-cases
-    (λ q k. elim (key_cases q k) [ inl same ↦ inl same.1 | inr other ↦ inr other.1 ])
+    (λ q k. elim (key_cmp-cases q k) [ inl same ↦ inl same.1 | inr other ↦ inr other.1 ])
 
 -- some key is in both lists
 shared_cases : (ks qs : List (List ℕ)) → ((k : List ℕ) × Contains ks k × Contains qs k)
     ⊎ ((k : List ℕ) → Contains ks k → ¬ Contains qs k)
-shared_cases ks qs = some_or_none (Contains qs) (Contains-key_cases qs) ks
+shared_cases ks qs = Contains-some_or_none (Contains qs) (Contains-key_cases qs) ks
 
 pub Conflict-cases : (a b : List Op) → Conflict a b ⊎ (¬ Conflict a b)
 Conflict-cases a b =
@@ -56,9 +57,9 @@ module _ (commands : List (List Op)) where
   HasClimb-cases : (k j : ℕ) → HasClimb j k ⊎ (¬ HasClimb j k)
   HasClimb-cases zero j = inl ([], tt, refl)
   HasClimb-cases (suc k) j =
-      elim (some_or_none (ClimbsVia j k)
-      (λ i. both_cases
-      (both_cases (below_cases i j)
+      elim (Contains-some_or_none (ClimbsVia j k)
+      (λ i. both-cases
+      (both-cases (below_cases i j)
       (Conflict-cases (slice_index_or commands i []) (slice_index_or commands j [])))
       (HasClimb-cases k i)) (list_positions j)) [
         | inl found ↦ inl (
@@ -75,9 +76,9 @@ module _ (commands : List (List Op)) where
       no_longer none (i ∷ is) climbs e = none i (Contains-list_positions j i climbs.0)
           ((climbs.0, climbs.1), (is, climbs.2, omega (arith, e)))
 
-  pub level_exists : (j : ℕ) → (level : ℕ) × IsLevel commands j level
-  level_exists j =
-      let found = greatest_up_to (HasClimb j) (λ k. HasClimb-cases k j) ([], tt, refl) j in (
+  pub IsLevel-exists : (j : ℕ) → (level : ℕ) × IsLevel commands j level
+  IsLevel-exists j =
+      let found = greatest-exists (HasClimb j) (λ k. HasClimb-cases k j) ([], tt, refl) j in (
         found.0,
         record {
           chain = found.1;
@@ -87,9 +88,9 @@ module _ (commands : List (List Op)) where
         },
       )
 
-  pub levels_exist : (levels : List ℕ) × AreLevels commands levels
-  levels_exist =
-      let level = λ (j : ℕ). (level_exists j).0 in (
+  pub AreLevels-exists : (levels : List ℕ) × AreLevels commands levels
+  AreLevels-exists =
+      let level = λ (j : ℕ). (IsLevel-exists j).0 in (
         map level (list_positions (length commands)),
         record {
           whole = length-map-range_with_len level 0 (length commands);
@@ -97,6 +98,6 @@ module _ (commands : List (List Op)) where
               subst (IsLevel commands j)
               (sym (get_or-map-range_with_len level 0 (length commands) j j 0
               (omega (arith, low, length-map-range_with_len level 0 (length commands)))
-              (omega arith))) (level_exists j).1;
+              (omega arith))) (IsLevel-exists j).1;
         },
       )

@@ -21,7 +21,7 @@ use Rattle.epx_types.proofs.lists.ListPositionLemmas.{AllPairs-slice_get, AllPai
 use Rattle.epx_types.proofs.lists.ListPositionLemmas.{AllPairs-append, AllPairs-head}
 use Rattle.epx_types.proofs.lists.ListPositionLemmas.{AllPairs-tail, slice_get-from_Contains}
 use Rattle.epx_types.proofs.levels.LevelLemmas.{IsLevel-rises}
-use Rattle.epx_types.proofs.levels.LevelPositionLemmas.{level_below_count}
+use Rattle.epx_types.proofs.levels.LevelPositionLemmas.{level_count-above_each}
 
 -- ---- the positions of one level
 
@@ -185,9 +185,9 @@ module _ (levels : List ℕ) where
 
 -- ---- by the levels of commands
 
-pub no_conflict_past_end : (a : List Op) → ¬ Conflict a []
-no_conflict_past_end a (k, inl both) = Contains-nil k both.1
-no_conflict_past_end a (k, inr both) = Contains-nil k both.1
+pub Conflict-not_past_end : (a : List Op) → ¬ Conflict a []
+Conflict-not_past_end a (k, inl both) = Contains-nil k both.1
+Conflict-not_past_end a (k, inr both) = Contains-nil k both.1
 
 module _ (commands : List (List Op)) (levels : List ℕ) (are : AreLevels commands levels) where
   -- of two commands that conflict, the later has the greater level
@@ -202,7 +202,7 @@ module _ (commands : List (List Op)) (levels : List ℕ) (are : AreLevels comman
               (are.each j within),
         )
         | inr past ↦ absurd
-            (no_conflict_past_end (slice_index_or commands i [])
+            (Conflict-not_past_end (slice_index_or commands i [])
             (subst (Conflict (slice_index_or commands i [])) (get_or_past commands j [] past)
             conflict))
       ]
@@ -235,7 +235,8 @@ module _ (commands : List (List Op)) (levels : List ℕ) (are : AreLevels comman
   in_all : (i : ℕ) → i < length commands → Contains all i
   in_all i within =
       let position : i < length levels = omega (arith, are.whole) in
-      Contains-by_level levels (level_count levels) i position (level_below_count levels i position)
+      Contains-by_level levels (level_count levels) i position
+      (level_count-above_each levels i position)
 
   -- of two positions, the one with the lower level comes first
   lower_before : (i j : ℕ) → i < length commands → j < length commands

@@ -10,60 +10,60 @@ use Rattle.epx_types.specs.PlacedLines.{place_cmp}
 use Rattle.epx_types.specs.ExecutionOrder.{rank_cmp}
 
 -- both comparisons are equal
-pub first_is_equal : (r s : Ordering) → ordering_then r s ≡ Equal → r ≡ Equal
-first_is_equal Less s e = cc e
-first_is_equal Equal s e = refl
-first_is_equal Greater s e = cc e
+pub ordering_then-first_equal : (r s : Ordering) → ordering_then r s ≡ Equal → r ≡ Equal
+ordering_then-first_equal Less s e = cc e
+ordering_then-first_equal Equal s e = refl
+ordering_then-first_equal Greater s e = cc e
 
-pub second_is_equal : (r s : Ordering) → ordering_then r s ≡ Equal → s ≡ Equal
-second_is_equal Less s e = absurd (cc e)
-second_is_equal Equal s e = e
-second_is_equal Greater s e = absurd (cc e)
+pub ordering_then-second_equal : (r s : Ordering) → ordering_then r s ≡ Equal → s ≡ Equal
+ordering_then-second_equal Less s e = absurd (cc e)
+ordering_then-second_equal Equal s e = e
+ordering_then-second_equal Greater s e = absurd (cc e)
 
 -- the order of Ids is total
-pub id_cmp_total : IsTotalOrder id_cmp
-id_cmp_total = then_total (on_total (λ x. x.replica) nat_cmp_total)
+pub id_cmp-IsTotalOrder : IsTotalOrder id_cmp
+id_cmp-IsTotalOrder = then_total (on_total (λ x. x.replica) nat_cmp_total)
     (on_total (λ x. x.number) nat_cmp_total)
 
 -- Ids that compare as equal are equal
 pub id_cmp-IsAntisymmetric : IsAntisymmetric id_cmp
 id_cmp-IsAntisymmetric x y e =
-    let replica = nat_cmp-IsAntisymmetric x.replica y.replica (first_is_equal _ _ e) in
-    let number = nat_cmp-IsAntisymmetric x.number y.number (second_is_equal _ _ e) in
+    let replica = nat_cmp-IsAntisymmetric x.replica y.replica (ordering_then-first_equal _ _ e) in
+    let number = nat_cmp-IsAntisymmetric x.number y.number (ordering_then-second_equal _ _ e) in
     λ i. record { replica = replica i; number = number i }
 
 -- so the test for `Equal` decides equality
 pub id_cmp-Decides : (x y : Id) → Decides (eq_by_cmp id_cmp x y) (x ≡ y)
 id_cmp-Decides x y = (
   λ e. id_cmp-IsAntisymmetric x y ((Equal-is (id_cmp x y)).0 e),
-  λ e. ap (λ z. is_eq (id_cmp x z)) (sym e) ∙ ap is_eq (tied_itself id_cmp_total x),
+  λ e. ap (λ z. is_eq (id_cmp x z)) (sym e) ∙ ap is_eq (tied_itself id_cmp-IsTotalOrder x),
 )
 
 -- the order of places is total
-pub place_cmp_total : IsTotalOrder place_cmp
-place_cmp_total = then_total (on_total (λ p. p.log) nat_cmp_total)
+pub place_cmp-IsTotalOrder : IsTotalOrder place_cmp
+place_cmp-IsTotalOrder = then_total (on_total (λ p. p.log) nat_cmp_total)
     (on_total (λ p. p.line) nat_cmp_total)
 
 -- places that compare as equal are equal
 pub place_cmp-IsAntisymmetric : IsAntisymmetric place_cmp
 place_cmp-IsAntisymmetric p q e =
-    let log = nat_cmp-IsAntisymmetric p.log q.log (first_is_equal _ _ e) in
-    let line = nat_cmp-IsAntisymmetric p.line q.line (second_is_equal _ _ e) in
+    let log = nat_cmp-IsAntisymmetric p.log q.log (ordering_then-first_equal _ _ e) in
+    let line = nat_cmp-IsAntisymmetric p.line q.line (ordering_then-second_equal _ _ e) in
     λ i. record { log = log i; line = line i }
 
 -- the order of ranks is total
-pub rank_cmp_total : IsTotalOrder rank_cmp
-rank_cmp_total = then_total (on_total (λ r. r.depth) nat_cmp_total)
-    (then_total (on_total (λ r. r.leader) id_cmp_total)
-    (then_total (on_total (λ r. r.seq) nat_cmp_total) (on_total (λ r. r.id) id_cmp_total)))
+pub rank_cmp-IsTotalOrder : IsTotalOrder rank_cmp
+rank_cmp-IsTotalOrder = then_total (on_total (λ r. r.depth) nat_cmp_total)
+    (then_total (on_total (λ r. r.leader) id_cmp-IsTotalOrder)
+    (then_total (on_total (λ r. r.seq) nat_cmp_total) (on_total (λ r. r.id) id_cmp-IsTotalOrder)))
 
 -- ranks that compare as equal are equal
 pub rank_cmp-IsAntisymmetric : IsAntisymmetric rank_cmp
 rank_cmp-IsAntisymmetric a b e =
-    let rest = second_is_equal (nat_cmp a.depth b.depth) _ e in
-    let last = second_is_equal (id_cmp a.leader b.leader) _ rest in
-    let depth = nat_cmp-IsAntisymmetric a.depth b.depth (first_is_equal _ _ e) in
-    let leader = id_cmp-IsAntisymmetric a.leader b.leader (first_is_equal _ _ rest) in
-    let seq = nat_cmp-IsAntisymmetric a.seq b.seq (first_is_equal _ _ last) in
-    let id = id_cmp-IsAntisymmetric a.id b.id (second_is_equal _ _ last) in
+    let rest = ordering_then-second_equal (nat_cmp a.depth b.depth) _ e in
+    let last = ordering_then-second_equal (id_cmp a.leader b.leader) _ rest in
+    let depth = nat_cmp-IsAntisymmetric a.depth b.depth (ordering_then-first_equal _ _ e) in
+    let leader = id_cmp-IsAntisymmetric a.leader b.leader (ordering_then-first_equal _ _ rest) in
+    let seq = nat_cmp-IsAntisymmetric a.seq b.seq (ordering_then-first_equal _ _ last) in
+    let id = id_cmp-IsAntisymmetric a.id b.id (ordering_then-second_equal _ _ last) in
     λ i. record { id = id i; seq = seq i; leader = leader i; depth = depth i }

@@ -17,17 +17,17 @@ use Rattle.std.proofs.lemmas.List.Sorted.{searchable_from_sorted}
 use Rattle.epx_types.specs.declared.id.Id.{Id}
 use Rattle.epx_types.specs.contracts.id.IdPartialEq.TheImpl as id_eq
 use Rattle.epx_types.specs.Ids.{id_cmp, Below, BelowAll, IsRising}
-use Rattle.epx_types.proofs.lists.ComparisonLemmas.{id_cmp_total}
+use Rattle.epx_types.proofs.lists.ComparisonLemmas.{id_cmp-IsTotalOrder}
 use Rattle.epx_types.proofs.lists.RisingIdLemmas.{AllPairs-from_IsRising}
-use Rattle.epx_types.proofs.lists.TotalOrderLemmas.{below_asymm}
-use Rattle.epx_types.proofs.commands.EqualityLemmas.{ids_decide}
+use Rattle.epx_types.proofs.lists.TotalOrderLemmas.{is_lt-asymm}
+use Rattle.epx_types.proofs.commands.EqualityLemmas.{id_eq-Decides}
 
 -- ---- sorted, and each once
 
-pub rising_from_strict : (xs : List Id) → IsStrictlySortedBy id_cmp xs → IsRising xs
+pub IsRising-from_strict : (xs : List Id) → IsStrictlySortedBy id_cmp xs → IsRising xs
 unfolding IsStrictlySortedBy
-rising_from_strict [] h = tt
-rising_from_strict (x ∷ xs) h = (below_all xs h.0, rising_from_strict xs h.1) where
+IsRising-from_strict [] h = tt
+IsRising-from_strict (x ∷ xs) h = (below_all xs h.0, IsRising-from_strict xs h.1) where
   below_all : (ys : List Id) → AllByRecursion (λ y. id_cmp x y ≡ Less) ys → BelowAll x ys
   below_all [] k = tt
   below_all (y ∷ ys) k = (ap is_lt k.0, below_all ys k.1)
@@ -36,15 +36,15 @@ ids_tie : (x y : Id) → id_eq.eq-value.it x y ≡ eq_by_cmp id_cmp x y
 ids_tie x y = grind (arith, nat_tests)
 
 -- the sorted Ids without equal neighbours
-pub each_kept : (gathered sorted ids : List Id) → IsPermutation gathered sorted
+pub IsRising-kept : (gathered sorted ids : List Id) → IsPermutation gathered sorted
     → IsSorted id_cmp sorted → IsFiltered (DiffersFromLast id_eq.eq-value.it) [] sorted ids
     → IsRising ids × ((x : Id) → Contains ids x ↔ Contains gathered x)
-each_kept gathered sorted ids moved sorts filtered =
+IsRising-kept gathered sorted ids moved sorts filtered =
     let E = id_eq.eq-value.it in
     let kept : ids ≡ dedup E sorted = dedup_is E sorted ids filtered in (
       subst IsRising (sym kept)
-          (rising_from_strict (dedup E sorted)
-          (IsStrictlySortedBy-dedup id_cmp_total {E = E} ids_tie sorted sorts)),
+          (IsRising-from_strict (dedup E sorted)
+          (IsStrictlySortedBy-dedup id_cmp-IsTotalOrder {E = E} ids_tie sorted sorts)),
       λ x. (
         λ h. Contains-permutation sorted gathered x (IsPermutation-sym gathered sorted moved)
             (Contains-from_dedup E sorted x (subst (λ (l : List Id). Contains l x) kept h)),
@@ -55,7 +55,7 @@ each_kept gathered sorted ids moved sorts filtered =
   where
     equal : IsEquivalence id_eq.eq-value.it
     equal =
-        let by_cmp = eq_by_cmp_equiv id_cmp_total in
+        let by_cmp = eq_by_cmp_equiv id_cmp-IsTotalOrder in
         record {
           refl = λ x. ids_tie x x ∙ by_cmp.refl x;
           symm = λ x y. ids_tie x y ∙ by_cmp.symm x y ∙ sym (ids_tie y x);
@@ -65,30 +65,30 @@ each_kept gathered sorted ids moved sorts filtered =
 
     keeps : (xs : List Id) (x : Id) → Contains xs x → Contains (dedup id_eq.eq-value.it xs) x
     keeps xs x h =
-        Contains-dedup {E = id_eq.eq-value.it} equal (λ y z. (ids_decide y z).0) xs x h
+        Contains-dedup {E = id_eq.eq-value.it} equal (λ y z. (id_eq-Decides y z).0) xs x h
 
 -- ---- found by binary search
 
-pub sorted_from_rising : (xs : List Id) → IsRising xs → IsSorted id_cmp xs
-sorted_from_rising xs rising k d low l =
+pub IsSorted-from_rising : (xs : List Id) → IsRising xs → IsSorted id_cmp xs
+IsSorted-from_rising xs rising k d low l =
     let below : Below (get_or xs k d) (get_or xs (k + 1) d) =
     AllPairs-from_IsRising xs rising k (k + 1) d (omega arith) l in
     elim (cases_Bool (is_lt (id_cmp (get_or xs (k + 1) d) (get_or xs k d)))) [
       | inl back ↦ absurd
-          (below_asymm id_cmp_total (get_or xs k d) (get_or xs (k + 1) d) below back)
+          (is_lt-asymm id_cmp-IsTotalOrder (get_or xs k d) (get_or xs (k + 1) d) below back)
       | inr level ↦ level
     ]
 
 -- no element is equal if all before an index are less and all others greater
-pub absent : (xs : List Id) (x : Id) (i : ℕ) → IsRising xs
+pub Contains-not_found : (xs : List Id) (x : Id) (i : ℕ) → IsRising xs
     → (IsNonDecreasingBy (λ y. ordering_index (id_cmp y x)) xs
     → IsPartitionPoint (λ y. id_cmp y x ≡ Less) (λ y. id_cmp y x ≡ Greater) xs i) → ¬ Contains xs x
-absent xs x i rising parts h =
+Contains-not_found xs x i rising parts h =
     let point =
-    parts (searchable_from_sorted id_cmp_total (λ (y : Id). y) xs x
-    (sorted_from_rising xs rising)) in
+    parts (searchable_from_sorted id_cmp-IsTotalOrder (λ (y : Id). y) xs x
+    (IsSorted-from_rising xs rising)) in
     let tie : id_cmp (get_or xs h.0 x) x ≡ Equal =
-    ap (λ y. id_cmp y x) h.2 ∙ tied_itself id_cmp_total x in
+    ap (λ y. id_cmp y x) h.2 ∙ tied_itself id_cmp-IsTotalOrder x in
     elim (cases_lt h.0 i) [
       | inl l ↦ let less = point.0 h.0 x (omega arith) l in absurd (cc (less, tie))
       | inr m ↦ let more = point.1 h.0 x m h.1 in absurd (cc (more, tie))

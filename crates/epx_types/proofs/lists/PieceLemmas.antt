@@ -55,9 +55,10 @@ module _ (cut items : ℕ) (fits : 1 ≤ cut) where
   piece_end-within_cut piece = omega (arith, next_start piece)
 
   -- the piece of an item
-  pub piece_of_item : (item : ℕ) → item < items → (piece : ℕ) × (piece < piece_count cut items)
+  pub piece_start-for_item : (item : ℕ) → item < items → (piece : ℕ)
+      × (piece < piece_count cut items)
       × (piece_start cut piece ≤ item) × (item < piece_end cut items piece)
-  piece_of_item item l =
+  piece_start-for_item item l =
       let piece = item / cut in
       let from : piece * cut ≤ item = div-mul-le_self item cut in
       let upto : item < piece * cut + cut = lt-div-mul-add {a = item} {b = cut} fits in

@@ -13,13 +13,13 @@ use Rattle.epx_types.proofs.lists.MembershipLemmas.{Contains-cons_cases}
 use Rattle.epx_types.proofs.lists.ListPositionLemmas.{slice_get-map, AllPairs-slice_get}
 use Rattle.epx_types.proofs.lists.ListPositionLemmas.{AllPairs-from_slice_get, AllPairs-head}
 use Rattle.epx_types.proofs.lists.ListPositionLemmas.{AllPairs-tail, AllPairs-append}
-use Rattle.epx_types.proofs.lists.TotalOrderLemmas.{below_irrefl, below_trans, same_rising}
-use Rattle.epx_types.proofs.lists.ComparisonLemmas.{id_cmp_total}
+use Rattle.epx_types.proofs.lists.TotalOrderLemmas.{is_lt-irrefl, is_lt-trans, AllPairs-is_unique}
+use Rattle.epx_types.proofs.lists.ComparisonLemmas.{id_cmp-IsTotalOrder}
 
 pub BelowAll-trans : (x y : Id) (zs : List Id) → Below x y → BelowAll y zs → BelowAll x zs
 BelowAll-trans x y [] l h = tt
 BelowAll-trans x y (z ∷ zs) l h =
-    (below_trans id_cmp_total x y z l h.0, BelowAll-trans x y zs l h.1)
+    (is_lt-trans id_cmp-IsTotalOrder x y z l h.0, BelowAll-trans x y zs l h.1)
 
 All-from_BelowAll : (x : Id) (ys : List Id) → BelowAll x ys → All (Below x) ys
 All-from_BelowAll x [] h = All-nil (Below x)
@@ -89,33 +89,37 @@ IsRising-push xs x rising below =
     ]))
 
 -- the lower of two positions has the lower Id
-pub rising_positions : (xs : List Id) → IsRising xs → (i j : ℕ) (x y : Id)
+pub Below-by_position : (xs : List Id) → IsRising xs → (i j : ℕ) (x y : Id)
     → slice_get xs i ≡ Some x → slice_get xs j ≡ Some y → i < j → Below x y
-rising_positions xs rising i j x y p q l =
+Below-by_position xs rising i j x y p q l =
     AllPairs-slice_get Below xs (AllPairs-from_IsRising xs rising) i j x y l p q
 
 -- an Id has one position
-pub rising_position_is_unique : (xs : List Id) → IsRising xs → (i j : ℕ) (x : Id)
+pub slice_get-rising_is_unique : (xs : List Id) → IsRising xs → (i j : ℕ) (x : Id)
     → slice_get xs i ≡ Some x → slice_get xs j ≡ Some x → i ≡ j
-rising_position_is_unique xs rising i j x p q =
+slice_get-rising_is_unique xs rising i j x p q =
     elim (cases_lt i j) [
-      | inl l ↦ absurd (below_irrefl id_cmp_total x (rising_positions xs rising i j x x p q l))
+      | inl l ↦ absurd
+          (is_lt-irrefl id_cmp-IsTotalOrder x (Below-by_position xs rising i j x x p q l))
       | inr m ↦ elim (cases_lt j i) [
-        | inl l ↦ absurd (below_irrefl id_cmp_total x (rising_positions xs rising j i x x q p l))
+        | inl l ↦ absurd
+            (is_lt-irrefl id_cmp-IsTotalOrder x (Below-by_position xs rising j i x x q p l))
         | inr n ↦ omega arith
       ]
     ]
 
 -- no Id is there twice
-pub rising_once : (xs : List Id) → IsRising xs → AllPairs (λ x y. x ≢ y) xs
-rising_once xs rising = AllPairs-from_slice_get (λ x y. x ≢ y) xs (λ i j x y l p q same.
-    below_irrefl id_cmp_total y (subst (λ (z : Id). Below z y) same
-    (rising_positions xs rising i j x y p q l)))
+pub AllPairs-rising_distinct : (xs : List Id) → IsRising xs → AllPairs (λ x y. x ≢ y) xs
+AllPairs-rising_distinct xs rising =
+    AllPairs-from_slice_get (λ x y. x ≢ y) xs (λ i j x y l p q same.
+    is_lt-irrefl id_cmp-IsTotalOrder y (subst (λ (z : Id). Below z y) same
+    (Below-by_position xs rising i j x y p q l)))
 
 -- a rising list is determined by which Ids it has
-pub same_ids : (xs ys : List Id) → IsRising xs → IsRising ys
+pub IsRising-is_unique : (xs ys : List Id) → IsRising xs → IsRising ys
     → ((x : Id) → Contains xs x → Contains ys x) → ((x : Id) → Contains ys x → Contains xs x)
     → xs ≡ ys
-same_ids xs ys p q there back =
-    same_rising Below (below_irrefl id_cmp_total) (below_trans id_cmp_total) xs ys
+IsRising-is_unique xs ys p q there back =
+    AllPairs-is_unique Below (is_lt-irrefl id_cmp-IsTotalOrder) (is_lt-trans id_cmp-IsTotalOrder) xs
+    ys
     (AllPairs-from_IsRising xs p) (AllPairs-from_IsRising ys q) there back

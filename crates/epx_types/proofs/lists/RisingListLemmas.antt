@@ -7,7 +7,7 @@ use Rattle.epx_types.proofs.lists.MembershipLemmas.{Contains-nil, Contains-head,
 use Rattle.epx_types.proofs.lists.MembershipLemmas.{Contains-cons_cases}
 use Rattle.epx_types.proofs.lists.ListPositionLemmas.{AllPairs-head, AllPairs-tail}
 use Rattle.epx_types.proofs.lists.ListPositionLemmas.{AllPairs-from_parts}
-use Rattle.epx_types.proofs.lists.TotalOrderLemmas.{below_cases, below_trans}
+use Rattle.epx_types.proofs.lists.TotalOrderLemmas.{is_lt-cases, is_lt-trans}
 
 -- each element is below all later ones
 abbrev pub Rises : {K : Type 0} → (K → K → Ordering) → List K → Type 0
@@ -30,7 +30,7 @@ module _ {K : Type 0} {R : K → K → Ordering} (total : IsTotalOrder R)
   put_first x y xs l rising = record {
     rising = AllPairs-from_parts Lower x (y ∷ xs) (λ z h. elim (Contains-cons_cases y xs z h) [
       | inl is ↦ subst (Lower x) is l
-      | inr later ↦ below_trans total x y z l (AllPairs-head Lower y xs z rising later)
+      | inr later ↦ is_lt-trans total x y z l (AllPairs-head Lower y xs z rising later)
     ]) rising;
     here = Contains-head x (y ∷ xs);
     kept = λ z h. Contains-cons x (y ∷ xs) z h;
@@ -59,8 +59,8 @@ module _ {K : Type 0} {R : K → K → Ordering} (total : IsTotalOrder R)
   }
 
   -- inserting one element into a rising list
-  pub insert_rising : (x : K) (xs : List K) → Rises R xs → (now : List K) × IsWith R x xs now
-  insert_rising x [] rising = (
+  pub IsWith-exists : (x : K) (xs : List K) → Rises R xs → (now : List K) × IsWith R x xs now
+  IsWith-exists x [] rising = (
     x ∷ [],
     record {
       rising = λ i j d l k. absurd (omega arith);
@@ -69,8 +69,8 @@ module _ {K : Type 0} {R : K → K → Ordering} (total : IsTotalOrder R)
       only = λ y h. Contains-cons_cases x [] y h;
     },
   )
-  insert_rising x (y ∷ xs) rising =
-      elim (below_cases total same x y) [
+  IsWith-exists x (y ∷ xs) rising =
+      elim (is_lt-cases total same x y) [
         | inl l ↦ (x ∷ y ∷ xs, put_first x y xs l rising)
         | inr (inl is) ↦ (
           y ∷ xs,
@@ -82,7 +82,7 @@ module _ {K : Type 0} {R : K → K → Ordering} (total : IsTotalOrder R)
           },
         )
         | inr (inr l) ↦
-            let rest = insert_rising x xs (AllPairs-tail Lower y xs rising) in
+            let rest = IsWith-exists x xs (AllPairs-tail Lower y xs rising) in
             (y ∷ rest.0, put_later x y xs rest.0 l rising rest.1)
       ]
 
@@ -96,7 +96,7 @@ module _ {K : Type 0} {R : K → K → Ordering} (total : IsTotalOrder R)
     with_one : (x : K) (xs those : List K) → P x → AreThose P xs those
         → (now : List K) × AreThose P (x ∷ xs) now
     with_one x xs those here rest =
-        let put = insert_rising x those rest.elements_rise in (
+        let put = IsWith-exists x those rest.elements_rise in (
           put.0,
           record {
             elements_rise = put.1.rising;
@@ -123,8 +123,8 @@ module _ {K : Type 0} {R : K → K → Ordering} (total : IsTotalOrder R)
       ];
     }
 
-    pub rising_list : (xs : List K) → (those : List K) × AreThose P xs those
-    rising_list [] = (
+    pub AreThose-exists : (xs : List K) → (those : List K) × AreThose P xs those
+    AreThose-exists [] = (
       [],
       record {
         elements_rise = λ i j d l k. absurd (omega arith);
@@ -132,8 +132,8 @@ module _ {K : Type 0} {R : K → K → Ordering} (total : IsTotalOrder R)
         elements_all = λ x h p. absurd (Contains-nil x h);
       },
     )
-    rising_list (x ∷ xs) =
-        let rest = rising_list xs in
+    AreThose-exists (x ∷ xs) =
+        let rest = AreThose-exists xs in
         elim (decide x) [
           | inl here ↦ with_one x xs rest.0 here rest.1
           | inr not_here ↦ (rest.0, without_one x xs rest.0 not_here rest.1)

@@ -17,22 +17,22 @@ Less-is_lt Greater e = absurd (cc e)
 
 module _ {K : Type 0} {R : K → K → Ordering} (o : IsTotalOrder R) where
   -- nothing is below itself
-  pub below_irrefl : (x : K) → ¬ (is_lt (R x x) ≡ true)
-  below_irrefl x e = absurd (cc (e, tied_itself o x))
+  pub is_lt-irrefl : (x : K) → ¬ (is_lt (R x x) ≡ true)
+  is_lt-irrefl x e = absurd (cc (e, tied_itself o x))
 
   -- below is transitive
-  pub below_trans : (x y z : K) → is_lt (R x y) ≡ true → is_lt (R y z) ≡ true
+  pub is_lt-trans : (x y z : K) → is_lt (R x y) ≡ true → is_lt (R y z) ≡ true
       → is_lt (R x z) ≡ true
-  below_trans x y z p q = ap is_lt (o.trans x y z (Less-is_lt _ p) (Less-is_lt _ q))
+  is_lt-trans x y z p q = ap is_lt (o.trans x y z (Less-is_lt _ p) (Less-is_lt _ q))
 
   -- no two values are each below the other
-  pub below_asymm : (x y : K) → is_lt (R x y) ≡ true → ¬ (is_lt (R y x) ≡ true)
-  below_asymm x y p q = below_irrefl x (below_trans x y x p q)
+  pub is_lt-asymm : (x y : K) → is_lt (R x y) ≡ true → ¬ (is_lt (R y x) ≡ true)
+  is_lt-asymm x y p q = is_lt-irrefl x (is_lt-trans x y x p q)
 
   module _ (same : IsAntisymmetric R) where
     -- one is below the other, or they are equal
-    pub below_cases : (x y : K) → (is_lt (R x y) ≡ true) ⊎ ((x ≡ y) ⊎ (is_lt (R y x) ≡ true))
-    below_cases x y =
+    pub is_lt-cases : (x y : K) → (is_lt (R x y) ≡ true) ⊎ ((x ≡ y) ⊎ (is_lt (R y x) ≡ true))
+    is_lt-cases x y =
         elim (R x y) as (λ r. R x y ≡ r → (is_lt (R x y) ≡ true)
         ⊎ ((x ≡ y) ⊎ (is_lt (R y x) ≡ true))) [
           | Less ↦ λ e. inl (ap is_lt e)
@@ -41,35 +41,35 @@ module _ {K : Type 0} {R : K → K → Ordering} (o : IsTotalOrder R) where
         ] refl
 
     -- neither is below the other
-    pub same_from_neither : (x y : K) → ¬ (is_lt (R x y) ≡ true) → ¬ (is_lt (R y x) ≡ true) → x ≡ y
-    same_from_neither x y p q =
-        elim (below_cases x y) [
+    pub is_lt-neither_same : (x y : K) → ¬ (is_lt (R x y) ≡ true) → ¬ (is_lt (R y x) ≡ true) → x ≡ y
+    is_lt-neither_same x y p q =
+        elim (is_lt-cases x y) [
           | inl l ↦ absurd (p l)
           | inr (inl e) ↦ e
           | inr (inr l) ↦ absurd (q l)
         ]
 
     -- each is at most the other
-    pub same_from_both : (x y : K) → (x ≡ y) ⊎ (is_lt (R x y) ≡ true)
+    pub is_lt-both_same : (x y : K) → (x ≡ y) ⊎ (is_lt (R x y) ≡ true)
         → (y ≡ x) ⊎ (is_lt (R y x) ≡ true) → x ≡ y
-    same_from_both x y (inl e) q = e
-    same_from_both x y (inr l) (inl e) = sym e
-    same_from_both x y (inr l) (inr k) = absurd (below_asymm x y l k)
+    is_lt-both_same x y (inl e) q = e
+    is_lt-both_same x y (inr l) (inl e) = sym e
+    is_lt-both_same x y (inr l) (inr k) = absurd (is_lt-asymm x y l k)
 
 -- two lists that rise and have the same elements are equal
-pub same_rising : {X : Type 0} (Lower : X → X → Type 0) → ((x : X) → ¬ Lower x x)
+pub AllPairs-is_unique : {X : Type 0} (Lower : X → X → Type 0) → ((x : X) → ¬ Lower x x)
     → ((x y z : X) → Lower x y → Lower y z → Lower x z) → (xs ys : List X) → AllPairs Lower xs
     → AllPairs Lower ys → ((x : X) → Contains xs x → Contains ys x)
     → ((x : X) → Contains ys x → Contains xs x) → xs ≡ ys
-same_rising Lower strict chain [] [] p q there back = refl
-same_rising Lower strict chain [] (y ∷ ys) p q there back =
+AllPairs-is_unique Lower strict chain [] [] p q there back = refl
+AllPairs-is_unique Lower strict chain [] (y ∷ ys) p q there back =
     absurd (Contains-nil y (back y (Contains-head y ys)))
-same_rising Lower strict chain (x ∷ xs) [] p q there back =
+AllPairs-is_unique Lower strict chain (x ∷ xs) [] p q there back =
     absurd (Contains-nil x (there x (Contains-head x xs)))
-same_rising {X} Lower strict chain (x ∷ xs) (y ∷ ys) p q there back =
+AllPairs-is_unique {X} Lower strict chain (x ∷ xs) (y ∷ ys) p q there back =
     let first = heads (Contains-cons_cases y ys x (there x (Contains-head x xs)))
     (Contains-cons_cases x xs y (back y (Contains-head y ys))) in
-    let rest = same_rising Lower strict chain xs ys (AllPairs-tail Lower x xs p)
+    let rest = AllPairs-is_unique Lower strict chain xs ys (AllPairs-tail Lower x xs p)
     (AllPairs-tail Lower y ys q) (λ z h. onward z h first) (λ z h. backward z h first) in
     λ i. first i ∷ rest i
   where

@@ -18,9 +18,9 @@ use Rattle.epx_types.proofs.lists.MembershipLemmas.{Contains-from_map}
 use Rattle.epx_types.proofs.lists.ListPositionLemmas.{Contains-slice_get, slice_get-from_Contains}
 use Rattle.epx_types.proofs.lists.ListPositionLemmas.{slice_get-map, slice_get-from_map}
 use Rattle.epx_types.proofs.lists.ListPositionLemmas.{AllPairs-slice_get, AllPairs-from_slice_get}
-use Rattle.epx_types.proofs.lists.TotalOrderLemmas.{below_irrefl, below_trans, below_asymm}
-use Rattle.epx_types.proofs.lists.TotalOrderLemmas.{same_rising}
-use Rattle.epx_types.proofs.lists.ComparisonLemmas.{id_cmp_total, rank_cmp_total}
+use Rattle.epx_types.proofs.lists.TotalOrderLemmas.{is_lt-irrefl, is_lt-trans, is_lt-asymm}
+use Rattle.epx_types.proofs.lists.TotalOrderLemmas.{AllPairs-is_unique}
+use Rattle.epx_types.proofs.lists.ComparisonLemmas.{id_cmp-IsTotalOrder, rank_cmp-IsTotalOrder}
 use Rattle.epx_types.proofs.graph.ReachingLemmas.{IsLeader-along, IsLeader-unique, IsDepth-along}
 use Rattle.epx_types.proofs.graph.ReachingLemmas.{IsDepth-unique, IsDepth-falls, IsReady-reached}
 
@@ -45,12 +45,12 @@ Before-from_rank order rising a b in_a in_b lower =
     by : (j i : ℕ) → j ≤ i → slice_get order j ≡ Some b → slice_get order i ≡ Some a → ⊥
     by j i l p q =
         elim (cases_lt j i) [
-          | inl k ↦ below_asymm rank_cmp_total a b lower
+          | inl k ↦ is_lt-asymm rank_cmp-IsTotalOrder a b lower
               (AllPairs-slice_get RanksBelow order rising j i b a k p q)
           | inr k ↦
               let e : j ≡ i = omega arith in
               let same : a ≡ b = cc in
-              below_irrefl rank_cmp_total a (subst (RanksBelow a) (sym same) lower)
+              is_lt-irrefl rank_cmp-IsTotalOrder a (subst (RanksBelow a) (sym same) lower)
         ]
 
 -- a lower depth is a lower rank; at the same depth and leader, a lower sequence number is a lower
@@ -66,7 +66,7 @@ lower_by_sequence a b d l lower =
     let depth : nat_cmp a.depth b.depth ≡ Equal =
     ap (nat_cmp a.depth) (sym d) ∙ tied_itself nat_cmp_total a.depth in
     let leader : id_cmp a.leader b.leader ≡ Equal =
-    ap (id_cmp a.leader) (sym l) ∙ tied_itself id_cmp_total a.leader in
+    ap (id_cmp a.leader) (sym l) ∙ tied_itself id_cmp-IsTotalOrder a.leader in
     ap (λ r. is_lt
     (ordering_then r (ordering_then (id_cmp a.leader b.leader)
     (ordering_then (nat_cmp a.seq b.seq) (id_cmp a.id b.id))))) depth
@@ -106,7 +106,8 @@ module _ (m : List Instance) where
   pub IsExecutionOrder-unique : (order other : List Ranked) → IsExecutionOrder m order
       → IsExecutionOrder m other → order ≡ other
   IsExecutionOrder-unique order other p q =
-      same_rising RanksBelow (below_irrefl rank_cmp_total) (below_trans rank_cmp_total) order other
+      AllPairs-is_unique RanksBelow (is_lt-irrefl rank_cmp-IsTotalOrder)
+      (is_lt-trans rank_cmp-IsTotalOrder) order other
       p.rising q.rising
       (IsExecutionOrder-contains order other p q) (IsExecutionOrder-contains other order q p)
 
@@ -128,7 +129,7 @@ module _ (m : List Instance) where
       let same = IsRanked-unique a.0 b.0 (h.ranked a.0 (Contains-slice_get order i a.0 a.1))
       (h.ranked b.0 (Contains-slice_get order j b.0 b.1)) (a.2 ∙ e ∙ sym b.2) in
       let lower = AllPairs-slice_get RanksBelow order h.rising i j a.0 b.0 l a.1 b.1 in
-      below_irrefl rank_cmp_total a.0 (subst (RanksBelow a.0) (sym same) lower))
+      is_lt-irrefl rank_cmp-IsTotalOrder a.0 (subst (RanksBelow a.0) (sym same) lower))
 
   -- an Id comes after those that it reaches and that do not reach it
   pub IsExecutionOrder-after_reached : (order : List Ranked) → IsExecutionOrder m order

@@ -15,13 +15,13 @@ use Rattle.epx_types.specs.Execution.{execute}
 use Rattle.epx_types.specs.Reaching.{Reaches}
 use Rattle.epx_types.specs.Readiness.{IsReady}
 use Rattle.epx_types.specs.LawfulOrders.{Before, IsLawful}
-use Rattle.epx_types.proofs.committed.AgreementLemmas.{instance_of_iff}
+use Rattle.epx_types.proofs.committed.AgreementLemmas.{instance_of-iff_contains}
 use Rattle.epx_types.proofs.commands.ExecutionLemmas.{length-replies}
 use Rattle.epx_types.proofs.orders.LawfulOrderLemmas.{Before-in_first, Before-in_second}
 use Rattle.epx_types.proofs.orders.LawfulOrderLemmas.{Before-alike_reaching, Before-alike_reached}
 use Rattle.epx_types.proofs.lists.MembershipLemmas.{map-agree}
 use Rattle.epx_types.proofs.lists.ListPositionLemmas.{slice_get-map}
-use Rattle.epx_types.proofs.levels.LevelOrderLemmas.{no_conflict_past_end}
+use Rattle.epx_types.proofs.levels.LevelOrderLemmas.{Conflict-not_past_end}
 use Rattle.epx_types.proofs.commands.ConflictLemmas.{Conflict-symm}
 use Rattle.epx_types.proofs.commands.RearrangedListLemmas.{Once, IsRearranged, ExecutesAlike}
 use Rattle.epx_types.proofs.commands.RearrangedListLemmas.{execute-rearranged}
@@ -53,13 +53,13 @@ with_value_at-other {Y} x y v f not =
       by d = elim d [ inl same ↦ v | inr other ↦ f y ]
 
 -- the replies to a list without repeats, as a function of its elements
-pub reply_function : (ids : List Id) (replies : List Reply) → Once ids → length replies ≡ length ids
+pub map-of_replies : (ids : List Id) (replies : List Reply) → Once ids → length replies ≡ length ids
     → (f : Id → Reply) × (replies ≡ map f ids)
-reply_function [] [] once len = (λ x. Abort 0, refl)
-reply_function [] (r ∷ replies) once len = absurd (omega (arith, len))
-reply_function (x ∷ ids) [] once len = absurd (omega (arith, len))
-reply_function (x ∷ ids) (r ∷ replies) once len =
-    let rest = reply_function ids replies once.1 (omega (arith, len)) in
+map-of_replies [] [] once len = (λ x. Abort 0, refl)
+map-of_replies [] (r ∷ replies) once len = absurd (omega (arith, len))
+map-of_replies (x ∷ ids) [] once len = absurd (omega (arith, len))
+map-of_replies (x ∷ ids) (r ∷ replies) once len =
+    let rest = map-of_replies ids replies once.1 (omega (arith, len)) in
     let same_rest : map rest.0 ids ≡ map (with_value_at x r rest.0) ids =
     map-agree rest.0 (with_value_at x r rest.0) ids
     (λ y h. sym (with_value_at-other x y r rest.0
@@ -74,11 +74,11 @@ module _ (m : List Instance) (rising : IsRising (ids_of m)) (covered : IsCovered
   -- an instance that conflicts with another is committed
   found : (x : Id) (a : List Op) → Conflict a (ops_or_empty (instance_of m x))
       → (e : Instance) × Contains m e × (e.id ≡ x) × (ops_or_empty (instance_of m x) ≡ e.ops)
-  found x a = by (instance_of m x) (λ e is. (instance_of_iff m rising x e).0 is) where
+  found x a = by (instance_of m x) (λ e is. (instance_of-iff_contains m rising x e).0 is) where
     by : (o : Option Instance) → ((e : Instance) → o ≡ Some e → Contains m e × (e.id ≡ x))
         → Conflict a (ops_or_empty o) → (e : Instance) × Contains m e × (e.id ≡ x)
         × (ops_or_empty o ≡ e.ops)
-    by None finds conflict = absurd (no_conflict_past_end a conflict)
+    by None finds conflict = absurd (Conflict-not_past_end a conflict)
     by (Some e) finds conflict = (e, (finds e refl).0, (finds e refl).1, refl)
 
   -- instances that conflict come in the same order in both
@@ -116,7 +116,7 @@ module _ (m : List Instance) (rising : IsRising (ids_of m)) (covered : IsCovered
 
   module _ (c : Contents) where
     replies_of : (f : Id → Reply) × ((execute (commands_in m ids) c).replies ≡ map f ids)
-    replies_of = reply_function ids (execute (commands_in m ids) c).replies
+    replies_of = map-of_replies ids (execute (commands_in m ids) c).replies
         (Once-from_AllPairs ids lawful.once)
         (length-replies (commands_in m ids) c ∙ length-map ids
         (λ x. ops_or_empty (instance_of m x)))

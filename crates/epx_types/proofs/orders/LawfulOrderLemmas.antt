@@ -15,29 +15,30 @@ use Rattle.epx_types.specs.LawfulOrders.{Before, SequenceBefore, IsLawful}
 use Rattle.epx_types.proofs.lists.MembershipLemmas.{Contains-from_map}
 use Rattle.epx_types.proofs.lists.ListPositionLemmas.{Contains-slice_get, slice_get-from_Contains}
 use Rattle.epx_types.proofs.lists.ListPositionLemmas.{AllPairs-slice_get}
-use Rattle.epx_types.proofs.lists.TotalOrderLemmas.{below_cases}
-use Rattle.epx_types.proofs.lists.ComparisonLemmas.{id_cmp_total, id_cmp-IsAntisymmetric}
-use Rattle.epx_types.proofs.lists.ComparisonLemmas.{first_is_equal, second_is_equal}
+use Rattle.epx_types.proofs.lists.TotalOrderLemmas.{is_lt-cases}
+use Rattle.epx_types.proofs.lists.ComparisonLemmas.{id_cmp-IsTotalOrder, id_cmp-IsAntisymmetric}
+use Rattle.epx_types.proofs.lists.ComparisonLemmas.{ordering_then-first_equal}
+use Rattle.epx_types.proofs.lists.ComparisonLemmas.{ordering_then-second_equal}
 
 -- by sequence number, then by Id
 abbrev sequence_cmp : ℕ × Id → ℕ × Id → Ordering
 sequence_cmp a b = ordering_then (nat_cmp a.0 b.0) (id_cmp a.1 b.1)
 
-pub sequence_cmp_total : IsTotalOrder sequence_cmp
-sequence_cmp_total = then_total (on_total (λ (a : ℕ × Id). a.0) nat_cmp_total)
-    (on_total (λ (a : ℕ × Id). a.1) id_cmp_total)
+pub sequence_cmp-IsTotalOrder : IsTotalOrder sequence_cmp
+sequence_cmp-IsTotalOrder = then_total (on_total (λ (a : ℕ × Id). a.0) nat_cmp_total)
+    (on_total (λ (a : ℕ × Id). a.1) id_cmp-IsTotalOrder)
 
 sequence_cmp-IsAntisymmetric : IsAntisymmetric sequence_cmp
 sequence_cmp-IsAntisymmetric a b e =
-    let seq = nat_cmp-IsAntisymmetric a.0 b.0 (first_is_equal _ _ e) in
-    let id = id_cmp-IsAntisymmetric a.1 b.1 (second_is_equal _ _ e) in
+    let seq = nat_cmp-IsAntisymmetric a.0 b.0 (ordering_then-first_equal _ _ e) in
+    let id = id_cmp-IsAntisymmetric a.1 b.1 (ordering_then-second_equal _ _ e) in
     λ i. (seq i, id i)
 
 module _ (ids : List Id) (once : AllPairs (λ x y. x ≢ y) ids) where
   -- in a list without repeats, two positions of one Id are equal
-  pub same_position : (i j : ℕ) (x : Id) → slice_get ids i ≡ Some x → slice_get ids j ≡ Some x
+  pub slice_get-is_unique : (i j : ℕ) (x : Id) → slice_get ids i ≡ Some x → slice_get ids j ≡ Some x
       → i ≡ j
-  same_position i j x p q =
+  slice_get-is_unique i j x p q =
       elim (cases_lt i j) [
         | inl l ↦ absurd (AllPairs-slice_get (λ v w. v ≢ w) ids once i j x x l p q refl)
         | inr k ↦ elim (cases_lt j i) [
@@ -49,8 +50,8 @@ module _ (ids : List Id) (once : AllPairs (λ x y. x ≢ y) ids) where
   -- no two Ids of a list without repeats are each before the other
   pub Before-not_both : (x y : Id) → Before ids x y → ¬ Before ids y x
   Before-not_both x y (i, j, l, p, q) (k, n, l', p', q') =
-      let first = same_position i n x p q' in
-      let second = same_position j k y q p' in
+      let first = slice_get-is_unique i n x p q' in
+      let second = slice_get-is_unique j k y q p' in
       omega arith
 
 -- of two different Ids of a list, one is before the other
@@ -89,7 +90,8 @@ module _ (m : List Instance) (ids : List Id) (lawful : IsLawful m ids) where
   SequenceBefore-cases x y in_x in_y differ =
       let d = Contains-from_map (λ (e : Instance). e.id) m x (lawful.only x in_x).committed in
       let e = Contains-from_map (λ (e : Instance). e.id) m y (lawful.only y in_y).committed in
-      elim (below_cases sequence_cmp_total sequence_cmp-IsAntisymmetric (d.0.seq, x) (e.0.seq, y)) [
+      elim (is_lt-cases sequence_cmp-IsTotalOrder sequence_cmp-IsAntisymmetric (d.0.seq, x)
+      (e.0.seq, y)) [
         | inl l ↦ inl (before d e l)
         | inr (inl same) ↦ absurd (differ (ap (λ (a : ℕ × Id). a.1) same))
         | inr (inr l) ↦ inr (before e d l)

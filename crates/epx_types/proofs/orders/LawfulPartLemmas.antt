@@ -13,7 +13,7 @@ use Rattle.epx_types.specs.Done.{is_among, remaining_ids}
 use Rattle.epx_types.specs.LawfulOrders.{Before, SequenceBefore, IsLawfulFor, IsLawful}
 use Rattle.epx_types.proofs.lists.MembershipLemmas.{Contains-filter, Contains-from_filter}
 use Rattle.epx_types.proofs.lists.ListPositionLemmas.{AllPairs-append}
-use Rattle.epx_types.proofs.remaining.RemainingLemmas.{is_among_cases}
+use Rattle.epx_types.proofs.remaining.RemainingLemmas.{is_among-cases}
 use Rattle.epx_types.proofs.lists.BeforeLemmas.{Before-append_left, Before-append_right}
 use Rattle.epx_types.proofs.lists.BeforeLemmas.{Before-across, Before-filter}
 
@@ -90,18 +90,18 @@ module _ (m : List Instance) where
     }
 
 module _ (part whole : List Id) where
-  pub not_in_part : (x : Id) → Contains (remaining_ids part whole) x → ¬ Contains part x
-  not_in_part x h k =
+  pub remaining_ids-apart : (x : Id) → Contains (remaining_ids part whole) x → ¬ Contains part x
+  remaining_ids-apart x h k =
       let passes = All-contains (λ y. not (is_among part y) ≡ true) (remaining_ids part whole) x
       (filter_passes (λ y. not (is_among part y)) whole) h in
-      elim (is_among_cases part x) [
+      elim (is_among-cases part x) [
         | inl found ↦ let e : not (is_among part x) ≡ false =
             ap not found.0 in absurd (cc (e, passes))
         | inr missed ↦ missed.1 k
       ]
 
-  pub passes_rest : (x : Id) → ¬ Contains part x → not (is_among part x) ≡ true
-  passes_rest x none = elim (is_among_cases part x)
+  pub is_among-passes_rest : (x : Id) → ¬ Contains part x → not (is_among part x) ≡ true
+  is_among-passes_rest x none = elim (is_among-cases part x)
       [ inl found ↦ absurd (none found.1) | inr missed ↦ ap not missed.0 ]
 
 module _ (m : List Instance) (Member : Id → Type 0) (ready : (x : Id) → Member x → IsReady m x)
@@ -117,13 +117,13 @@ module _ (m : List Instance) (Member : Id → Type 0) (ready : (x : Id) → Memb
   rest_after_reached : (x y : Id) → Contains (remaining_ids part whole) x → Reaches m x y
       → ¬ Reaches m y x → Member y ⊎ Before (remaining_ids part whole) y x
   rest_after_reached x y h there not_back =
-      elim (is_among_cases part y) [
+      elim (is_among-cases part y) [
         | inl found ↦ inl (lawful.only y found.1)
         | inr missed ↦ inr
             (Before-filter (λ z. not (is_among part z)) whole y x
             (lawful'.after_reached x y (in_whole x h) there not_back)
-            (passes_rest part whole y missed.1)
-            (passes_rest part whole x (not_in_part part whole x h)))
+            (is_among-passes_rest part whole y missed.1)
+            (is_among-passes_rest part whole x (remaining_ids-apart part whole x h)))
       ]
 
   rest_by_sequence : (x y : Id) → Contains (remaining_ids part whole) x
@@ -132,15 +132,15 @@ module _ (m : List Instance) (Member : Id → Type 0) (ready : (x : Id) → Memb
   rest_by_sequence x y h k one lower =
       Before-filter (λ z. not (is_among part z)) whole x y
       (lawful'.by_sequence x y (in_whole x h) (in_whole y k) one lower)
-      (passes_rest part whole x (not_in_part part whole x h))
-      (passes_rest part whole y (not_in_part part whole y k))
+      (is_among-passes_rest part whole x (remaining_ids-apart part whole x h))
+      (is_among-passes_rest part whole y (remaining_ids-apart part whole y k))
 
   rest_lawful : IsLawfulAfter m Member IsLeft (remaining_ids part whole)
   rest_lawful = record {
     once = AllPairs-filter (λ x y. x ≢ y) (λ x. not (is_among part x)) whole lawful'.once;
-    only = λ x h. (lawful'.only x (in_whole x h), not_in_part part whole x h);
+    only = λ x h. (lawful'.only x (in_whole x h), remaining_ids-apart part whole x h);
     whole = λ x h. Contains-filter (λ y. not (is_among part y)) whole x (lawful'.whole x h.0)
-        (passes_rest part whole x h.1);
+        (is_among-passes_rest part whole x h.1);
     apart = λ x h member. h.1 (lawful.whole x member);
     after_reached = rest_after_reached;
     by_sequence = rest_by_sequence;
@@ -152,7 +152,7 @@ module _ (m : List Instance) (Member : Id → Type 0) (ready : (x : Id) → Memb
   IsLawful-part_and_rest =
       IsLawfulFor-same m (λ x. Member x ⊎ IsLeft x) (IsReady m) (part ++ remaining_ids part whole)
       (λ x h. elim h [ inl member ↦ ready x member | inr left ↦ left.0 ])
-      (λ x h. elim (is_among_cases part x) [
+      (λ x h. elim (is_among-cases part x) [
         | inl found ↦ inl (lawful.only x found.1)
         | inr missed ↦ inr (h, missed.1)
       ])

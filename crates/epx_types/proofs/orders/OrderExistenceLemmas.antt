@@ -11,11 +11,11 @@ use Rattle.epx_types.specs.WaitingLists.{Waiting, waiting_ids, IsWaitingList}
 use Rattle.epx_types.proofs.lists.MembershipLemmas.{Contains-nil, Contains-head, Contains-cons}
 use Rattle.epx_types.proofs.lists.MembershipLemmas.{Contains-cons_cases, Contains-map}
 use Rattle.epx_types.proofs.lists.MembershipLemmas.{Contains-from_map}
-use Rattle.epx_types.proofs.lists.ComparisonLemmas.{rank_cmp_total, rank_cmp-IsAntisymmetric}
+use Rattle.epx_types.proofs.lists.ComparisonLemmas.{rank_cmp-IsTotalOrder, rank_cmp-IsAntisymmetric}
 use Rattle.epx_types.proofs.graph.DependencyLemmas.{IsCommitted-from_Contains}
 use Rattle.epx_types.proofs.graph.ReachingLemmas.{IsReady-not_waiting, WaitsFor-unique}
-use Rattle.epx_types.proofs.lists.RisingListLemmas.{insert_rising}
-use Rattle.epx_types.proofs.orders.RankExistenceLemmas.{ready_or_waits, rank_exists}
+use Rattle.epx_types.proofs.lists.RisingListLemmas.{IsWith-exists}
+use Rattle.epx_types.proofs.orders.RankExistenceLemmas.{IsReady-or_waits, IsRanked-exists}
 
 module _ (m : List Instance) (ids_rise : IsRising (ids_of m)) where
   -- ---- the execution order
@@ -29,7 +29,8 @@ module _ (m : List Instance) (ids_rise : IsRising (ids_of m)) where
   with_rank : (e : Instance) (es : List Instance) (r : Ranked) → IsRanked m r → r.id ≡ e.id
       → (order : List Ranked) → IsOrderOf es order → (now : List Ranked) × IsOrderOf (e ∷ es) now
   with_rank e es r is same order rest =
-      let put = insert_rising rank_cmp_total rank_cmp-IsAntisymmetric r order rest.rising in (
+      let put =
+      IsWith-exists rank_cmp-IsTotalOrder rank_cmp-IsAntisymmetric r order rest.rising in (
         put.0,
         record {
           rising = put.1.rising;
@@ -75,8 +76,8 @@ module _ (m : List Instance) (ids_rise : IsRising (ids_of m)) where
   order_of (e ∷ es) within =
       let rest = order_of es (λ d h. within d (Contains-cons e es d h)) in
       let in_e = within e (Contains-head e es) in
-      elim (ready_or_waits m e.id (IsCommitted-from_Contains m e in_e)) [
-        | inl ready ↦ let r = rank_exists m ids_rise e in_e ready in
+      elim (IsReady-or_waits m e.id (IsCommitted-from_Contains m e in_e)) [
+        | inl ready ↦ let r = IsRanked-exists m ids_rise e in_e ready in
             with_rank e es r.0 r.1 r.2 rest.0 rest.1
         | inr waits ↦ (
           rest.0,
@@ -85,8 +86,8 @@ module _ (m : List Instance) (ids_rise : IsRising (ids_of m)) where
         )
       ]
 
-  pub execution_order_exists : (order : List Ranked) × IsExecutionOrder m order
-  execution_order_exists =
+  pub IsExecutionOrder-exists : (order : List Ranked) × IsExecutionOrder m order
+  IsExecutionOrder-exists =
       let found = order_of m (λ e h. h) in (
         found.0,
         record {
@@ -157,7 +158,7 @@ module _ (m : List Instance) (ids_rise : IsRising (ids_of m)) where
   )
   waiting_of (x ∷ ids) up within =
       let rest = waiting_of ids up.1 (λ y h. within y (Contains-cons x ids y h)) in
-      elim (ready_or_waits m x (within x (Contains-head x ids))) [
+      elim (IsReady-or_waits m x (within x (Contains-head x ids))) [
         | inl ready ↦ (rest.0, without_waiting x ids ready rest.0 rest.1)
         | inr waits ↦ (
           record { id = x; missing = waits.0 } ∷ rest.0,
@@ -165,8 +166,8 @@ module _ (m : List Instance) (ids_rise : IsRising (ids_of m)) where
         )
       ]
 
-  pub waiting_list_exists : (ws : List Waiting) × IsWaitingList m ws
-  waiting_list_exists =
+  pub IsWaitingList-exists : (ws : List Waiting) × IsWaitingList m ws
+  IsWaitingList-exists =
       let found = waiting_of (ids_of m) ids_rise (λ x h. h) in (
         found.0,
         record {

@@ -15,8 +15,9 @@ use Rattle.epx_types.proofs.committed.AgreementLemmas.{IsRising-same}
 use Rattle.epx_types.proofs.graph.ReachingLemmas.{Reaches-refl, Reaches-trans, InOneComponent-refl}
 use Rattle.epx_types.proofs.graph.ReachingLemmas.{Descends-length}
 use Rattle.epx_types.proofs.graph.WaitingLemmas.{Contains-Id_cases}
-use Rattle.epx_types.proofs.lists.SearchLemmas.{some_or_none, greatest_up_to, least_or_none}
-use Rattle.epx_types.proofs.graph.ReachingDecisionLemmas.{both_cases, not_cases, Reaches-cases}
+use Rattle.epx_types.proofs.lists.SearchLemmas.{Contains-some_or_none, greatest-exists}
+use Rattle.epx_types.proofs.lists.SearchLemmas.{IsLeastOf-or_none}
+use Rattle.epx_types.proofs.graph.ReachingDecisionLemmas.{both-cases, negation-cases, Reaches-cases}
 use Rattle.epx_types.proofs.graph.ReachingDecisionLemmas.{InOneComponent-cases, within_reach}
 use Rattle.epx_types.proofs.graph.ReachingDecisionLemmas.{Contains-within_reach, Reaches-committed}
 
@@ -43,9 +44,9 @@ indicator-less (inr none) (inr none'') none' here = absurd (none'' here)
 module _ (m : List Instance) where
   -- ---- leaders
 
-  pub leader_exists : (x : Id) → (leader : Id) × IsLeader m x leader
-  leader_exists x =
-      elim (least_or_none (InOneComponent m x) (InOneComponent-cases m x) (within_reach m x)) [
+  pub IsLeader-exists : (x : Id) → (leader : Id) × IsLeader m x leader
+  IsLeader-exists x =
+      elim (IsLeastOf-or_none (InOneComponent m x) (InOneComponent-cases m x) (within_reach m x)) [
         | inl found ↦ (
           found.0,
           record {
@@ -63,10 +64,10 @@ module _ (m : List Instance) where
   IsCommitted-cases x = Contains-Id_cases (ids_of m) x
 
   -- a committed instance is ready, or waits for another
-  pub ready_or_waits : (x : Id) → IsCommitted m x → IsReady m x ⊎ ((y : Id) × WaitsFor m x y)
-  ready_or_waits x committed =
-      elim (least_or_none (λ y. Reaches m x y × (¬ IsCommitted m y))
-      (λ y. both_cases (Reaches-cases m x y) (not_cases (IsCommitted-cases y)))
+  pub IsReady-or_waits : (x : Id) → IsCommitted m x → IsReady m x ⊎ ((y : Id) × WaitsFor m x y)
+  IsReady-or_waits x committed =
+      elim (IsLeastOf-or_none (λ y. Reaches m x y × (¬ IsCommitted m y))
+      (λ y. both-cases (Reaches-cases m x y) (negation-cases (IsCommitted-cases y)))
       (within_reach m x)) [
         | inl found ↦ inr (
           found.0,
@@ -138,8 +139,8 @@ module _ (m : List Instance) where
   HasDescent-cases : (k : ℕ) (x : Id) → HasDescent x k ⊎ (¬ HasDescent x k)
   HasDescent-cases zero x = inl ([], tt, refl)
   HasDescent-cases (suc k) x =
-      elim (some_or_none (DescendsVia x k)
-      (λ y. both_cases (both_cases (Reaches-cases m x y) (not_cases (Reaches-cases m y x)))
+      elim (Contains-some_or_none (DescendsVia x k)
+      (λ y. both-cases (both-cases (Reaches-cases m x y) (negation-cases (Reaches-cases m y x)))
       (HasDescent-cases k y)) (within_reach m x)) [
         | inl found ↦ inl (
           found.0 ∷ found.2.1.0,
@@ -155,10 +156,10 @@ module _ (m : List Instance) where
       not_longer none (y ∷ ys) d e =
           none y (Contains-within_reach m x y d.0) ((d.0, d.1), (ys, d.2, omega arith))
 
-  pub depth_exists : (x : Id) → (k : ℕ) × IsDepth m x k
-  depth_exists x =
+  pub IsDepth-exists : (x : Id) → (k : ℕ) × IsDepth m x k
+  IsDepth-exists x =
       let most = reach_count (ids_of m) in
-      let found = greatest_up_to (HasDescent x) (λ k. HasDescent-cases k x) ([], tt, refl)
+      let found = greatest-exists (HasDescent x) (λ k. HasDescent-cases k x) ([], tt, refl)
       (most x) in (
         found.0,
         record {
@@ -171,11 +172,11 @@ module _ (m : List Instance) where
   -- ---- ranks
 
   -- the rank of a ready instance
-  pub rank_exists : IsRising (ids_of m) → (e : Instance) → Contains m e → IsReady m e.id
+  pub IsRanked-exists : IsRising (ids_of m) → (e : Instance) → Contains m e → IsReady m e.id
       → (r : Ranked) × IsRanked m r × (r.id ≡ e.id)
-  rank_exists rising e in_e ready =
-      let leader = leader_exists e.id in
-      let depth = depth_exists e.id in (
+  IsRanked-exists rising e in_e ready =
+      let leader = IsLeader-exists e.id in
+      let depth = IsDepth-exists e.id in (
         record { id = e.id; seq = e.seq; leader = leader.0; depth = depth.0 },
         record {
           ready = ready;

@@ -10,7 +10,7 @@ use Rattle.epx_types.specs.Instances.{Instance}
 use Rattle.epx_types.specs.CommittedMap.{instance_of, ops_or_empty, commands_in}
 use Rattle.epx_types.specs.Done.{remaining}
 use Rattle.epx_types.proofs.lists.ComparisonLemmas.{id_cmp-IsAntisymmetric}
-use Rattle.epx_types.proofs.remaining.RemainingLemmas.{is_among_cases}
+use Rattle.epx_types.proofs.remaining.RemainingLemmas.{is_among-cases}
 use Rattle.epx_types.proofs.lists.MembershipLemmas.{Contains-head, Contains-cons}
 
 module _ (done : List Id) where
@@ -18,7 +18,7 @@ module _ (done : List Id) where
   pub length-remaining : (m : List Instance) → length (remaining done m) ≤ length m
   length-remaining [] = omega arith
   length-remaining (e ∷ m) =
-      elim (is_among_cases done e.id) [
+      elim (is_among-cases done e.id) [
         | inl among ↦ rw among.0 (omega (arith, length-remaining m))
         | inr other ↦ rw other.0 (omega (arith, length-remaining m))
       ]
@@ -30,11 +30,11 @@ module _ (done : List Id) where
       elim (cases_Bool (is_eq (id_cmp e.id x))) [
         | inl found ↦
             let same = id_cmp-IsAntisymmetric e.id x ((Equal-is (id_cmp e.id x)).0 found) in
-            elim (is_among_cases done e.id) [
+            elim (is_among-cases done e.id) [
               | inl among ↦ absurd (left (subst (Contains done) same among.1))
               | inr other ↦ rw other.0 (rw found refl)
             ]
-        | inr missed ↦ elim (is_among_cases done e.id) [
+        | inr missed ↦ elim (is_among-cases done e.id) [
           | inl among ↦ rw among.0 (rw missed (ops_or_empty-left m x left))
           | inr other ↦ rw other.0 (rw missed (ops_or_empty-left m x left))
         ]

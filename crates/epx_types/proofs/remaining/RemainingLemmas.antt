@@ -16,7 +16,7 @@ use Rattle.epx_types.proofs.lists.MembershipLemmas.{Contains-nil, Contains-head,
 use Rattle.epx_types.proofs.lists.MembershipLemmas.{Contains-cons_cases, Contains-map}
 use Rattle.epx_types.proofs.lists.MembershipLemmas.{Contains-from_map, Contains-filter}
 use Rattle.epx_types.proofs.lists.MembershipLemmas.{Contains-from_filter}
-use Rattle.epx_types.proofs.lists.ComparisonLemmas.{id_cmp_total, id_cmp-IsAntisymmetric}
+use Rattle.epx_types.proofs.lists.ComparisonLemmas.{id_cmp-IsTotalOrder, id_cmp-IsAntisymmetric}
 
 all_kept : {X : Type 0} (xs : List X) → filter (λ x. not false) xs ≡ xs
 all_kept [] = refl
@@ -31,9 +31,9 @@ remaining-nil (e ∷ m) =
     λ i. record e { deps = deps i } ∷ rest i
 
 -- the test whether an Id is done, with its meaning
-pub is_among_cases : (done : List Id) (x : Id)
+pub is_among-cases : (done : List Id) (x : Id)
     → (is_among done x ≡ true) × Contains done x ⊎ (is_among done x ≡ false) × (¬ Contains done x)
-is_among_cases done x =
+is_among-cases done x =
     elim (cases_Bool (is_among done x)) [
       | inl found ↦ inl (
         found,
@@ -43,7 +43,8 @@ is_among_cases done x =
       | inr missed ↦ inr (
         missed,
         λ h. let found : is_among done x ≡ true =
-            list_any-from_Contains {eq = eq_by_cmp id_cmp} (eq_by_cmp_equiv id_cmp_total) x done
+            list_any-from_Contains {eq = eq_by_cmp id_cmp} (eq_by_cmp_equiv id_cmp-IsTotalOrder) x
+            done
             h in
             absurd (cc (found, missed)),
       )
@@ -54,7 +55,7 @@ module _ (done : List Id) where
       → Contains (ids_of (remaining done m)) x
   Contains-remaining [] x h left = h
   Contains-remaining (e ∷ m) x h left =
-      elim (is_among_cases done e.id) [
+      elim (is_among-cases done e.id) [
         | inl among ↦ rw among.0 (elim (Contains-cons_cases e.id (ids_of m) x h) [
           | inl same ↦ absurd (left (subst (Contains done) same among.1))
           | inr rest ↦ Contains-remaining m x rest left
@@ -71,7 +72,7 @@ module _ (done : List Id) where
       → Contains (ids_of m) x × (¬ Contains done x)
   Contains-from_remaining [] x h = absurd (Contains-nil x h)
   Contains-from_remaining (e ∷ m) x h =
-      elim (is_among_cases done e.id) [
+      elim (is_among-cases done e.id) [
         | inl among ↦ let rest = Contains-from_remaining m x (rw among.0 at h) in
             (Contains-cons e.id (ids_of m) x rest.0, rest.1)
         | inr other ↦ elim (Contains-cons_cases e.id (ids_of (remaining done m)) x
@@ -94,7 +95,7 @@ module _ (done : List Id) where
       → BelowAll x (ids_of (remaining done m))
   BelowAll-remaining x [] h = tt
   BelowAll-remaining x (e ∷ m) h =
-      elim (is_among_cases done e.id) [
+      elim (is_among-cases done e.id) [
         | inl among ↦ rw among.0 (BelowAll-remaining x m h.1)
         | inr other ↦ rw other.0 (h.0, BelowAll-remaining x m h.1)
       ]
@@ -104,7 +105,7 @@ module _ (done : List Id) where
       → IsRising (ids_of (remaining done m))
   IsRising-remaining [] h = tt
   IsRising-remaining (e ∷ m) h =
-      elim (is_among_cases done e.id) [
+      elim (is_among-cases done e.id) [
         | inl among ↦ rw among.0 (IsRising-remaining m h.1)
         | inr other ↦ rw other.0 (BelowAll-remaining e.id m h.0, IsRising-remaining m h.1)
       ]
@@ -112,9 +113,9 @@ module _ (done : List Id) where
   -- ---- dependencies in the remaining map
 
   -- a remaining instance is an instance of the map that is not done, without its done dependencies
-  pub from_remaining : (m : List Instance) (e : Instance) → Contains (remaining done m) e
+  pub remaining-from_map : (m : List Instance) (e : Instance) → Contains (remaining done m) e
       → (d : Instance) × Contains m d × (is_among done d.id ≡ false) × (without_deps done d ≡ e)
-  from_remaining m e h =
+  remaining-from_map m e h =
       let d = Contains-from_map (without_deps done) (filter (λ i. not (is_among done i.id)) m) e
       h in
       let kept = All-contains (λ i. not (is_among done i.id) ≡ true)
@@ -126,12 +127,12 @@ module _ (done : List Id) where
         d.2,
       )
 
-  pub not_done : (x : Id) → is_among done x ≡ false → ¬ Contains done x
-  not_done x e = elim (is_among_cases done x)
+  pub is_among-excludes : (x : Id) → is_among done x ≡ false → ¬ Contains done x
+  is_among-excludes x e = elim (is_among-cases done x)
       [ inl found ↦ absurd (cc (e, found.0)) | inr none ↦ none.1 ]
 
-  pub not_among : (x : Id) → ¬ Contains done x → is_among done x ≡ false
-  not_among x none = elim (is_among_cases done x)
+  pub is_among-false : (x : Id) → ¬ Contains done x → is_among done x ≡ false
+  is_among-false x none = elim (is_among-cases done x)
       [ inl found ↦ absurd (none found.1) | inr missed ↦ missed.0 ]
 
   -- a remaining instance depends on its former dependencies that are not done
@@ -141,7 +142,7 @@ module _ (done : List Id) where
     there : DependsOn (remaining done m) x y → DependsOn m x y × (¬ Contains done x)
         × (¬ Contains done y)
     there (e, in_e, is, listed) =
-        let d = from_remaining m e in_e in
+        let d = remaining-from_map m e in_e in
         let same_id : d.0.id ≡ x = ap (λ i. i.id) d.3 ∙ is in
         let among : Contains (filter (λ z. not (is_among done z)) d.0.deps) y =
         subst (λ (i : Instance). Contains i.deps y) (sym d.3) listed in
@@ -149,19 +150,19 @@ module _ (done : List Id) where
         (filter (λ z. not (is_among done z)) d.0.deps) y
         (filter_passes (λ z. not (is_among done z)) d.0.deps) among in (
           (d.0, d.1, same_id, Contains-from_filter (λ z. not (is_among done z)) d.0.deps y among),
-          not_done x (ap (is_among done) (sym same_id) ∙ d.2),
-          not_done y (not-true (is_among done y) kept),
+          is_among-excludes x (ap (is_among done) (sym same_id) ∙ d.2),
+          is_among-excludes y (not-true (is_among done y) kept),
         )
 
     back : DependsOn m x y × (¬ Contains done x) × (¬ Contains done y)
         → DependsOn (remaining done m) x y
     back ((e, in_e, is, listed), x_left, y_left) =
         let passes : not (is_among done e.id) ≡ true =
-        ap not (ap (is_among done) is ∙ not_among x x_left) in (
+        ap not (ap (is_among done) is ∙ is_among-false x x_left) in (
           without_deps done e,
           Contains-map (without_deps done) (filter (λ i. not (is_among done i.id)) m) e
               (Contains-filter (λ i. not (is_among done i.id)) m e in_e passes),
           is,
           Contains-filter (λ z. not (is_among done z)) e.deps y listed
-              (ap not (not_among y y_left)),
+              (ap not (is_among-false y y_left)),
         )

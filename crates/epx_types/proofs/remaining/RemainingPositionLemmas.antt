@@ -7,7 +7,7 @@ use Rattle.std.proofs.lemmas.Option.{slice_get_within, get_or_from_slice_get}
 use Rattle.epx_types.specs.declared.id.Id.{Id}
 use Rattle.epx_types.specs.Instances.{Instance}
 use Rattle.epx_types.specs.Done.{is_among, without_deps, remaining}
-use Rattle.epx_types.proofs.remaining.RemainingLemmas.{is_among_cases, not_among}
+use Rattle.epx_types.proofs.remaining.RemainingLemmas.{is_among-cases, is_among-false}
 use Rattle.epx_types.proofs.lists.MembershipLemmas.{Contains-filter, Contains-map}
 
 module _ (done : List Id) where
@@ -23,36 +23,37 @@ module _ (done : List Id) where
       ∙ ap (λ (d : Instance). filter p (take i m) ++ cond (p d) (d ∷ []) []) same)
       ∙ map-append (without_deps done) (filter p (take i m)) (cond (p e) (e ∷ []) [])
 
-  pub remaining_skip : (m : List Instance) (i : ℕ) (e : Instance) → slice_get m i ≡ Some e
+  pub remaining-skip : (m : List Instance) (i : ℕ) (e : Instance) → slice_get m i ≡ Some e
       → Contains done e.id → remaining done (take (i + 1) m) ≡ remaining done (take i m)
-  remaining_skip m i e at among =
-      elim (is_among_cases done e.id) [
+  remaining-skip m i e at among =
+      elim (is_among-cases done e.id) [
         | inl found ↦ more m i e at
             ∙ ap (λ b. remaining done (take i m) ++ map (without_deps done)
             (cond (not b) (e ∷ []) [])) found.0 ∙ append-nil (remaining done (take i m))
         | inr other ↦ absurd (other.1 among)
       ]
 
-  pub remaining_more : (m : List Instance) (i : ℕ) (e : Instance) → slice_get m i ≡ Some e
+  pub remaining-more : (m : List Instance) (i : ℕ) (e : Instance) → slice_get m i ≡ Some e
       → ¬ Contains done e.id → remaining done (take (i + 1) m)
       ≡ remaining done (take i m) ++ without_deps done e ∷ []
-  remaining_more m i e at left = more m i e at
+  remaining-more m i e at left = more m i e at
       ∙ ap (λ b. remaining done (take i m) ++ map (without_deps done) (cond (not b) (e ∷ []) []))
-      (not_among done e.id left)
+      (is_among-false done e.id left)
 
   -- the position of a remaining instance is the number of remaining ones before it
-  pub remaining_position : (m : List Instance) (i : ℕ) (e : Instance) → slice_get m i ≡ Some e
+  pub remaining-position : (m : List Instance) (i : ℕ) (e : Instance) → slice_get m i ≡ Some e
       → ¬ Contains done e.id → slice_get (remaining done m) (length (remaining done (take i m)))
       ≡ Some (without_deps done e)
-  remaining_position [] i e at left = absurd (cc at)
-  remaining_position (d ∷ m) zero e at left =
+  remaining-position [] i e at left = absurd (cc at)
+  remaining-position (d ∷ m) zero e at left =
       let same : d ≡ e = cc at in
       let here : is_among done d.id ≡ is_among done e.id =
       ap (λ (x : Instance). is_among done x.id) same in
-      rw (here ∙ not_among done e.id left) (ap (λ (x : Instance). Some (without_deps done x)) same)
-  remaining_position (d ∷ m) (suc i) e at left =
-      let rest = remaining_position m i e at left in
-      elim (is_among_cases done d.id) [
+      rw (here ∙ is_among-false done e.id left)
+      (ap (λ (x : Instance). Some (without_deps done x)) same)
+  remaining-position (d ∷ m) (suc i) e at left =
+      let rest = remaining-position m i e at left in
+      elim (is_among-cases done d.id) [
         | inl found ↦ rw found.0 rest
         | inr other ↦ rw other.0 rest
       ]
@@ -62,4 +63,4 @@ module _ (done : List Id) where
   Contains-left m e in_m left =
       let p = λ (d : Instance). not (is_among done d.id) in
       Contains-map (without_deps done) (filter p m) e
-      (Contains-filter p m e in_m (ap not (not_among done e.id left)))
+      (Contains-filter p m e in_m (ap not (is_among-false done e.id left)))

@@ -4,7 +4,8 @@ use Rattle.std.proofs.Common.{◌≡◌, ◌⊎◌, List, Contains, sym, ap, ◌
 use Rattle.epx_types.specs.declared.id.Id.{Id}
 use Rattle.epx_types.specs.Ids.{IsRising}
 use Rattle.epx_types.specs.Instances.{Instance}
-use Rattle.epx_types.specs.CommittedMap.{ids_of, instance_of, ops_or_empty, commands_in, IsCommitted}
+use Rattle.epx_types.specs.CommittedMap.{ids_of, instance_of, ops_or_empty, commands_in}
+use Rattle.epx_types.specs.CommittedMap.{IsCommitted}
 use Rattle.epx_types.specs.Reaching.{DependsOn, Reaches}
 use Rattle.epx_types.specs.Readiness.{IsReady}
 use Rattle.epx_types.specs.Components.{InOneComponent}
@@ -13,13 +14,13 @@ use Rattle.epx_types.specs.Sound.{HasRemaining}
 use Rattle.epx_types.specs.LawfulOrders.{Before, SequenceBefore, IsLawful}
 use Rattle.epx_types.proofs.lists.MembershipLemmas.{Contains-from_map, map-agree}
 use Rattle.epx_types.proofs.committed.AgreementLemmas.{IsRising-same, instance_of-found}
-use Rattle.epx_types.proofs.committed.AgreementLemmas.{instance_of-finds, instance_of_iff}
+use Rattle.epx_types.proofs.committed.AgreementLemmas.{instance_of-finds, instance_of-iff_contains}
 use Rattle.epx_types.proofs.graph.DependencyLemmas.{IsCommitted-from_Contains}
 use Rattle.epx_types.proofs.graph.ReachingLemmas.{Reaches-refl, Reaches-trans, Reaches-dependency}
 use Rattle.epx_types.proofs.graph.ReachingLemmas.{Reaches-passes, IsReady-reached}
 use Rattle.epx_types.proofs.graph.WaitingLemmas.{Contains-Id_cases}
 use Rattle.epx_types.proofs.remaining.RemainingLemmas.{Contains-remaining_iff, DependsOn-remaining}
-use Rattle.epx_types.proofs.remaining.RemainingLemmas.{from_remaining, not_done}
+use Rattle.epx_types.proofs.remaining.RemainingLemmas.{remaining-from_map, is_among-excludes}
 use Rattle.epx_types.proofs.orders.LawfulPartLemmas.{IsClosed, IsLawfulAfter}
 
 module _ (m other : List Instance) (done : List Id) (rising : IsRising (ids_of m))
@@ -36,8 +37,8 @@ module _ (m other : List Instance) (done : List Id) (rising : IsRising (ids_of m
   of_left : (e : Instance) → Contains left e
       → (d : Instance) × Contains m d × (without_deps done d ≡ e)
   of_left e h =
-      let d = from_remaining done other e h in
-      (d.0, has d.0 d.1 (not_done done d.0.id d.2), d.3)
+      let d = remaining-from_map done other e h in
+      (d.0, has d.0 d.1 (is_among-excludes done d.0.id d.2), d.3)
 
   instance_left : (x : Id) → IsCommitted left x
       → (d : Instance) × Contains m d × (d.id ≡ x) × Contains left (without_deps done d)
@@ -208,7 +209,7 @@ module _ (m other : List Instance) (done : List Id) (rising : IsRising (ids_of m
         let is : d.0.id ≡ x = ap (λ i. i.id) d.2 ∙ known.1 ∙ e.2 in
         ap (λ y. ops_or_empty (instance_of left y)) (sym e.2) ∙ ap ops_or_empty found.1
         ∙ ap (λ i. i.ops) (sym d.2) ∙ ap ops_or_empty
-        (sym ((instance_of_iff m rising x d.0).1 (d.1, is)))
+        (sym ((instance_of-iff_contains m rising x d.0).1 (d.1, is)))
 
     -- its commands are those of the whole map
     pub commands_in-left : commands_in left ids ≡ commands_in m ids

@@ -4,12 +4,12 @@ use Rattle.std.specs.declared.alloc.Global.{Global}
 use Rattle.epx_seed.specs.declared.Seed.{Seed}
 use Rattle.epx_types.specs.declared.fault.Why.{Why}
 use Rattle.epx_lines.specs.declared.Line.{Line}
-use Rattle.epx_merge.specs.LinePieces.{ArePiecesOf}
+use Rattle.epx_merge.specs.between.LinePieces.{ArePiecesOf}
 use Rattle.epx_merge.specs.LogLines.{MeaningAt}
 use Rattle.epx_versions.specs.declared.read_line.ReadLine.{ReadLine}
 use Rattle.epx_versions.specs.declared.version_notes.VersionNotes.{VersionNotes}
-use Rattle.epx_versions.specs.NotedLines.{AreNotedLines}
-use Rattle.epx_versions.specs.ReadMeanings.{AreReadSo}
+use Rattle.epx_versions.specs.between.NotedLines.{AreNotedLines}
+use Rattle.epx_versions.specs.between.ReadMeanings.{AreReadSo}
 
 -- each line of the old cache has its number in the new one
 abbrev pub KeepsNumbers : List (Result Line Why) → List (Result Line Why) → Type 0

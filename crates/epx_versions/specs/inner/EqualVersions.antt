@@ -9,8 +9,8 @@ use Rattle.std.proofs.lemmas.Bool.Decides.{nat_tests}
 use Rattle.epx_types.specs.declared.id.Id.{Id}
 use Rattle.epx_types.specs.Ids.{id_cmp}
 use Rattle.epx_types.specs.Instances.{Instance}
-use Rattle.epx_types.proofs.lists.ComparisonLemmas.{id_cmp_total, id_cmp-IsAntisymmetric}
-use Rattle.epx_types.proofs.commands.EqualityLemmas.{ops_decide}
+use Rattle.epx_types.proofs.lists.ComparisonLemmas.{id_cmp-IsTotalOrder, id_cmp-IsAntisymmetric}
+use Rattle.epx_types.proofs.commands.EqualityLemmas.{op_eq-Decides}
 use Rattle.epx_versions.specs.SameInstances.{same_id, same_seq, same_deps, same_ops, same_instance}
 
 -- the test of an ordering for equality is true of `Equal` alone
@@ -23,7 +23,7 @@ tied Greater h = absurd (cc h)
 pub ids_decide : (x y : Id) → Decides (same_id x y) (x ≡ y)
 ids_decide x y = (
   λ h. id_cmp-IsAntisymmetric x y (tied (id_cmp x y) h),
-  λ e. ap (λ z. is_eq (id_cmp x z)) (sym e) ∙ ap is_eq (tied_itself id_cmp_total x),
+  λ e. ap (λ z. is_eq (id_cmp x z)) (sym e) ∙ ap is_eq (tied_itself id_cmp-IsTotalOrder x),
 )
 
 -- the test of two instances' dependencies is true exactly if they are equal
@@ -32,7 +32,7 @@ deps_decide d e = pointwise_decides ids_decide d.deps e.deps
 
 -- the test of two instances' operations is true exactly if they are equal
 pub commands_decide : (d e : Instance) → Decides (same_ops d e) (d.ops ≡ e.ops)
-commands_decide d e = pointwise_decides ops_decide d.ops e.ops
+commands_decide d e = pointwise_decides op_eq-Decides d.ops e.ops
 
 -- the test of two instances' sequence numbers is true exactly if they are equal
 pub seqs_decide : (d e : Instance) → Decides (same_seq d e) (d.seq ≡ e.seq)

@@ -8,7 +8,7 @@ use Rattle.epx_seed.specs.declared.Seed.{Seed}
 use Rattle.epx_versions.specs.declared.hashed_version.HashedVersion.{HashedVersion}
 use Rattle.epx_versions.specs.inner.EqualVersions.{instances_decide}
 use Rattle.epx_versions.specs.SameInstances.{same_instance}
-use Rattle.epx_versions.specs.VersionLists.{hash_by}
+use Rattle.epx_versions.specs.between.VersionLists.{hash_by}
 
 -- the version has its own hash
 abbrev pub IsHashed : Seed → HashedVersion → Type 0

@@ -3,7 +3,7 @@ use Rattle.std.specs.Prelude.{◌≡◌, ℕ, ◌<◌, ◌≤◌, List, map, Con
 use Rattle.epx_types.specs.Ids.{IsRising}
 use Rattle.epx_graph.specs.Graphs.{DependencyGraph}
 use Rattle.epx_why.specs.declared.need.Need.{Need}
-use Rattle.epx_graph.specs.NodeSteps.{distance_at}
+use Rattle.epx_graph.specs.between.NodeSteps.{distance_at}
 
 -- the instance and the distance of a node
 pub record IsNeedAt (g : DependencyGraph) (distances : List (Option ℕ)) (k : ℕ) (n : Need) : Type

@@ -1,5 +1,5 @@
-use Rattle.epx_answer_laws.proofs.AnswerLemmas.{report_exists}
+use Rattle.epx_answer_laws.proofs.AnswerLemmas.{IsReport-exists}
 use Rattle.epx_answer_laws.proofs.answers.report_exists.Goals as goal
 
 pub returns : goal.returns
-returns c = report_exists
+returns c = IsReport-exists

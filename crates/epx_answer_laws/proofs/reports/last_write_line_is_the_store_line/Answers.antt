@@ -1,5 +1,5 @@
-use Rattle.epx_answer_laws.proofs.TraceLineLemmas.{last_write_line_is_the_store_line}
+use Rattle.epx_answer_laws.proofs.TraceLineLemmas.{LastWriteLineIsTheStoreLine-holds}
 use Rattle.epx_answer_laws.proofs.reports.last_write_line_is_the_store_line.Goals as goal
 
 pub returns : goal.returns
-returns c = last_write_line_is_the_store_line
+returns c = LastWriteLineIsTheStoreLine-holds

@@ -1,5 +1,5 @@
-use Rattle.epx_answer_laws.proofs.TraceReportLemmas.{trace_ends_in_the_store}
+use Rattle.epx_answer_laws.proofs.TraceReportLemmas.{TraceEndsInTheStore-holds}
 use Rattle.epx_answer_laws.proofs.reports.trace_ends_in_the_store.Goals as goal
 
 pub returns : goal.returns
-returns c = trace_ends_in_the_store
+returns c = TraceEndsInTheStore-holds

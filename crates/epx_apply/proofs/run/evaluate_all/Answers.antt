@@ -1,7 +1,7 @@
 use Rattle.std.proofs.Common.{◌≡◌, ◌∙◌, ◌++◌, map, flat_map, refl, sym, ap, rules}
 use Rattle.epx_types.proofs.Common.{map-append, commands_at}
 use Rattle.epx_claims.specs.inner.PieceItems.{items_of_piece}
-use Rattle.epx_claims.proofs.JoinedPieceLemmas.{parts_joined}
+use Rattle.epx_claims.proofs.JoinedPieceLemmas.{flat_map-parts}
 use Rattle.epx_apply.specs.inner.Effects.{op_lists_of, effects_over}
 use Rattle.epx_apply.proofs.LevelEffectLemmas.{effect_at, effects_over-each}
 use Rattle.epx_apply.proofs.run.evaluate_all.Goals as goal
@@ -16,7 +16,7 @@ returns g c =
     c.in_ok-append_parts.ensures
     ∙ ap (λ front. front ++ flat_map (λ part. part.items) c.in_ok-parts.parts.items)
     c.in_ok-effects.ensures.items
-    ∙ parts_joined cut c.pieces-pieces.ensures.fits.some_item (map (effect_at store ops)) refl
+    ∙ flat_map-parts cut c.pieces-pieces.ensures.fits.some_item (map (effect_at store ops)) refl
     (map-append (effect_at store ops)) positions (λ part. part.items) c.in_ok-parts.parts.items
     (done.len ∙ c.pieces-pieces.ensures.pieces)
     (λ i inside.

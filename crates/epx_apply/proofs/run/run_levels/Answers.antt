@@ -2,7 +2,7 @@ use Rattle.std.proofs.Common.{◌<◌, ◌+◌, List, ℕ, length, sym, ap, subs
 use Rattle.epx_types.proofs.Common.{length-map, All-weaker, NoneConflict, AreLevels, commands_at}
 use Rattle.epx_types.proofs.Common.{length-level_positions, level-no_conflict}
 use Rattle.epx_apply.specs.inner.Effects.{op_lists_of}
-use Rattle.epx_apply.proofs.LevelRunLemmas.{members-within, one_level_more, final-at_end}
+use Rattle.epx_apply.proofs.LevelRunLemmas.{members-within, IsRunUpTo-step, final-at_end}
 use Rattle.epx_apply.proofs.LevelRunLemmas.{replies-at_end}
 use Rattle.epx_apply.proofs.run.run_levels.Goals as goal
 
@@ -46,7 +46,7 @@ loop-level-preserved g c =
     let are : AreLevels (op_lists_of c.args.commands.now) c.in-Some.level_map =
     rw c.in-Some.is at c.in_ok-found.ensures in
     rw c.level_map.view_is
-    (one_level_more (op_lists_of c.args.commands.now) c.in-Some.level_map c.args.store
+    (IsRunUpTo-step (op_lists_of c.args.commands.now) c.in-Some.level_map c.args.store
     c.loop-level.level c.members.result.now are c.members.ensures c.loop-level.work.store
     c.loop-level.work.replies.items (rw c.level_map.view_is at c.loop-level.invariant)
     (c.loop-level.level + 1) (omega arith) c.run_level.new.self.replies.items

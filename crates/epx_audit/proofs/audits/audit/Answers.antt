@@ -1,10 +1,11 @@
 use Rattle.std.proofs.Common.{length, sym, subst, ap, ◌∙◌, arith}
 use Rattle.epx_types.proofs.Common.{length-map}
-use Rattle.epx_graph.proofs.Common.{edges_of, committed_count}
+use Rattle.epx_graph.proofs.Common.{edges_of, committed-count}
 use Rattle.epx_audit.specs.inner.NodeConflicts.{keys_of}
-use Rattle.epx_components.specs.ReadyMarks.{AreReadyMarks}
+use Rattle.epx_components.specs.between.ReadyMarks.{AreReadyMarks}
 use Rattle.epx_audit.specs.inner.Sources.{IsLeastPair}
-use Rattle.epx_audit.proofs.UncoveredPairLemmas.{covered_from_settled, least_from_partner}
+use Rattle.epx_audit.proofs.UncoveredPairLemmas.{IsCovered-from_settled}
+use Rattle.epx_audit.proofs.UncoveredPairLemmas.{IsLeastUncovered-from_partner}
 use Rattle.epx_audit.proofs.audits.audit.Goals as goal
 
 pub find_pair-requires-clause-doubtful : goal.find_pair-requires-clause-doubtful
@@ -36,7 +37,7 @@ id-requires-in-Some c =
       pair.1,
       ap length (c.deref-2.ensures.value ∙ c.in_ok-keys.ensures),
       length-map m keys_of,
-      committed_count m c.args.graph.now c.requires.graph,
+      committed-count m c.args.graph.now c.requires.graph,
       c.requires.graph.graph.committed_nodes,
     )
 
@@ -52,7 +53,8 @@ returns-in-Some c =
     rw c.in-Some.is at
     (c.in_ok-node.ensures.least m (c.deref-2.ensures.value ∙ c.in_ok-keys.ensures) hold
     c.in_ok-doubtful.ensures.settled) in
-    least_from_partner m g c.requires.graph ready marks c.in-Some.node c.in-Some.other c.id.result
+    IsLeastUncovered-from_partner m g c.requires.graph ready marks c.in-Some.node c.in-Some.other
+    c.id.result
     c.id-in-Some.result c.id.ensures c.id-in-Some.ensures pair.before pair.partner
 
 pub returns : goal.returns
@@ -66,4 +68,4 @@ returns c =
     let none = rw c.in-None.is at
     (c.in_ok-node.ensures.least m (c.deref-2.ensures.value ∙ c.in_ok-keys.ensures) hold
     c.in_ok-doubtful.ensures.settled) in
-    covered_from_settled m g c.requires.graph ready marks (λ k j l above. none k j above)
+    IsCovered-from_settled m g c.requires.graph ready marks (λ k j l above. none k j above)

@@ -1,10 +1,11 @@
 use Rattle.std.proofs.Common.{◌≡◌, ◌+◌, ◌-◌, ◌*◌, ◌<◌, All, length, length-take}
 use Rattle.std.proofs.Common.{length-drop, take, drop, min, IsTrue, sym, subst, arith, ap}
 use Rattle.epx_graph.proofs.Common.{edges_of}
-use Rattle.epx_components.specs.ReadyMarks.{is_marked}
+use Rattle.epx_components.specs.between.ReadyMarks.{is_marked}
 use Rattle.epx_audit.specs.inner.Sources.{AreSources, AreSettled}
-use Rattle.epx_audit.proofs.SourceLemmas.{part_ready, part_in_range, part_at, settled_below}
-use Rattle.epx_audit.proofs.SourceLemmas.{settled_batch, least_from_first}
+use Rattle.epx_audit.proofs.SourceLemmas.{All-part_ready, All-part_in_range, get_or-take_drop}
+use Rattle.epx_audit.proofs.SourceLemmas.{IsSettled-below}
+use Rattle.epx_audit.proofs.SourceLemmas.{AreSettled-batch, IsLeastPair-from_first}
 use Rattle.epx_audit.proofs.audits.find_pair.Goals as goal
 
 pub find_sources-requires : goal.find_sources-requires
@@ -27,7 +28,7 @@ first_pair-requires-clause-in_range c =
     let n = c.min-end.result - c.min-first.result in
     subst (λ xs. All (λ k. k < length c.args.keys.now) (take n (drop c.min-first.result xs)))
     (sym c.deref-in-loop-number.ensures.value)
-    (part_in_range ready unsettled sources are c.min-first.result n (length c.args.keys.now)
+    (All-part_in_range ready unsettled sources are c.min-first.result n (length c.args.keys.now)
     (omega (arith, c.requires.unsettled)))
 
 pub first_pair-requires-clause-sources : goal.first_pair-requires-clause-sources
@@ -41,7 +42,7 @@ first_pair-requires-clause-sources c =
     let n = c.min-end.result - c.min-first.result in
     subst (λ xs. All (λ k. IsTrue (is_marked ready k)) (take n (drop c.min-first.result xs)))
     (sym c.deref-in-loop-number.ensures.value)
-    (part_ready ready unsettled sources are c.min-first.result n)
+    (All-part_ready ready unsettled sources are c.min-first.result n)
 
 pub returns-in-Some-clause-least : goal.returns-in-Some-clause-least
 returns-in-Some-clause-least c m same hold settled =
@@ -60,7 +61,7 @@ returns-in-Some-clause-least c m same hold settled =
     omega (arith, c.min-first.ensures, c.len.ensures) in
     let before : AreSettled m edges ready sources first =
     subst (AreSettled m edges ready sources) count (c.loop-number.invariant m same hold) in
-    least_from_first m edges ready touches unsettled sources are hold settled first n before
+    IsLeastPair-from_first m edges ready touches unsettled sources are hold settled first n before
     c.in-Some.pair.0 c.in-Some.pair.1 found
 
 pub loop-number-preserved : goal.loop-number-preserved
@@ -79,7 +80,8 @@ loop-number-preserved c m same hold =
     let before : AreSettled m edges ready sources first =
     subst (AreSettled m edges ready sources) count (c.loop-number.invariant m same hold) in
     let done : AreSettled m edges ready sources (first + length part) =
-    settled_batch m edges ready sources part first (length part) (part_at sources first n)
+    AreSettled-batch m edges ready sources part first (length part)
+    (get_or-take_drop sources first n)
     (omega arith) before none in
     let reached : first + length part ≡ min (length sources) ((c.loop-number.number + 1) * 64) =
     omega (
@@ -105,5 +107,6 @@ returns-clause-least c m same hold settled k j above =
     omega (arith, c.loop-number-test.false, c.len.ensures) in
     let done : AreSettled m edges ready sources (length sources) =
     subst (AreSettled m edges ready sources) end (c.loop-number.invariant m same hold) in
-    settled_below m edges ready touches unsettled sources are hold settled (length sources) done k j
+    IsSettled-below m edges ready touches unsettled sources are hold settled (length sources) done k
+    j
     (λ i l is. l) above

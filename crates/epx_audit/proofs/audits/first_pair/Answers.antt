@@ -1,16 +1,16 @@
 use Rattle.std.proofs.Common.{◌≡◌, inl, inr, ℕ, ◌<◌, length, get_or, refl, subst, ap, arith}
 use Rattle.epx_types.proofs.Common.{cases_lt, length-map, slice_get_within}
 use Rattle.epx_graph.proofs.Common.{edges_of}
-use Rattle.epx_components.specs.Partitions.{parts}
+use Rattle.epx_components.specs.between.Partitions.{parts}
 use Rattle.epx_audit.specs.inner.NodeConflicts.{keys_of, IsSettled}
-use Rattle.epx_audit.proofs.BatchLemmas.{batch_whole}
-use Rattle.epx_audit.proofs.PartnerLemmas.{settled_by_rest}
+use Rattle.epx_audit.proofs.BatchLemmas.{IsWhole-batch}
+use Rattle.epx_audit.proofs.PartnerLemmas.{IsSettled-if_related_or_free}
 use Rattle.epx_audit.proofs.audits.first_pair.Goals as goal
 
 pub has_no_candidate-requires : goal.has_no_candidate-requires
 has_no_candidate-requires c =
     record {
-      whole = batch_whole c.args.graph.now (parts c.args.partition.now)
+      whole = IsWhole-batch c.args.graph.now (parts c.args.partition.now)
           c.args.doubtful.now.touches.items c.args.sources.now c.in_ok-batch.batch c.args.ready.now
           c.in_ok-batch.ensures c.requires.partition c.requires.ready;
     }
@@ -33,12 +33,13 @@ returns-then-has_no_candidate-clause-first c m same hold i j within above =
       c.requires.nodes,
       c.requires.ready,
     )) in
-    settled_by_rest m edges ready (get_or sources i 0) touches hold j above rest d e at to k_ready
+    IsSettled-if_related_or_free m edges ready (get_or sources i 0) touches hold j above rest d e at
+    to k_ready
     j_ready conflict
 
 pub first_partner-requires-clause-whole : goal.first_partner-requires-clause-whole
 first_partner-requires-clause-whole c =
-    batch_whole c.args.graph.now (parts c.args.partition.now) c.args.doubtful.now.touches.items
+    IsWhole-batch c.args.graph.now (parts c.args.partition.now) c.args.doubtful.now.touches.items
     c.args.sources.now c.in_ok-batch.batch c.args.ready.now c.in_ok-batch.ensures
     c.requires.partition c.requires.ready
 

@@ -5,8 +5,9 @@ use Rattle.epx_audit.specs.inner.Batches.{IsReadyApart}
 use Rattle.epx_audit.specs.inner.DoubtfulKeys.{IsRelatedOrFree}
 use Rattle.epx_audit.specs.inner.NodeConflicts.{IsSettled}
 use Rattle.epx_audit.specs.inner.SourceBits.{has_bit}
-use Rattle.epx_audit.proofs.PartnerLemmas.{settled_more, settled_by_rest, settled_by_keys}
-use Rattle.epx_audit.proofs.PartnerLemmas.{partner_found, settled_past}
+use Rattle.epx_audit.proofs.PartnerLemmas.{IsSettled-next, IsSettled-if_related_or_free}
+use Rattle.epx_audit.proofs.PartnerLemmas.{IsSettled-by_keys}
+use Rattle.epx_audit.proofs.PartnerLemmas.{IsPartner-from_conflict, IsSettled-at_end}
 use Rattle.epx_audit.proofs.audits.first_partner.Goals as goal
 use Rattle.epx_audit.proofs.audits.first_partner.Goals.{else-has_bit-via-then-has_bit+else-conflict}
 use Rattle.epx_audit.proofs.audits.first_partner.Goals.{else-has_bit-via-else-has_bit}
@@ -28,7 +29,7 @@ returns-then-conflict-clause-partner c m g touches sources same hold batch withi
     sym c.has_bit.ensures ∙ c.if-has_bit.true in
     let apart = subst (λ k. IsReadyApart edges ready k j) source
     (c.candidates.ensures.apart g touches sources c.args.bit batch within bit) in
-    partner_found m edges ready k keys same j c.index-keys-source.result
+    IsPartner-from_conflict m edges ready k keys same j c.index-keys-source.result
     c.index-keys-other.result (omega (arith, c.loop-other.auto.other)) c.requires.ready at to
     apart (c.conflict.ensures.0 c.if-conflict.true)
     (c.loop-other.invariant m g touches sources same hold batch within source)
@@ -42,7 +43,7 @@ loop-other-preserved c m g touches sources same hold batch within source i above
     let j = c.loop-other.other in
     let here : IsSettled m edges ready k j = elim c.else-has_bit.branch [
       | else-has_bit-via-then-has_bit+else-conflict w ↦
-          settled_by_keys m edges ready k keys same j w.index-keys-source.result
+          IsSettled-by_keys m edges ready k keys same j w.index-keys-source.result
           w.index-keys-other.result
           (slice_get-get_or keys k w.index-keys-source.result c.requires.source
           ∙ ap Some (sym w.index-keys-source.is))
@@ -53,15 +54,16 @@ loop-other-preserved c m g touches sources same hold batch within source i above
           let rest = subst (λ k. IsRelatedOrFree edges ready touches k j) source
           (c.candidates.ensures.rest g touches sources c.args.bit batch within
           (λ h. false≢true (sym w.if-has_bit.false ∙ (c.has_bit.ensures ∙ h)))) in
-          settled_by_rest m edges ready k touches hold j (omega (arith, c.loop-other.auto.other))
+          IsSettled-if_related_or_free m edges ready k touches hold j
+          (omega (arith, c.loop-other.auto.other))
           rest
     ] in
-    settled_more m edges ready k j
+    IsSettled-next m edges ready k j
     (c.loop-other.invariant m g touches sources same hold batch within source) here i above
     below
 
 pub returns-clause-partner : goal.returns-clause-partner
 returns-clause-partner c m g touches sources same hold batch within source =
-    settled_past m (edges_of g) c.args.ready.now c.args.source c.args.keys.now same
+    IsSettled-at_end m (edges_of g) c.args.ready.now c.args.source c.args.keys.now same
     c.loop-other.other c.loop-other-test.false
     (c.loop-other.invariant m g touches sources same hold batch within source)

@@ -1,6 +1,6 @@
 use Rattle.std.proofs.Common.{◌≡◌, Some, inl, inr, map, slice_get, refl, sym, ap, ◌∙◌, arith}
 use Rattle.epx_types.proofs.Common.{cases_lt, false≢true, length-map, slice_get-get_or}
-use Rattle.epx_types.proofs.Common.{slice_get_within, key_cases, Contains-slice_get}
+use Rattle.epx_types.proofs.Common.{slice_get_within, key_cmp-cases, Contains-slice_get}
 use Rattle.epx_types.proofs.Common.{slice_get-from_Contains}
 use Rattle.epx_types.proofs.lists.ListPositionLemmas.{slice_get-map}
 use Rattle.epx_audit.proofs.conflicts.has_key.Goals as goal
@@ -12,7 +12,7 @@ returns-then-eq c =
     let at = slice_get-map (λ k. k.now) keys i c.other-item.result
     (slice_get-get_or keys i c.other-item.result c.loop-other-test.true
     ∙ ap Some (sym c.other-item.is)) in
-    elim (key_cases c.other-item.result.now c.args.key.now) [
+    elim (key_cmp-cases c.other-item.result.now c.args.key.now) [
       | inl same ↦ (
         (λ _. Contains-slice_get (map (λ k. k.now) keys) i c.args.key.now
             (at ∙ ap Some same.1)),
@@ -34,7 +34,7 @@ loop-other-preserved c i l found =
           let same : n ≡ i = omega arith in
           let one : Some c.other-item.result.now ≡ Some c.args.key.now =
           sym at ∙ ap (slice_get (map (λ k. k.now) keys)) same ∙ found in
-          elim (key_cases c.other-item.result.now c.args.key.now) [
+          elim (key_cmp-cases c.other-item.result.now c.args.key.now) [
             | inl same ↦ absurd (false≢true (sym c.if-eq.false ∙ (c.eq.ensures ∙ same.0)))
             | inr other ↦ absurd (other.1 (cc one))
           ]

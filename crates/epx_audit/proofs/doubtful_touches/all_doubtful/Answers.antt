@@ -1,8 +1,8 @@
 use Rattle.std.proofs.Common.{ℕ, ◌+◌, ◌<◌, List, Contains, sym, subst}
 use Rattle.epx_audit.specs.declared.doubtful_touches.DoubtfulTouch.{DoubtfulTouch}
 use Rattle.epx_audit.specs.inner.DoubtfulKeys.{AreInRange}
-use Rattle.epx_audit.proofs.DoubtfulTouchLemmas.{writes_the_only_key, all_doubtful_more}
-use Rattle.epx_audit.proofs.DoubtfulTouchLemmas.{all_doubtful_in_range}
+use Rattle.epx_audit.proofs.DoubtfulTouchLemmas.{writes_the_only_key, writes_the_only_key-push}
+use Rattle.epx_audit.proofs.DoubtfulTouchLemmas.{AreInRange-push}
 use Rattle.epx_audit.proofs.doubtful_touches.all_doubtful.Goals as goal
 
 pub loop-node-preserved : goal.loop-node-preserved
@@ -14,6 +14,6 @@ loop-node-preserved c =
     → Contains ts (writes_the_only_key k) in
     record {
       in_range = subst (AreInRange (n + 1) 1) (sym new)
-          (all_doubtful_in_range old n c.loop-node.invariant.in_range);
-      whole = subst All (sym new) (all_doubtful_more old n c.loop-node.invariant.whole);
+          (AreInRange-push old n c.loop-node.invariant.in_range);
+      whole = subst All (sym new) (writes_the_only_key-push old n c.loop-node.invariant.whole);
     }

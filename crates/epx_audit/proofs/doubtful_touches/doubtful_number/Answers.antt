@@ -1,5 +1,5 @@
 use Rattle.std.proofs.lemmas.List.Sorted.{searched}
-use Rattle.epx_audit.proofs.HashLemmas.{upto, absent}
+use Rattle.epx_audit.proofs.HashLemmas.{get_or-rising_upto, Contains-not_between}
 use Rattle.epx_audit.proofs.doubtful_touches.doubtful_number.Goals as goal
 
 pub returns-in-Err : goal.returns-in-Err
@@ -7,5 +7,5 @@ returns-in-Err c =
     let hashes = c.args.hashes.now in
     let at = rw c.in-Err.is at
     (searched hashes c.args.hash c.binary_search.result c.binary_search.ensures.position
-    (upto hashes c.requires)) in
-    absent hashes c.args.hash _ at.1 at.2
+    (get_or-rising_upto hashes c.requires)) in
+    Contains-not_between hashes c.args.hash _ at.1 at.2

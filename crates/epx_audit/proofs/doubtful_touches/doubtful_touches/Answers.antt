@@ -3,9 +3,9 @@ use Rattle.epx_types.proofs.Common.{Contains-get_or}
 use Rattle.epx_audit.specs.declared.touches.KeyUse.{KeyUse}
 use Rattle.epx_audit.specs.inner.DoubtfulKeys.{doubtful_touch}
 use Rattle.epx_audit.specs.inner.RelatedTouches.{touch_at}
-use Rattle.epx_audit.proofs.DoubtfulTouchLemmas.{AreFound, HoldFound, touch_at_index, found_more}
-use Rattle.epx_audit.proofs.DoubtfulTouchLemmas.{all_more, all_same}
-use Rattle.epx_audit.proofs.HashLemmas.{one_index}
+use Rattle.epx_audit.proofs.DoubtfulTouchLemmas.{AreFound, HoldFound, touch_at-index, AreFound-push}
+use Rattle.epx_audit.proofs.DoubtfulTouchLemmas.{HoldFound-push, HoldFound-skip}
+use Rattle.epx_audit.proofs.HashLemmas.{get_or-is_unique}
 use Rattle.epx_audit.proofs.doubtful_touches.doubtful_touches.Goals as goal
 use Rattle.epx_audit.proofs.doubtful_touches.doubtful_touches.Goals.{in-Some+in_ok-push, in_default}
 
@@ -40,11 +40,12 @@ loop-touch-preserved c =
           ap (λ v. v.items) w.found-is ∙ w.in_ok-push.ensures.items in
           record {
             some = subst (AreFound nodes hashes) (sym new)
-                (found_more touches hashes nodes old n key placed at.0
+                (AreFound-push touches hashes nodes old n key placed at.0
                 c.loop-touch.invariant.some);
             all = subst (λ found. HoldFound nodes touches hashes found (n + 1)) (sym new)
-                (all_more touches hashes nodes old n key
-                (λ other l is. one_index hashes c.requires.hashes key other at.0 l (at.1 ∙ sym is))
+                (HoldFound-push touches hashes nodes old n key
+                (λ other l is. get_or-is_unique hashes c.requires.hashes key other at.0 l
+                (at.1 ∙ sym is))
                 c.loop-touch.invariant.all);
           }
       | in_default w ↦
@@ -52,7 +53,7 @@ loop-touch-preserved c =
           record {
             some = subst (AreFound nodes hashes) (sym same) c.loop-touch.invariant.some;
             all = subst (λ found. HoldFound nodes touches hashes found (n + 1)) (sym same)
-                (all_same touches hashes nodes old n w.in_default.ensures
+                (HoldFound-skip touches hashes nodes old n w.in_default.ensures
                 c.loop-touch.invariant.all);
           }
     ]
@@ -62,7 +63,7 @@ returns-clause-whole c t key h l is =
     let touches = c.args.touches.now in
     let hashes = c.args.hashes.now in
     let nodes = c.args.nodes.now in
-    let at = touch_at_index touches hashes t h in
+    let at = touch_at-index touches hashes t h in
     let here : get_or hashes key 0 ≡ (touch_at touches h.0).hash =
     is ∙ sym (ap (λ (t : KeyUse). t.hash) at) in
     subst (λ (t : KeyUse). Contains c.loop-touch.found.items (doubtful_touch nodes key t)) at

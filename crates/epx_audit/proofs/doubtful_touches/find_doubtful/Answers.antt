@@ -1,22 +1,23 @@
 use Rattle.std.proofs.Common.{◌≡◌, ℕ, ◌<◌, All, Contains, length, get_or, sym, subst, ap, arith}
 use Rattle.std.proofs.Common.{List, Bool, true, false, IsTrue, inl, ◌∙◌}
-use Rattle.epx_components.specs.ReadyMarks.{is_marked}
+use Rattle.epx_components.specs.between.ReadyMarks.{is_marked}
 use Rattle.epx_types.proofs.Common.{All-contains, get_or-replicate, length-replicate}
 use Rattle.epx_graph.proofs.Common.{edges_of}
 use Rattle.epx_audit.specs.declared.touches.KeyUse.{KeyUse}
 use Rattle.epx_audit.specs.inner.DoubtfulKeys.{doubtful_touch, AreInRange, HoldUnsettled}
 use Rattle.epx_audit.specs.inner.RelatedTouches.{AreAllRelated}
 use Rattle.epx_audit.specs.inner.Touches.{HoldTouches}
-use Rattle.epx_audit.proofs.DoubtfulKeyLemmas.{hold_all_conflicts, hold_if_all_doubtful}
+use Rattle.epx_audit.proofs.DoubtfulKeyLemmas.{HoldAllConflicts-doubtful}
+use Rattle.epx_audit.proofs.DoubtfulKeyLemmas.{HoldAllConflicts-if_all_doubtful}
 use Rattle.epx_audit.proofs.DoubtfulTouchLemmas.{writes_the_only_key}
-use Rattle.epx_audit.proofs.OrderNodeLemmas.{nodes_in_map}
+use Rattle.epx_audit.proofs.OrderNodeLemmas.{All-nodes_in_map}
 use Rattle.epx_audit.proofs.doubtful_touches.find_doubtful.Goals as goal
 
 pub find_touches-requires : goal.find_touches-requires
 find_touches-requires c =
     let m = c.args.merged.now in
     subst (All (λ k. k < length m)) (sym c.deref.ensures.value)
-    (nodes_in_map m c.args.order.now c.in_ok-nodes.nodes.items c.in_ok-nodes.ensures)
+    (All-nodes_in_map m c.args.order.now c.in_ok-nodes.nodes.items c.in_ok-nodes.ensures)
 
 pub doubtful_hashes-requires-clause-placed : goal.doubtful_hashes-requires-clause-placed
 doubtful_hashes-requires-clause-placed c t h =
@@ -50,7 +51,7 @@ unsettled_nodes-requires-clause-touches c t h =
     let nodes = c.in_ok-nodes.nodes.items in
     let e = (rw (c.deref-6.ensures.value, c.deref-8.ensures.value, c.in_ok-reach.ensures.nodes) at
     c.in_ok-touches-2.ensures.in_range) t (subst (λ ts. Contains ts t) c.deref-9.ensures.value h) in
-    let in_map = nodes_in_map m c.args.order.now nodes c.in_ok-nodes.ensures in
+    let in_map = All-nodes_in_map m c.args.order.now nodes c.in_ok-nodes.ensures in
     omega (
       arith,
       All-contains (λ k. k < length m) nodes t.node in_map e.0,
@@ -80,7 +81,8 @@ returns-then-not-branch c = record {
       inl (subst (λ (marks : List Bool). IsTrue (is_marked marks k))
       (sym c.in_ok-one.ensures.unsettled)
       (get_or-replicate c.len.result k true false (omega (arith, within, share.nodes.0))));
-  whole = λ ready marks. hold_if_all_doubtful c.args.merged.now c.args.graph.now c.requires.graph
+  whole = λ ready marks. HoldAllConflicts-if_all_doubtful c.args.merged.now c.args.graph.now
+      c.requires.graph
       c.in_ok-one.one.touches.items
       (subst (λ n. (k : ℕ) → k < n → Contains c.in_ok-one.one.touches.items
       (writes_the_only_key k)) c.len.ensures.len c.in_ok-one.ensures.whole) ready;
@@ -111,7 +113,7 @@ returns c =
     → get_or hashes key 0 ≡ t.hash → Contains doubtful (doubtful_touch nodes key t) =
     rw (c.deref-6.ensures.value, c.deref-7.ensures.value, c.deref-8.ensures.value, same) at
     c.in_ok-touches-2.ensures.whole in
-    let in_map = nodes_in_map m c.args.order.now nodes c.in_ok-nodes.ensures in
+    let in_map = All-nodes_in_map m c.args.order.now nodes c.in_ok-nodes.ensures in
     let each = rw (c.deref-6.ensures.value, c.deref-8.ensures.value, same) at
     c.in_ok-touches-2.ensures.in_range in
     record {
@@ -123,6 +125,6 @@ returns c =
       settled = subst (λ ts. HoldUnsettled (edges_of g) ts c.in_ok-unsettled.unsettled.items)
           c.deref-9.ensures.value
           (c.in_ok-unsettled.ensures.unsettled g c.in_ok-reach.ensures.reach);
-      whole = hold_all_conflicts m g c.requires.graph c.args.order.now c.requires.order nodes
+      whole = HoldAllConflicts-doubtful m g c.requires.graph c.args.order.now c.requires.order nodes
           c.in_ok-nodes.ensures start touches sure hashes hold keeps linked doubtful found;
     }

@@ -1,9 +1,9 @@
 use Rattle.std.proofs.Common.{◌≡◌, ◌+◌, ◌++◌, ◌∷◌, [], not, Contains, sym, subst, ap, ◌∙◌, arith}
 use Rattle.epx_audit.specs.declared.touches.KeyUse.{KeyUse}
 use Rattle.epx_audit.specs.inner.RelatedTouches.{touch_at}
-use Rattle.epx_audit.proofs.DoubtfulTouchLemmas.{AreSome, HoldOthers, touch_at_index}
-use Rattle.epx_audit.proofs.DoubtfulTouchLemmas.{other_touches_more, hold_more, hold_same}
-use Rattle.epx_audit.proofs.HashLemmas.{present}
+use Rattle.epx_audit.proofs.DoubtfulTouchLemmas.{AreSome, HoldOthers, touch_at-index}
+use Rattle.epx_audit.proofs.DoubtfulTouchLemmas.{AreSome-push, HoldOthers-push, HoldOthers-skip}
+use Rattle.epx_audit.proofs.HashLemmas.{Contains-if_found}
 use Rattle.epx_audit.proofs.doubtful_touches.other_touches.Goals as goal
 use Rattle.epx_audit.proofs.doubtful_touches.other_touches.Goals.{then-is_none+in_ok-push}
 use Rattle.epx_audit.proofs.doubtful_touches.other_touches.Goals.{else-is_none}
@@ -20,20 +20,20 @@ loop-touch-preserved c =
           ap (λ v. v.items) w.sure-is ∙ w.in_ok-push.ensures.items in
           record {
             some = subst (AreSome touches) (sym new)
-                (other_touches_more touches hashes old n c.loop-touch-test.true
+                (AreSome-push touches hashes old n c.loop-touch-test.true
                 c.loop-touch.invariant.some);
             all = subst (λ sure. HoldOthers touches hashes sure (n + 1)) (sym new)
-                (hold_more touches hashes old n c.loop-touch.invariant.all);
+                (HoldOthers-push touches hashes old n c.loop-touch.invariant.all);
           }
       | else-is_none w ↦
           let same : c.if-is_none.sure.items ≡ old = ap (λ v. v.items) w.sure-is in
           let there : Contains hashes (touch_at touches n).hash =
-          present hashes (touch_at touches n).hash c.doubtful_number.result
+          Contains-if_found hashes (touch_at touches n).hash c.doubtful_number.result
           (c.is_none.ensures ∙ ap not w.if-is_none.false) c.doubtful_number.ensures in
           record {
             some = subst (AreSome touches) (sym same) c.loop-touch.invariant.some;
             all = subst (λ sure. HoldOthers touches hashes sure (n + 1)) (sym same)
-                (hold_same touches hashes old n there c.loop-touch.invariant.all);
+                (HoldOthers-skip touches hashes old n there c.loop-touch.invariant.all);
           }
     ]
 
@@ -42,7 +42,7 @@ returns-clause-all c t h none =
     let touches = c.args.touches.now in
     let hashes = c.args.hashes.now in
     let sure = c.loop-touch.sure.items in
-    let at = touch_at_index touches hashes t h in
+    let at = touch_at-index touches hashes t h in
     let apart : ¬ Contains hashes (touch_at touches h.0).hash =
     subst (λ (t : KeyUse). ¬ Contains hashes t.hash) (sym at) none in
     subst (λ (t : KeyUse). Contains sure t) at

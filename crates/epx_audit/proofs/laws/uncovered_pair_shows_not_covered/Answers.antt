@@ -1,5 +1,5 @@
-use Rattle.epx_audit.proofs.UniquePairLemmas.{uncovered_not_covered}
+use Rattle.epx_audit.proofs.UniquePairLemmas.{IsCovered-not_if_uncovered}
 use Rattle.epx_audit.proofs.laws.uncovered_pair_shows_not_covered.Goals as goal
 
 pub returns : goal.returns
-returns c = uncovered_not_covered
+returns c = IsCovered-not_if_uncovered

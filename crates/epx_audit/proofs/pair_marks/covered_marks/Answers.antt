@@ -3,7 +3,7 @@ use Rattle.std.proofs.Common.{arith}
 use Rattle.epx_types.proofs.Common.{cases_lt, length_push}
 use Rattle.epx_graph.proofs.Common.{edges_of}
 use Rattle.epx_audit.specs.inner.PairMarks.{IsExact}
-use Rattle.epx_audit.proofs.PairMarkLemmas.{exact_before, exact_last}
+use Rattle.epx_audit.proofs.PairMarkLemmas.{IsExact-push, IsExact-last}
 use Rattle.epx_audit.proofs.pair_marks.covered_marks.Goals as goal
 
 pub reaches-requires : goal.reaches-requires
@@ -24,13 +24,13 @@ loop-index-preserved c =
       exact = λ g nodes is first i below.
           subst (λ marks. IsExact (edges_of g) nodes pairs marks i) (sym new)
           (elim (cases_lt i n) [
-            | inl past ↦ exact_before (edges_of g) nodes pairs marks b i
+            | inl past ↦ IsExact-push (edges_of g) nodes pairs marks b i
                 (omega (arith, past, old.len)) (old.exact g nodes is first i past)
             | inr here ↦
                 let last : n ≡ i = omega arith in
                 let within = first n (0, 0) c.loop-index-test.true in
                 subst (λ i. IsExact (edges_of g) nodes pairs (marks ++ b ∷ []) i) last
-                (exact_last (edges_of g) nodes pairs marks b n old.len
+                (IsExact-last (edges_of g) nodes pairs marks b n old.len
                 (c.reaches.ensures g nodes is within.1 (omega (arith, within.0, within.1))))
           ]);
     }

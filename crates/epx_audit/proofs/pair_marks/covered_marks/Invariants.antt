@@ -1,6 +1,6 @@
 use Rattle.std.proofs.Common.{◌≡◌, ℕ, ◌<◌, List, length}
 use Rattle.epx_graph.proofs.Common.{DependencyGraph, edges_of}
-use Rattle.epx_audit.specs.RelatedPairs.{AreLaterFirst}
+use Rattle.epx_audit.specs.between.RelatedPairs.{AreLaterFirst}
 use Rattle.epx_audit.specs.inner.PairMarks.{IsExact}
 use Rattle.epx_audit.specs.inner.PathCovers.{IsPathCover}
 use Rattle.epx_audit.proofs.pair_marks.covered_marks.Given as goal

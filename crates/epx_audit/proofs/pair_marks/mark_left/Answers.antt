@@ -2,11 +2,12 @@ use Rattle.std.proofs.Common.{◌≡◌, ◌<◌, All, length, length-set, refl,
 use Rattle.std.proofs.Common.{get_or, arith}
 use Rattle.epx_types.proofs.Common.{Contains-get_or, slice_get-get_or}
 use Rattle.epx_graph.proofs.Common.{edges_of}
-use Rattle.epx_components.specs.Partitions.{parts}
+use Rattle.epx_components.specs.between.Partitions.{parts}
 use Rattle.epx_audit.specs.inner.Batches.{AreReachedBy}
 use Rattle.epx_audit.specs.inner.PairMarks.{left_at}
-use Rattle.epx_audit.proofs.PairMarkLemmas.{from_first, from_next, from_last, IsPassFor}
-use Rattle.epx_audit.proofs.PairMarkLemmas.{pass_same, word_within, bit_exact}
+use Rattle.epx_audit.proofs.PairMarkLemmas.{AreExactFrom-first, AreExactFrom-next}
+use Rattle.epx_audit.proofs.PairMarkLemmas.{AreExactMarks-from_last, IsPassFor}
+use Rattle.epx_audit.proofs.PairMarkLemmas.{IsPassFor-same, reached-within, has_bit-exact}
 use Rattle.epx_audit.proofs.pair_marks.mark_left.Goals as goal
 use Rattle.epx_audit.proofs.pair_marks.mark_left.Goals.{in-Some}
 use Rattle.epx_audit.proofs.pair_marks.mark_left.Goals.{in-None+in_ok-sources-in-None+in_ok-reached-in-None}
@@ -21,7 +22,7 @@ loop-index-init c =
         words = λ some. absurd (omega (arith, some, none));
         bits = λ b k lb lk. absurd (omega (arith, lb, none));
       };
-      exact = λ nodes pairs but. from_first (edges_of c.args.graph.now) nodes pairs
+      exact = λ nodes pairs but. AreExactFrom-first (edges_of c.args.graph.now) nodes pairs
           c.args.left.now c.args.marks.now but;
     }
 
@@ -57,7 +58,7 @@ index-requires-in-loop-index c =
     let reached = c.match-bit_of.reached.items in
     let bit = c.match-bit_of.bit in
     let pass : IsPassFor g p sources reached bit o.from = elim c.match-bit_of.branch [
-      | in-Some w ↦ pass_same g p c.loop-index.sources.items c.loop-index.reached.items sources
+      | in-Some w ↦ IsPassFor-same g p c.loop-index.sources.items c.loop-index.reached.items sources
           reached w.in-Some.bit bit o.from (ap (λ v. v.items) w.sources-is)
           (ap (λ v. v.items) w.reached-is) w.bit-is c.loop-index.invariant.pass
           (subst (λ xs. (w.in-Some.bit < length xs) × (get_or xs w.in-Some.bit 0 ≡ o.from))
@@ -65,7 +66,7 @@ index-requires-in-loop-index c =
       | in-None+in_ok-sources-in-None+in_ok-reached-in-None w ↦
           let its = w.in_ok-sources-in-None.sources.items in
           let words = w.in_ok-reached-in-None.reached.items in
-          pass_same g p its words sources reached 0 bit o.from (ap (λ v. v.items) w.sources-is)
+          IsPassFor-same g p its words sources reached 0 bit o.from (ap (λ v. v.items) w.sources-is)
           (ap (λ v. v.items) w.reached-is) w.bit-is (record {
             few = w.in_ok-sources-in-None.ensures.few;
             words = λ some. w.in_ok-reached-in-None.ensures.len;
@@ -73,7 +74,7 @@ index-requires-in-loop-index c =
                 w.in_ok-reached-in-None.ensures.reached;
           }) w.in_ok-sources-in-None.ensures.first
     ] in
-    let l = word_within g p c.in_ok-partition.ensures sources reached bit o pass within.1
+    let l = reached-within g p c.in_ok-partition.ensures sources reached bit o pass within.1
     c.index.result.now c.index.ensures in
     omega (arith, l, c.match-bit_of.reached.ok.0)
 
@@ -97,7 +98,7 @@ loop-index-preserved c =
     let reached = c.match-bit_of.reached.items in
     let bit = c.match-bit_of.bit in
     let pass : IsPassFor g p sources reached bit o.from = elim c.match-bit_of.branch [
-      | in-Some w ↦ pass_same g p c.loop-index.sources.items c.loop-index.reached.items sources
+      | in-Some w ↦ IsPassFor-same g p c.loop-index.sources.items c.loop-index.reached.items sources
           reached w.in-Some.bit bit o.from (ap (λ v. v.items) w.sources-is)
           (ap (λ v. v.items) w.reached-is) w.bit-is c.loop-index.invariant.pass
           (subst (λ xs. (w.in-Some.bit < length xs) × (get_or xs w.in-Some.bit 0 ≡ o.from))
@@ -105,7 +106,7 @@ loop-index-preserved c =
       | in-None+in_ok-sources-in-None+in_ok-reached-in-None w ↦
           let its = w.in_ok-sources-in-None.sources.items in
           let words = w.in_ok-reached-in-None.reached.items in
-          pass_same g p its words sources reached 0 bit o.from (ap (λ v. v.items) w.sources-is)
+          IsPassFor-same g p its words sources reached 0 bit o.from (ap (λ v. v.items) w.sources-is)
           (ap (λ v. v.items) w.reached-is) w.bit-is (record {
             few = w.in_ok-sources-in-None.ensures.few;
             words = λ some. w.in_ok-reached-in-None.ensures.len;
@@ -117,17 +118,18 @@ loop-index-preserved c =
       len = length-set c.loop-index.marks o.index c.has_bit.result ∙ c.loop-index.invariant.len;
       pass = pass.pass;
       exact = λ nodes pairs but.
-          let own = bit_exact g p c.in_ok-partition.ensures sources reached bit o pass within.1
+          let own = has_bit-exact g p c.in_ok-partition.ensures sources reached bit o pass within.1
           c.index.result.now c.index.ensures nodes pairs
           (but.each_left o (Contains-get_or left n _ l)) c.index-in-loop-index.result.now
           c.index-in-loop-index.ensures c.has_bit.result c.has_bit.ensures in
-          from_next (edges_of g) nodes pairs left c.loop-index.marks n o c.has_bit.result
+          AreExactFrom-next (edges_of g) nodes pairs left c.loop-index.marks n o c.has_bit.result
           (slice_get-get_or left n _ l) (omega (arith, within.2, c.loop-index.invariant.len)) own
           (c.loop-index.invariant.exact nodes pairs but);
     }
 
 pub returns : goal.returns
 returns c nodes pairs but =
-    from_last (edges_of c.args.graph.now) nodes pairs c.args.left.now c.loop-index.marks
+    AreExactMarks-from_last (edges_of c.args.graph.now) nodes pairs c.args.left.now
+    c.loop-index.marks
     c.loop-index.index (omega (arith, c.loop-index-test.false))
     (c.loop-index.invariant.exact nodes pairs but)

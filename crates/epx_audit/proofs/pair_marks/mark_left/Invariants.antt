@@ -1,6 +1,6 @@
 use Rattle.std.proofs.Common.{◌≡◌, ℕ, List, length}
 use Rattle.epx_graph.proofs.Common.{edges_of}
-use Rattle.epx_components.specs.Partitions.{parts}
+use Rattle.epx_components.specs.between.Partitions.{parts}
 use Rattle.epx_audit.specs.inner.PairMarks.{AreExactBut}
 use Rattle.epx_audit.proofs.PairMarkLemmas.{AreExactFrom, IsPass}
 use Rattle.epx_audit.proofs.pair_marks.mark_left.Given as goal

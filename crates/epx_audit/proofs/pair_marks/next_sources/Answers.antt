@@ -1,6 +1,7 @@
 use Rattle.std.proofs.Common.{◌≡◌, ◌<◌, ◌++◌, ◌∷◌, [], length, sym, subst, ap, ◌∙◌, arith}
 use Rattle.epx_audit.specs.inner.PairMarks.{left_at}
-use Rattle.epx_audit.proofs.PairMarkLemmas.{AreNextSources, next_first, next_more}
+use Rattle.epx_audit.proofs.PairMarkLemmas.{AreNextSources, AreNextSources-first}
+use Rattle.epx_audit.proofs.PairMarkLemmas.{AreNextSources-push}
 use Rattle.epx_audit.proofs.pair_marks.next_sources.Goals as goal
 use Rattle.epx_audit.proofs.pair_marks.next_sources.Goals.{then-from-last+else-len-eq-SOURCES+in_ok-push-2}
 use Rattle.epx_audit.proofs.pair_marks.next_sources.Goals.{else-from-last}
@@ -11,7 +12,8 @@ loop-index-init c =
     let from = (left_at left c.args.start).from in
     let new : c.push.new.self.items ≡ [] ++ from ∷ [] =
     c.in_ok-push.ensures.items ∙ ap (λ xs. xs ++ from ∷ []) c.new-sources.ensures.items in
-    subst (AreNextSources left c.args.start) (sym new) (next_first left c.args.start c.requires)
+    subst (AreNextSources left c.args.start) (sym new)
+    (AreNextSources-first left c.args.start c.requires)
 
 pub loop-index-preserved : goal.loop-index-preserved
 loop-index-preserved c =
@@ -25,7 +27,7 @@ loop-index-preserved c =
           let new : c.if-from-last.sources.items ≡ sources ++ (left_at left i).from ∷ [] =
           ap (λ v. v.items) w.sources-is ∙ w.in_ok-push-2.ensures.items in
           subst (AreNextSources left c.args.start) (sym new)
-          (next_more left c.args.start sources i (omega arith) few c.loop-index.invariant)
+          (AreNextSources-push left c.args.start sources i (omega arith) few c.loop-index.invariant)
       | else-from-last w ↦ subst (AreNextSources left c.args.start)
           (sym (ap (λ v. v.items) w.sources-is)) c.loop-index.invariant
     ]

@@ -1,11 +1,11 @@
 use Rattle.std.proofs.Common.{ℕ, List, length, sym, subst}
 use Rattle.epx_types.proofs.Common.{IfOk-weaker}
 use Rattle.epx_graph.proofs.Common.{DependencyGraph, edges_of}
-use Rattle.epx_audit.specs.RelatedPairs.{AreLaterFirst, AreRelatedMarks}
+use Rattle.epx_audit.specs.between.RelatedPairs.{AreLaterFirst, AreRelatedMarks}
 use Rattle.epx_audit.specs.inner.PairMarks.{AreExactMarks}
 use Rattle.epx_audit.specs.inner.PathCovers.{IsPathCover}
 use Rattle.epx_audit.specs.inner.ReachIndexes.{AreOrderNodes}
-use Rattle.epx_audit.proofs.PairMarkLemmas.{related_from_exact}
+use Rattle.epx_audit.proofs.PairMarkLemmas.{AreRelatedMarks-from_exact}
 use Rattle.epx_audit.proofs.pair_marks.related_pairs.Goals as goal
 
 pub searched_marks-requires-clause-pairs : goal.searched_marks-requires-clause-pairs
@@ -39,7 +39,8 @@ returns-in-Some c =
     (λ marks. (g : DependencyGraph) (nodes : List ℕ) → IsPathCover g nodes c.in-Some.cover
     → AreLaterFirst (length nodes) pairs → AreExactMarks (edges_of g) nodes pairs marks.items)
     (λ marks. AreRelatedMarks m order pairs marks.items)
-    (λ marks exact. related_from_exact m g c.requires.graph order nodes are pairs marks.items
+    (λ marks exact. AreRelatedMarks-from_exact m g c.requires.graph order nodes are pairs
+    marks.items
     (exact g nodes cover first)) c.covered_marks.ensures
 
 pub returns : goal.returns
@@ -54,5 +55,6 @@ returns c =
     IfOk-weaker c.searched_marks.result
     (λ marks. AreExactMarks (edges_of g) nodes pairs marks.items)
     (λ marks. AreRelatedMarks m order pairs marks.items)
-    (λ marks exact. related_from_exact m g c.requires.graph order nodes are pairs marks.items
+    (λ marks exact. AreRelatedMarks-from_exact m g c.requires.graph order nodes are pairs
+    marks.items
     exact) c.searched_marks.ensures

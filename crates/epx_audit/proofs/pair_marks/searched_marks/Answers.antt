@@ -6,7 +6,8 @@ use Rattle.epx_types.proofs.Common.{with_items_is}
 use Rattle.epx_graph.proofs.Common.{edges_of}
 use Rattle.epx_audit.specs.declared.pair_marks.LeftPair.{LeftPair}
 use Rattle.epx_audit.specs.inner.PairMarks.{pair_at, IsLeftPair, AreExactMarks, AreExactBut}
-use Rattle.epx_audit.proofs.PairMarkLemmas.{AreExactBelow, below_more, but_from_below}
+use Rattle.epx_audit.proofs.PairMarkLemmas.{AreExactBelow, AreExactBelow-push}
+use Rattle.epx_audit.proofs.PairMarkLemmas.{AreExactBut-from_below}
 use Rattle.epx_audit.proofs.pair_marks.searched_marks.Goals as goal
 use Rattle.epx_audit.proofs.pair_marks.searched_marks.Goals.{then-not-found+in_ok-push-2}
 use Rattle.epx_audit.proofs.pair_marks.searched_marks.Goals.{else-not-found}
@@ -73,7 +74,7 @@ loop-index-preserved c =
                 let more : c.if-not-found.left.items ≡ left ++ o ∷ [] =
                 ap (λ v. v.items) w.left-is ∙ w.in_ok-push-2.ensures.items in
                 subst (λ left. AreExactBelow edges nodes pairs left (marks ++ found ∷ []) (n + 1))
-                (sym more) (below_more edges nodes pairs left (left ++ o ∷ []) marks found n
+                (sym more) (AreExactBelow-push edges nodes pairs left (left ++ o ∷ []) marks found n
                 old.below (λ p h. Contains-append_left left (o ∷ []) p h)
                 (λ p h. elim (Contains-push_cases left o p h) [
                   | inl was ↦ inl was
@@ -82,7 +83,7 @@ loop-index-preserved c =
             | else-not-found w ↦
                 let same : c.if-not-found.left.items ≡ left = ap (λ v. v.items) w.left-is in
                 subst (λ left. AreExactBelow edges nodes pairs left (marks ++ found ∷ []) (n + 1))
-                (sym same) (below_more edges nodes pairs left left marks found n old.below
+                (sym same) (AreExactBelow-push edges nodes pairs left left marks found n old.below
                 (λ p h. h) (λ p h. inl h)
                 (inl (c.in_ok-found.ensures.reaches, (λ there. w.if-not-found.false))))
           ]);
@@ -124,7 +125,7 @@ returns c =
     let written = with_items_is vec new
     (c.mark_left.auto.marks ∙ ap length c.deref_mut.ensures.value ∙ sym vec.ok.0) in
     let but : AreExactBut edges nodes pairs c.sort.new.self.items vec.items =
-    but_from_below edges nodes pairs c.loop-index.left.items c.sort.new.self.items vec.items
+    AreExactBut-from_below edges nodes pairs c.loop-index.left.items c.sort.new.self.items vec.items
     c.loop-index.index end c.loop-index.invariant.below
     (λ o h. Contains-permutation _ _ o c.sort.ensures.permutation h)
     (λ o h. Contains-permutation _ _ o (IsPermutation-sym _ _ c.sort.ensures.permutation) h) in

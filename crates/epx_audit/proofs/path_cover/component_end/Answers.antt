@@ -1,6 +1,6 @@
 use Rattle.std.proofs.Common.{◌≡◌, inl, inr, Bool, true, false, not, slice_get, refl, sym, ap, ◌∙◌}
 use Rattle.std.proofs.Common.{arith}
-use Rattle.epx_types.proofs.Common.{cases_lt, ids_decide}
+use Rattle.epx_types.proofs.Common.{cases_lt, id_eq-Decides}
 use Rattle.epx_audit.proofs.path_cover.component_end.Goals as goal
 
 not_false : (b : Bool) → not b ≡ false → b ≡ true
@@ -22,7 +22,7 @@ loop-position-preserved c = λ p from below. elim (cases_lt p c.loop-position.po
       let same : c.loop-position.position ≡ p = omega arith in
       let r = c.component_of.ensures in
       let leader : c.component_of.result ≡ c.component_of-leader.result =
-      (ids_decide c.component_of.result c.component_of-leader.result).0
+      (id_eq-Decides c.component_of.result c.component_of-leader.result).0
       (not_false _ (sym c.ne.ensures ∙ c.if-ne.false)) in
       (r.0, ap (slice_get c.args.order.now) (sym same) ∙ r.1, r.2 ∙ leader)
 ]

@@ -3,15 +3,15 @@ use Rattle.epx_types.proofs.Common.{IfOk-weaker, IsCovered}
 use Rattle.epx_graph.proofs.Common.{edges_of}
 use Rattle.epx_audit.specs.inner.RelatedTouches.{AreAllRelated}
 use Rattle.epx_audit.specs.inner.Touches.{HoldTouches}
-use Rattle.epx_audit.proofs.QuickAuditLemmas.{covered_from_related}
-use Rattle.epx_audit.proofs.OrderNodeLemmas.{nodes_in_map}
+use Rattle.epx_audit.proofs.QuickAuditLemmas.{IsCovered-from_touches}
+use Rattle.epx_audit.proofs.OrderNodeLemmas.{All-nodes_in_map}
 use Rattle.epx_audit.proofs.quick_audit.is_found_covered.Goals as goal
 
 pub find_touches-requires : goal.find_touches-requires
 find_touches-requires c =
     let m = c.args.merged.now in
     subst (All (λ k. k < length m)) (sym c.deref.ensures.value)
-    (nodes_in_map m c.args.order.now c.in_ok-nodes.nodes.items c.in_ok-nodes.ensures)
+    (All-nodes_in_map m c.args.order.now c.in_ok-nodes.nodes.items c.in_ok-nodes.ensures)
 
 pub are_all_related-requires-clause-placed : goal.are_all_related-requires-clause-placed
 are_all_related-requires-clause-placed c t h =
@@ -36,5 +36,5 @@ returns c = IfOk-weaker c.are_all_related.result
     (linked sure) in
     let all = subst (λ ns. AreAllRelated (edges_of g) ns touches (length touches))
     c.in_ok-reach.ensures.nodes on in
-    covered_from_related m g c.requires.graph c.args.order.now c.requires.order nodes
+    IsCovered-from_touches m g c.requires.graph c.args.order.now c.requires.order nodes
     c.in_ok-nodes.ensures start touches all hold) c.are_all_related.ensures

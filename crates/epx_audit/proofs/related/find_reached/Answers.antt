@@ -2,13 +2,14 @@ use Rattle.std.proofs.Common.{◌≡◌, ◌↔◌, ◌⊎◌, ◌+◌, ◌-◌,
 use Rattle.std.proofs.Common.{subst, ap, ◌∙◌, arith}
 use Rattle.epx_types.proofs.Common.{get_or_read, with_items_is, All-get_or}
 use Rattle.epx_graph.proofs.Common.{edges_of}
-use Rattle.epx_components.specs.Partitions.{ComponentParts, IsPartition, parts}
-use Rattle.epx_components.specs.Partitions.{component_of, node_at, number_for}
-use Rattle.epx_components.proofs.PartitionLemmas.{node_below, component_below}
+use Rattle.epx_components.specs.between.Partitions.{ComponentParts, IsPartition, parts}
+use Rattle.epx_components.specs.between.Partitions.{component_of, node_at, number_for}
+use Rattle.epx_components.proofs.PartitionLemmas.{node_at-within, component_of-within}
 use Rattle.epx_audit.specs.inner.SourceBits.{has_bit}
-use Rattle.epx_audit.proofs.BitLemmas.{no_bit}
-use Rattle.epx_audit.proofs.ReachedBitLemmas.{AreReachedBits, reached_bits_first, reached_bits_step}
-use Rattle.epx_audit.proofs.ReachedBitLemmas.{reached_bits_skip, reached_bits_all}
+use Rattle.epx_audit.proofs.BitLemmas.{has_bit-zero}
+use Rattle.epx_audit.proofs.ReachedBitLemmas.{AreReachedBits, AreReachedBits-first}
+use Rattle.epx_audit.proofs.ReachedBitLemmas.{AreReachedBits-step}
+use Rattle.epx_audit.proofs.ReachedBitLemmas.{AreReachedBits-skip, has_bit-decides_reached}
 use Rattle.epx_audit.proofs.related.find_reached.Goals as goal
 
 pub loop-position-init : goal.loop-position-init
@@ -20,7 +21,7 @@ loop-position-init c =
     record {
       len = c.in_ok-words.ensures.len;
       marks = subst (AreReachedBits edges p sources words) (omega (arith, c.len-position.ensures))
-          (reached_bits_first edges p c.requires.partition.is sources words
+          (AreReachedBits-first edges p c.requires.partition.is sources words
           c.in_ok-words.ensures.marks
           (rw (sym c.requires.partition.each_node) at c.requires.sources));
     }
@@ -33,11 +34,11 @@ read_word : (edges : ℕ → List ℕ) (p : ComponentParts) → IsPartition edge
     → (node ≡ node_at p n) × (word ≡ number_for p words (node_at p n))
 read_word edges p is words n node own word l len of_node of_own of_word =
     let at : node ≡ node_at p n = get_or_read p.order n node l of_node 0 in
-    let node_in = node_below edges p is n l in
+    let node_in = node_at-within edges p is n l in
     let home : own ≡ component_of p (node_at p n) =
     get_or_read p.component node own (omega (arith, at, node_in)) of_own 0
     ∙ ap (λ k. get_or p.component k 0) at in
-    let home_in = component_below edges p is (node_at p n) node_in in (
+    let home_in = component_of-within edges p is (node_at p n) node_in in (
       at,
       get_or_read words own word (omega (arith, home, home_in, len)) of_word 0
           ∙ ap (λ c. get_or words c 0) home,
@@ -78,7 +79,7 @@ loop-position-preserved-then-word-ne0 c =
     record {
       len = ap length written ∙ len ∙ old.len;
       marks = subst (λ words. AreReachedBits edges p sources words n) (sym written)
-          (reached_bits_step edges p is sources words new n in' changed
+          (AreReachedBits-step edges p is sources words new n in' changed
           (subst (AreReachedBits edges p sources words) position old.marks));
     }
 
@@ -103,10 +104,10 @@ loop-position-preserved c =
     let position : c.loop-position.position ≡ n + 1 =
     omega (arith, c.loop-position-test.true, c.loop-position.auto.position) in
     let none : (b : ℕ) → ¬ IsTrue (has_bit b (number_for p words (node_at p n))) =
-    λ b h. no_bit b (subst (λ w. IsTrue (has_bit b w)) (sym word ∙ c.if-word-ne0.false) h) in
+    λ b h. has_bit-zero b (subst (λ w. IsTrue (has_bit b w)) (sym word ∙ c.if-word-ne0.false) h) in
     record {
       len = old.len;
-      marks = reached_bits_skip edges p is sources words n none
+      marks = AreReachedBits-skip edges p is sources words n none
           (subst (AreReachedBits edges p sources words) position old.marks);
     }
 
@@ -119,7 +120,7 @@ returns-clause-reached c = λ b k lb lk.
     let end : c.loop-position.position ≡ 0 = omega (arith, c.loop-position-test.false) in
     let source = All-get_or (λ k. k < length c.args.graph.now.ids) sources b 0 lb
     c.requires.sources in
-    reached_bits_all edges p c.requires.partition.is sources words
+    has_bit-decides_reached edges p c.requires.partition.is sources words
     (subst (AreReachedBits edges p sources words) end c.loop-position.invariant.marks) b k lb
     (omega (arith, source, c.requires.partition.each_node))
     (omega (arith, lk, c.requires.partition.each_node))

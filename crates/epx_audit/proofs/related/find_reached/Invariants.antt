@@ -1,6 +1,6 @@
 use Rattle.std.proofs.Common.{◌≡◌, length}
 use Rattle.epx_graph.proofs.Common.{edges_of}
-use Rattle.epx_components.specs.Partitions.{parts}
+use Rattle.epx_components.specs.between.Partitions.{parts}
 use Rattle.epx_audit.proofs.ReachedBitLemmas.{AreReachedBits}
 use Rattle.epx_audit.proofs.related.find_reached.Given as goal
 

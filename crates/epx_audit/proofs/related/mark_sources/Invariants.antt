@@ -1,5 +1,5 @@
 use Rattle.std.proofs.Common.{◌≡◌, ◌<◌, All, map, take}
-use Rattle.epx_components.specs.Partitions.{parts, component_of}
+use Rattle.epx_components.specs.between.Partitions.{parts, component_of}
 use Rattle.epx_audit.proofs.related.mark_sources.Given as goal
 
 abbrev pub invariant-loop-node : goal.invariant-loop-node

@@ -1,6 +1,6 @@
 use Rattle.std.proofs.Common.{◌<◌, length, length-set, get_or, ◌∙◌, arith}
 use Rattle.epx_types.proofs.Common.{All-get_or}
-use Rattle.epx_audit.proofs.TargetBitLemmas.{added_more}
+use Rattle.epx_audit.proofs.TargetBitLemmas.{AreAdded-next}
 use Rattle.epx_audit.proofs.related.mark_targets.Goals as goal
 
 pub loop-target-preserved : goal.loop-target-preserved
@@ -20,6 +20,6 @@ loop-target-preserved c =
     ) in
     record {
       len = length-set words _ _ ∙ c.loop-target.invariant.len;
-      marks = added_more component targets c.args.words.now words c.args.word n within
+      marks = AreAdded-next component targets c.args.words.now words c.args.word n within
           c.loop-target.invariant.marks;
     }

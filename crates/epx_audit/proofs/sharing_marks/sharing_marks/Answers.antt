@@ -3,26 +3,27 @@ use Rattle.std.proofs.Common.{refl, sym, subst, ap, ◌∙◌, arith}
 use Rattle.epx_types.proofs.Common.{get_or_read}
 use Rattle.epx_audit.specs.declared.doubtful_touches.DoubtfulTouch.{DoubtfulTouch}
 use Rattle.epx_audit.specs.inner.SourceBits.{HasBitsOf}
-use Rattle.epx_audit.proofs.SharingMarkLemmas.{doubtful_at, doubtful_at_index, word_of}
-use Rattle.epx_audit.proofs.SharingMarkLemmas.{shared_more, all_sharing, touch_in_range}
+use Rattle.epx_audit.proofs.SharingMarkLemmas.{doubtful_at, doubtful_at-index, word_of}
+use Rattle.epx_audit.proofs.SharingMarkLemmas.{AreShared-next, AreSharing-from_words}
+use Rattle.epx_audit.proofs.SharingMarkLemmas.{doubtful_at-in_range}
 use Rattle.epx_audit.proofs.sharing_marks.sharing_marks.Goals as goal
 use Rattle.epx_audit.proofs.sharing_marks.sharing_marks.Goals.{then-touch, else-touch}
 
 pub index-requires : goal.index-requires
 index-requires c =
-    let in_range = touch_in_range c.deref-touch-items.ensures.value (length c.args.own.now)
+    let in_range = doubtful_at-in_range c.deref-touch-items.ensures.value (length c.args.own.now)
     c.args.doubtful.now.keys c.loop-touch.touch-index c.loop-touch-test.true c.requires.doubtful in
     omega (arith, in_range.1, c.in_ok-touching.ensures.len, c.in_ok-touching.touching.ok.0)
 
 pub index-requires-else-touch : goal.index-requires-else-touch
 index-requires-else-touch c =
-    let in_range = touch_in_range c.deref-touch-items.ensures.value (length c.args.own.now)
+    let in_range = doubtful_at-in_range c.deref-touch-items.ensures.value (length c.args.own.now)
     c.args.doubtful.now.keys c.loop-touch.touch-index c.loop-touch-test.true c.requires.doubtful in
     omega (arith, in_range.1, c.in_ok-writing.ensures.len, c.in_ok-writing.writing.ok.0)
 
 pub index_mut-requires : goal.index_mut-requires
 index_mut-requires c =
-    let in_range = touch_in_range c.deref-touch-items.ensures.value (length c.args.own.now)
+    let in_range = doubtful_at-in_range c.deref-touch-items.ensures.value (length c.args.own.now)
     c.args.doubtful.now.keys c.loop-touch.touch-index c.loop-touch-test.true c.requires.doubtful in
     omega (arith, in_range.0, c.loop-touch.invariant.len, c.loop-touch.words.ok.0)
 
@@ -38,7 +39,7 @@ loop-touch-preserved c =
     let touch = doubtful_at touches n in
     let same : doubtful_at c.deref-touch-items.result.now n ≡ touch =
     ap (λ ts. doubtful_at ts n) items in
-    let in_range = touch_in_range c.deref-touch-items.ensures.value (length c.args.own.now)
+    let in_range = doubtful_at-in_range c.deref-touch-items.ensures.value (length c.args.own.now)
     c.args.doubtful.now.keys c.loop-touch.touch-index c.loop-touch-test.true c.requires.doubtful in
     let key = ap (λ (t : DoubtfulTouch). t.key) same in
     let node = ap (λ (t : DoubtfulTouch). t.node) same in
@@ -62,7 +63,7 @@ loop-touch-preserved c =
     record {
       len = length-set words _ _ ∙ old.len;
       marks = rw (node, read, word)
-          (shared_more touches touching writing words n within old.marks);
+          (AreShared-next touches touching writing words n within old.marks);
     }
 
 pub returns-clause-sharing : goal.returns-clause-sharing
@@ -72,7 +73,7 @@ returns-clause-sharing c =
     let writing = c.in_ok-writing.writing.items in
     let words = c.loop-touch.words.items in
     let whole = λ (t : DoubtfulTouch) (h : Contains touches t).
-    let at = doubtful_at_index touches t h in
+    let at = doubtful_at-index touches t h in
     subst (λ (t : DoubtfulTouch). HasBitsOf (word_of touching writing t) (get_or words t.node 0))
     at (c.loop-touch.invariant.marks h.0
     (omega (
@@ -81,6 +82,7 @@ returns-clause-sharing c =
       c.loop-touch-test.false,
       ap length c.deref-touch-items.ensures.value,
     ))) in
-    all_sharing touches c.args.sources.now c.args.own.now touching writing words c.requires.own
+    AreSharing-from_words touches c.args.sources.now c.args.own.now touching writing words
+    c.requires.own
     (λ t h. c.in_ok-touching.ensures.marks t h (inl refl))
     (λ t h one. c.in_ok-writing.ensures.marks t h (inr one)) whole

@@ -1,7 +1,7 @@
 use Rattle.std.proofs.Common.{◌≡◌, ◌<◌, length, length-set, get_or, ◌∙◌, arith}
 use Rattle.epx_types.proofs.Common.{get_or_read, All-get_or}
 use Rattle.std.proofs.lemmas.Nat.{one_shl}
-use Rattle.epx_audit.proofs.SourceMarkLemmas.{marked_more}
+use Rattle.epx_audit.proofs.SourceMarkLemmas.{AreMarked-next}
 use Rattle.epx_audit.proofs.source_marks.source_marks.Goals as goal
 
 pub loop-bit-preserved : goal.loop-bit-preserved
@@ -22,5 +22,5 @@ loop-bit-preserved c =
     let shifted = one_shl n 64 (omega (arith, c.loop-bit-test.true, c.requires.few)) in
     record {
       len = length-set words _ _ ∙ c.loop-bit.invariant.len;
-      marks = rw (read, shifted) (marked_more slots words n within c.loop-bit.invariant.marks);
+      marks = rw (read, shifted) (AreMarked-next slots words n within c.loop-bit.invariant.marks);
     }

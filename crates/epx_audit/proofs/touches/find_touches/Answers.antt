@@ -4,7 +4,7 @@ use Rattle.epx_types.proofs.Common.{cases_lt, Contains-append_left, Contains-app
 use Rattle.epx_types.proofs.Common.{Contains-append_cases, Contains-permutation, IsPermutation-sym}
 use Rattle.epx_types.proofs.Common.{Instance}
 use Rattle.epx_audit.specs.inner.Touches.{hashed_touches}
-use Rattle.epx_audit.proofs.TouchLemmas.{touch_place}
+use Rattle.epx_audit.proofs.TouchLemmas.{hashed_touches-position}
 use Rattle.epx_audit.proofs.touches.find_touches.Goals as goal
 
 pub loop-position-preserved : goal.loop-position-preserved
@@ -18,7 +18,7 @@ loop-position-preserved c =
     record {
       placed = λ t h. elim (Contains-append_cases old more t (subst (λ ts. Contains ts t) new h)) [
         | inl was ↦ let below = c.loop-position.invariant.placed t was in omega arith
-        | inr now ↦ let at = touch_place start n ops t now in omega (arith, at)
+        | inr now ↦ let at = hashed_touches-position start n ops t now in omega (arith, at)
       ];
       whole = λ p e t l at h. subst (λ ts. Contains ts t) (sym new) (elim (cases_lt p n) [
         | inl past ↦ Contains-append_left old more t

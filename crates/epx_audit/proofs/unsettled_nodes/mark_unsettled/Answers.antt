@@ -2,12 +2,13 @@ use Rattle.std.proofs.Common.{◌≡◌, inl, inr, ℕ, ◌+◌, ◌-◌, ◌<�
 use Rattle.std.proofs.Common.{Contains, IsTrue, refl, sym, subst, ap, ◌∙◌, arith}
 use Rattle.epx_types.proofs.Common.{false≢true, All-nil, get_or-set_same}
 use Rattle.epx_graph.proofs.Common.{edges_of}
-use Rattle.epx_components.specs.ReadyMarks.{is_marked}
+use Rattle.epx_components.specs.between.ReadyMarks.{is_marked}
 use Rattle.epx_audit.specs.declared.doubtful_touches.DoubtfulTouch.{DoubtfulTouch}
 use Rattle.epx_audit.specs.inner.UnsettledNodes.{AreTouchesOf, touch_in, Follows, IsBehindEnd}
-use Rattle.epx_audit.proofs.UnsettledNodeLemmas.{AreInIndex, touch_held, ends_joined, marks_keep, HaveEnds}
-use Rattle.epx_audit.proofs.UnsettledNodeLemmas.{follow_more, follow_from_ends, ends_more}
-use Rattle.epx_audit.proofs.UnsettledNodeLemmas.{follows_itself}
+use Rattle.epx_audit.proofs.UnsettledNodeLemmas.{AreInIndex, Contains-touch_in, HaveEndsIn-joined}
+use Rattle.epx_audit.proofs.UnsettledNodeLemmas.{is_marked-set, HaveEnds}
+use Rattle.epx_audit.proofs.UnsettledNodeLemmas.{FollowAll-next, Follows-from_ends, HaveEnds-next}
+use Rattle.epx_audit.proofs.UnsettledNodeLemmas.{Follows-itself}
 use Rattle.epx_audit.proofs.unsettled_nodes.mark_unsettled.Goals as goal
 use Rattle.epx_audit.proofs.unsettled_nodes.mark_unsettled.Goals.{then-touch-key, else-touch-key}
 use Rattle.epx_audit.proofs.unsettled_nodes.mark_unsettled.Goals.{then-touch, else-touch}
@@ -19,7 +20,8 @@ use Rattle.epx_audit.proofs.unsettled_nodes.mark_unsettled.Goals.{else-touch-2}
 node_within : (on : Bool) (touches : List DoubtfulTouch) (n bound : ℕ) (t : DoubtfulTouch)
     → n < length touches → t ≡ touch_in on touches n → AreTouchesOf bound touches → t.node < bound
 node_within on touches n bound t l is within =
-    subst (λ (t : DoubtfulTouch). t.node < bound) (sym is) (within _ (touch_held on touches n l))
+    subst (λ (t : DoubtfulTouch). t.node < bound) (sym is)
+    (within _ (Contains-touch_in on touches n l))
 
 pub loop-step-init : goal.loop-step-init
 loop-step-init c = record {
@@ -48,7 +50,7 @@ pub follows_all-requires-clause-ends : goal.follows_all-requires-clause-ends
 follows_all-requires-clause-ends c =
     let touches = c.args.touches.now in
     let n = c.loop-step.step in
-    let joined = ends_joined c.args.reach.now c.args.on touches n c.loop-step-test.true
+    let joined = HaveEndsIn-joined c.args.reach.now c.args.on touches n c.loop-step-test.true
     c.requires.rise c.touch_in-touch.result c.touch_in-touch.ensures c.loop-step.key
     c.if-touch-key.key c.loop-step.touching.items c.loop-step.writing.items
     c.if-touch-key.touching.items c.if-touch-key.writing.items c.loop-step.invariant.key
@@ -91,7 +93,7 @@ pub with_end-requires-clause-ends : goal.with_end-requires-clause-ends
 with_end-requires-clause-ends c =
     let touches = c.args.touches.now in
     let n = c.loop-step.step in
-    let joined = ends_joined c.args.reach.now c.args.on touches n c.loop-step-test.true
+    let joined = HaveEndsIn-joined c.args.reach.now c.args.on touches n c.loop-step-test.true
     c.requires.rise c.touch_in-touch.result c.touch_in-touch.ensures c.loop-step.key
     c.if-touch-key.key c.loop-step.touching.items c.loop-step.writing.items
     c.if-touch-key.touching.items c.if-touch-key.writing.items c.loop-step.invariant.key
@@ -121,7 +123,7 @@ pub with_end-requires-then-touch-2-clause-ends : goal.with_end-requires-then-tou
 with_end-requires-then-touch-2-clause-ends c =
     let touches = c.args.touches.now in
     let n = c.loop-step.step in
-    let joined = ends_joined c.args.reach.now c.args.on touches n c.loop-step-test.true
+    let joined = HaveEndsIn-joined c.args.reach.now c.args.on touches n c.loop-step-test.true
     c.requires.rise c.touch_in-touch.result c.touch_in-touch.ensures c.loop-step.key
     c.if-touch-key.key c.loop-step.touching.items c.loop-step.writing.items
     c.if-touch-key.touching.items c.if-touch-key.writing.items c.loop-step.invariant.key
@@ -146,7 +148,7 @@ pub loop-step-preserved : goal.loop-step-preserved
 loop-step-preserved c =
     let touches = c.args.touches.now in
     let n = c.loop-step.step in
-    let joined = ends_joined c.args.reach.now c.args.on touches n c.loop-step-test.true
+    let joined = HaveEndsIn-joined c.args.reach.now c.args.on touches n c.loop-step-test.true
     c.requires.rise c.touch_in-touch.result c.touch_in-touch.ensures c.loop-step.key
     c.if-touch-key.key c.loop-step.touching.items c.loop-step.writing.items
     c.if-touch-key.touching.items c.if-touch-key.writing.items c.loop-step.invariant.key
@@ -181,7 +183,7 @@ loop-step-preserved c =
     let keeps : (k : ℕ) → IsTrue (is_marked old k) → IsTrue (is_marked more k) =
     λ k h. elim c.if-not-follows_all.branch [
       | then-not-follows_all w ↦ subst (λ (ms : List Bool). IsTrue (is_marked ms k))
-          (sym w.unsettled-is) (marks_keep old t.node k node_in h)
+          (sym w.unsettled-is) (is_marked-set old t.node k node_in h)
       | else-not-follows_all w ↦ subst (λ (ms : List Bool). IsTrue (is_marked ms k))
           (sym w.unsettled-is) h
     ] in
@@ -228,25 +230,25 @@ loop-step-preserved c =
               | else-touch-2 w ↦ (
                 k,
                 subst (λ (xs : List ℕ). Contains xs k) (sym (ap (λ v. v.items) w.writing-is)) h,
-                follows_itself (edges_of g) on k k refl,
+                Follows-itself (edges_of g) on k k refl,
               )
             ] in
             subst (λ key. HaveEnds (edges_of g) on touches key all writers (n + 1)) (sym joined.0)
-            (ends_more (edges_of g) on touches n l touching writing all writers
+            (HaveEnds-next (edges_of g) on touches n l touching writing all writers
             (joined.1.ends g index)
             (λ k h. c.in_ok-touching.ensures.behind g index k
             (subst (λ (xs : List ℕ). Contains xs k) (sym c.deref-in-loop-step.ensures.value) h))
             (subst (λ (t : DoubtfulTouch). Contains all t.node) is c.in_ok-touching.ensures.node)
             behind own_writes);
       };
-      follow = λ g index. follow_more (edges_of g) on touches n l old more
+      follow = λ g index. FollowAll-next (edges_of g) on touches n l old more
           (c.loop-step.invariant.follow g index) keeps (elim c.if-not-follows_all.branch [
             | then-not-follows_all w ↦ inl
                 (subst (λ (t : DoubtfulTouch). IsTrue (is_marked more t.node)) is
                 (subst (λ (ms : List Bool). IsTrue (is_marked ms t.node)) (sym w.unsettled-is)
                 (get_or-set_same old t.node true false node_in)))
             | else-not-follows_all w ↦ inr
-                (follow_from_ends (edges_of g) on touches n l touching writing before
+                (Follows-from_ends (edges_of g) on touches n l touching writing before
                 (joined.1.ends g index) if_writes if_reads
                 (λ k h. subst (λ (t : DoubtfulTouch). Follows (edges_of g) on t.node k) is
                 (c.follows_all.ensures w.if-not-follows_all.false g index k h)))

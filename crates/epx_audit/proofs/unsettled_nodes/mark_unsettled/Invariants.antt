@@ -1,6 +1,6 @@
 use Rattle.std.proofs.Common.{◌≡◌, ℕ, ◌-◌, ◌<◌, length, IsTrue}
 use Rattle.epx_graph.proofs.Common.{DependencyGraph, edges_of}
-use Rattle.epx_components.specs.ReadyMarks.{is_marked}
+use Rattle.epx_components.specs.between.ReadyMarks.{is_marked}
 use Rattle.epx_audit.specs.inner.ReachIndexes.{IsReachIndex}
 use Rattle.epx_audit.specs.inner.UnsettledNodes.{touch_in, FollowAll}
 use Rattle.epx_audit.proofs.UnsettledNodeLemmas.{HaveEndsIn}

@@ -2,11 +2,12 @@ use Rattle.std.proofs.Common.{◌≡◌, ℕ, ◌<◌, List, Bool, true, length,
 use Rattle.std.proofs.Common.{IsTrue, sym, subst, ap, ◌∙◌, arith}
 use Rattle.epx_types.proofs.Common.{Contains-get_or, with_items_is, take_at}
 use Rattle.epx_graph.proofs.Common.{edges_of}
-use Rattle.epx_components.specs.ReadyMarks.{is_marked}
+use Rattle.epx_components.specs.between.ReadyMarks.{is_marked}
 use Rattle.epx_audit.specs.inner.DoubtfulKeys.{HoldUnsettled}
 use Rattle.epx_audit.specs.inner.UnsettledNodes.{doubtful_at}
-use Rattle.epx_audit.proofs.UnsettledNodeLemmas.{hold_unsettled, marks_more, follow_keeps}
-use Rattle.epx_audit.proofs.UnsettledNodeLemmas.{hold_if_all_marked}
+use Rattle.epx_audit.proofs.UnsettledNodeLemmas.{HoldUnsettled-from_follow, is_marked-next}
+use Rattle.epx_audit.proofs.UnsettledNodeLemmas.{FollowAll-more_marks}
+use Rattle.epx_audit.proofs.UnsettledNodeLemmas.{HoldUnsettled-if_all_marked}
 use Rattle.epx_audit.proofs.unsettled_nodes.unsettled_nodes.Goals as goal
 
 pub mark_unsettled-requires-clause-rise : goal.mark_unsettled-requires-clause-rise
@@ -24,10 +25,12 @@ mark_unsettled-requires-clause-touches c t h = omega (
 pub mark_unsettled-requires-clause-in_graph : goal.mark_unsettled-requires-clause-in_graph
 mark_unsettled-requires-clause-in_graph c t h = c.requires.in_graph t h
 
-pub mark_unsettled-requires-then-keys_rise-clause-rise : goal.mark_unsettled-requires-then-keys_rise-clause-rise
+pub mark_unsettled-requires-then-keys_rise-clause-rise :
+    goal.mark_unsettled-requires-then-keys_rise-clause-rise
 mark_unsettled-requires-then-keys_rise-clause-rise c = c.keys_rise.ensures c.if-keys_rise.true
 
-pub mark_unsettled-requires-then-keys_rise-clause-touches : goal.mark_unsettled-requires-then-keys_rise-clause-touches
+pub mark_unsettled-requires-then-keys_rise-clause-touches :
+    goal.mark_unsettled-requires-then-keys_rise-clause-touches
 mark_unsettled-requires-then-keys_rise-clause-touches c t h =
     let vec = c.in_ok-unsettled.unsettled in
     let new = c.mark_unsettled.new.unsettled in
@@ -43,7 +46,8 @@ mark_unsettled-requires-then-keys_rise-clause-touches c t h =
       vec.ok.0,
     )
 
-pub mark_unsettled-requires-then-keys_rise-clause-in_graph : goal.mark_unsettled-requires-then-keys_rise-clause-in_graph
+pub mark_unsettled-requires-then-keys_rise-clause-in_graph :
+    goal.mark_unsettled-requires-then-keys_rise-clause-in_graph
 mark_unsettled-requires-then-keys_rise-clause-in_graph c t h = c.requires.in_graph t h
 
 pub returns-then-keys_rise-clause-len : goal.returns-then-keys_rise-clause-len
@@ -78,8 +82,8 @@ returns-then-keys_rise-clause-unsettled c g index =
     λ k h. c.mark_unsettled-then-keys_rise.ensures.keeps k
     (subst (λ (ms : List Bool). IsTrue (is_marked ms k)) (sym read) h) in
     subst (HoldUnsettled edges touches) (sym (take_at last _ vec.len (last_len ∙ sym vec.ok.0)))
-    (hold_unsettled edges touches last
-    (follow_keeps edges true touches new last (length touches) keeps
+    (HoldUnsettled-from_follow edges touches last
+    (FollowAll-more_marks edges true touches new last (length touches) keeps
     (c.in_ok-mark_unsettled.ensures.unsettled g index))
     (c.in_ok-mark_unsettled-2.ensures.unsettled g index))
 
@@ -107,10 +111,10 @@ loop-touch-preserved c =
     omega (arith, held, c.loop-touch.invariant.len) in
     record {
       len = length-set marks _ _ ∙ c.loop-touch.invariant.len;
-      marks = marks_more touches marks n within c.loop-touch.invariant.marks;
+      marks = is_marked-next touches marks n within c.loop-touch.invariant.marks;
     }
 
 pub returns-clause-unsettled : goal.returns-clause-unsettled
-returns-clause-unsettled c g index = hold_if_all_marked (edges_of g) c.args.touches.now
+returns-clause-unsettled c g index = HoldUnsettled-if_all_marked (edges_of g) c.args.touches.now
     c.loop-touch.unsettled.items (λ i l. c.loop-touch.invariant.marks i
     (omega (arith, l, c.loop-touch-test.false)))

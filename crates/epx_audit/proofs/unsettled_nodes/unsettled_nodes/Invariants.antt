@@ -1,5 +1,5 @@
 use Rattle.std.proofs.Common.{◌≡◌, ℕ, ◌<◌, length, IsTrue}
-use Rattle.epx_components.specs.ReadyMarks.{is_marked}
+use Rattle.epx_components.specs.between.ReadyMarks.{is_marked}
 use Rattle.epx_audit.specs.inner.UnsettledNodes.{doubtful_at}
 use Rattle.epx_audit.proofs.unsettled_nodes.unsettled_nodes.Given as goal
 

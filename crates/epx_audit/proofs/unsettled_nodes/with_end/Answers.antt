@@ -4,7 +4,7 @@ use Rattle.epx_types.proofs.Common.{cases_lt, get_or_default, All-push, All-nil}
 use Rattle.epx_types.proofs.Common.{Contains-push, Contains-append_left}
 use Rattle.epx_graph.proofs.Common.{edges_of}
 use Rattle.epx_audit.specs.inner.UnsettledNodes.{Follows, IsBehindEnd}
-use Rattle.epx_audit.proofs.UnsettledNodeLemmas.{follows_itself}
+use Rattle.epx_audit.proofs.UnsettledNodeLemmas.{Follows-itself}
 use Rattle.epx_audit.proofs.unsettled_nodes.with_end.Goals as goal
 use Rattle.epx_audit.proofs.unsettled_nodes.with_end.Goals.{then-not-follows+in_ok-push}
 use Rattle.epx_audit.proofs.unsettled_nodes.with_end.Goals.{else-not-follows}
@@ -85,7 +85,7 @@ returns-clause-behind c g is k h =
       | inl held ↦ (
         k,
         Contains-append_left old (c.args.node ∷ []) k (subst (Contains old) own held),
-        follows_itself (edges_of g) c.args.on k k refl,
+        Follows-itself (edges_of g) c.args.on k k refl,
       )
       | inr follows ↦ (
         c.args.node,

@@ -1,7 +1,7 @@
 use Rattle.std.proofs.Common.{◌++◌, ◌∙◌, List, ℕ, flat_map, ap, ap₂}
 use Rattle.epx_blockers.specs.BlockerLines.{blocks_line, several_line}
 use Rattle.epx_blockers.specs.declared.blocker.Blocker.{Blocker}
-use Rattle.epx_blockers.proofs.NodeBlockerLemmas.{several_of_nodes}
+use Rattle.epx_blockers.proofs.NodeBlockerLemmas.{IsCount-several}
 use Rattle.epx_blockers.proofs.blockers.blockers_text.Goals as goal
 
 pub returns : goal.returns
@@ -11,7 +11,7 @@ returns c m is =
       blockers = c.in_ok-blockers.blockers.items;
       several = several;
       missing = c.in_ok-blockers.ensures m is;
-      others = several_of_nodes m c.args.graph.now is several c.in_ok-counts.ensures.several;
+      others = IsCount-several m c.args.graph.now is several c.in_ok-counts.ensures.several;
       printed = c.in_ok-append_several.ensures
           ∙ ap (λ (text : List ℕ). text ++ several_line several)
           (c.in_ok-append_blockers.ensures

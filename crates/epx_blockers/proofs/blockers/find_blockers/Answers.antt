@@ -3,7 +3,7 @@ use Rattle.epx_types.proofs.Common.{IfOk-weaker, Instance}
 use Rattle.epx_graph.proofs.Common.{IsGraphOf}
 use Rattle.epx_blockers.specs.Blockers.{AreBlockers}
 use Rattle.epx_blockers.specs.inner.NodeBlockers.{AreNodeBlockers}
-use Rattle.epx_blockers.proofs.NodeBlockerLemmas.{blockers_of_nodes}
+use Rattle.epx_blockers.proofs.NodeBlockerLemmas.{AreBlockers-from_nodes}
 use Rattle.epx_blockers.proofs.blockers.find_blockers.Goals as goal
 
 pub returns : goal.returns
@@ -12,5 +12,5 @@ returns c =
     IfOk-weaker c.list_blockers.result
     (λ bs. AreNodeBlockers g bs.items)
     (λ bs. (m : List Instance) → IsGraphOf m g → AreBlockers m bs.items)
-    (λ bs are m is. blockers_of_nodes m g is bs.items are)
+    (λ bs are m is. AreBlockers-from_nodes m g is bs.items are)
     c.list_blockers.ensures

@@ -5,7 +5,8 @@ use Rattle.epx_types.specs.declared.id.Id.{Id}
 use Rattle.epx_graph.proofs.Common.{missing_ids}
 use Rattle.epx_blockers.specs.declared.blocker.Blocker.{Blocker}
 use Rattle.epx_blockers.specs.inner.NodeBlockers.{IsNodeBlocker}
-use Rattle.epx_blockers.proofs.NodeBlockerLemmas.{node_blocker, blocker_ids_more, blockers_more}
+use Rattle.epx_blockers.proofs.NodeBlockerLemmas.{IsNodeBlocker-from_counts, missing_ids-push}
+use Rattle.epx_blockers.proofs.NodeBlockerLemmas.{IsNodeBlocker-push}
 use Rattle.epx_blockers.proofs.blockers.list_blockers.Goals as goal
 
 pub loop-index-preserved : goal.loop-index-preserved
@@ -26,11 +27,12 @@ loop-index-preserved c =
     let id : b.id ≡ get_or (missing_ids g) i b.id =
     get_or_default ids i none b.id within
     ∙ ap (λ (xs : List Id). get_or xs i b.id) c.missing-id-items.ensures in
-    let here = node_blocker g i alone named b c.requires.alone c.requires.named l id refl refl in
+    let here = IsNodeBlocker-from_counts g i alone named b c.requires.alone c.requires.named l id
+    refl refl in
     let items = c.in_ok-push.ensures.items in
     record {
       ids = ap (map (λ (b : Blocker). b.id)) items
-          ∙ blocker_ids_more g bs b i l id c.loop-index.invariant.ids;
+          ∙ missing_ids-push g bs b i l id c.loop-index.invariant.ids;
       each = subst (λ (cs : List Blocker). (x : Blocker) → Contains cs x → IsNodeBlocker g x)
-          (sym items) (blockers_more g bs b c.loop-index.invariant.each here);
+          (sym items) (IsNodeBlocker-push g bs b c.loop-index.invariant.each here);
     }

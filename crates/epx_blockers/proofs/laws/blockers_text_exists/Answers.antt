@@ -1,5 +1,5 @@
-use Rattle.epx_blockers.proofs.BlockerTextLemmas.{blockers_text_exists}
+use Rattle.epx_blockers.proofs.BlockerTextLemmas.{BlockersTextExists-holds}
 use Rattle.epx_blockers.proofs.laws.blockers_text_exists.Goals as goal
 
 pub returns : goal.returns
-returns c = blockers_text_exists
+returns c = BlockersTextExists-holds

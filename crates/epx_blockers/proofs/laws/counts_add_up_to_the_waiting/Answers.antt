@@ -1,5 +1,5 @@
-use Rattle.epx_blockers.proofs.BlockerSumLemmas.{counts_add_up_to_the_waiting}
+use Rattle.epx_blockers.proofs.BlockerSumLemmas.{CountsAddUpToTheWaiting-holds}
 use Rattle.epx_blockers.proofs.laws.counts_add_up_to_the_waiting.Goals as goal
 
 pub returns : goal.returns
-returns c = counts_add_up_to_the_waiting
+returns c = CountsAddUpToTheWaiting-holds

@@ -2,7 +2,7 @@ use Rattle.std.proofs.Common.{◌≡◌, ◌≢◌, ◌⊎◌, inr, ◌∙◌, �
 use Rattle.std.proofs.Common.{get_or, Contains, refl, sym, ap, subst, arith}
 use Rattle.epx_types.proofs.Common.{length-set, take_all, All-get_or}
 use Rattle.epx_blockers.specs.inner.NodeCounts.{IsOneMoreIf}
-use Rattle.epx_blockers.proofs.NodeCountLemmas.{one_more, one_more_if_step}
+use Rattle.epx_blockers.proofs.NodeCountLemmas.{get_or-set_target, IsOneMoreIf-step}
 use Rattle.epx_blockers.proofs.named.add_missing.Goals as goal
 use Rattle.epx_blockers.proofs.named.add_missing.Goals.{then-target-committed}
 use Rattle.epx_blockers.proofs.named.add_missing.Goals.{else-target-committed}
@@ -19,7 +19,7 @@ loop-target-preserved c =
     ⊎ ((target ≢ committed + i) × (new ≡ get_or old i 0))
     → IsOneMoreIf (Contains (take (e + 1) targets) (committed + i)) (get_or c.args.named.now i 0)
     new =
-    λ i new l change. one_more_if_step targets e (committed + i) (get_or c.args.named.now i 0)
+    λ i new l change. IsOneMoreIf-step targets e (committed + i) (get_or c.args.named.now i 0)
     (get_or old i 0) new c.loop-target-test.true c.requires.rising
     (c.loop-target.invariant.each i l) change in
     elim c.if-target-committed.branch [
@@ -40,7 +40,7 @@ loop-target-preserved c =
             len = ap length w.named-is ∙ length-set old _ _ ∙ c.loop-target.invariant.len;
             each = λ i l. step i (get_or c.if-target-committed.named i 0) l
                 (subst (Changed i) (sym w.named-is)
-                (one_more old committed target i past within
+                (get_or-set_target old committed target i past within
                 (get_or old (target - committed) 0) refl));
           }
       | else-target-committed w ↦ record {

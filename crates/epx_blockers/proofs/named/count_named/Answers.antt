@@ -3,7 +3,7 @@ use Rattle.std.proofs.Common.{subst, arith}
 use Rattle.epx_types.proofs.Common.{with_items_is}
 use Rattle.epx_graph.proofs.Common.{edges_of}
 use Rattle.epx_blockers.specs.inner.NodeCounts.{AreMissingCounts, IsOneMoreIf}
-use Rattle.epx_blockers.proofs.NodeCountLemmas.{missing_counts_step}
+use Rattle.epx_blockers.proofs.NodeCountLemmas.{AreMissingCounts-step}
 use Rattle.epx_blockers.proofs.named.count_named.Goals as goal
 
 pub loop-node-preserved : goal.loop-node-preserved
@@ -22,7 +22,7 @@ loop-node-preserved c =
     c.add_missing.ensures.each in
     subst (AreMissingCounts g (λ k j. Contains (edges_of g k) j) (c.loop-node.node + 1))
     (sym written)
-    (missing_counts_step g (λ k j. Contains (edges_of g k) j) c.loop-node.node old new len each
+    (AreMissingCounts-step g (λ k j. Contains (edges_of g k) j) c.loop-node.node old new len each
     c.loop-node.invariant)
 
 pub returns : goal.returns

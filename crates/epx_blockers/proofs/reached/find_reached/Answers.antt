@@ -1,8 +1,9 @@
 use Rattle.std.proofs.Common.{◌≡◌, ◌+◌, ◌<◌, ℕ, length, set, sym, subst, ◌∙◌, arith}
 use Rattle.epx_types.proofs.Common.{get_or_read, length-set}
-use Rattle.epx_components.specs.Partitions.{parts, component_of}
+use Rattle.epx_components.specs.between.Partitions.{parts, component_of}
 use Rattle.epx_blockers.specs.declared.reached.Reached.TheVariants.{One}
-use Rattle.epx_blockers.proofs.ReachedNodeLemmas.{AreFirstReached, first_reached_more, reached_all}
+use Rattle.epx_blockers.proofs.ReachedNodeLemmas.{AreFirstReached, AreFirstReached-step}
+use Rattle.epx_blockers.proofs.ReachedNodeLemmas.{IsReached-all}
 use Rattle.epx_blockers.proofs.reached.find_reached.Goals as goal
 
 pub loop-node-preserved : goal.loop-node-preserved
@@ -26,7 +27,7 @@ loop-node-preserved c =
       len = length-set values _ _ ∙ old.len;
       from = omega (arith, old.from);
       first = subst (λ (d : ℕ). AreFirstReached g p (n + 1) (set values d (One n))) (sym home)
-          (first_reached_more g c.len-node-end.ensures.fits p c.requires.is c.requires.each_node n
+          (AreFirstReached-step g c.len-node-end.ensures.fits p c.requires.is c.requires.each_node n
           values old.from within old.len old.first);
     }
 
@@ -43,6 +44,6 @@ returns-clause-each c =
       c.len-node-end.ensures.fits.committed_nodes,
       c.committed_len-node.ensures,
     ) in
-    reached_all g c.len-node-end.ensures.fits (parts c.args.partition.now) c.requires.is
+    IsReached-all g c.len-node-end.ensures.fits (parts c.args.partition.now) c.requires.is
     c.requires.each_node c.loop-node.reached.items c.collect_bottom_up.result.items n whole
     c.loop-node.invariant.first c.collect_bottom_up.ensures.each

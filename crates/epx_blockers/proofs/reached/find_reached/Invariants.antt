@@ -1,5 +1,5 @@
 use Rattle.std.proofs.Common.{◌≡◌, ◌≤◌, length}
-use Rattle.epx_components.specs.Partitions.{parts}
+use Rattle.epx_components.specs.between.Partitions.{parts}
 use Rattle.epx_blockers.proofs.ReachedNodeLemmas.{AreFirstReached}
 use Rattle.epx_blockers.proofs.reached.find_reached.Given as goal
 

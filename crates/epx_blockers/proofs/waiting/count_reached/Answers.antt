@@ -1,13 +1,14 @@
 use Rattle.std.proofs.Common.{◌≡◌, inl, inr, ◌∙◌, ◌+◌, ◌-◌, ◌<◌, ◌≤◌, ℕ, List, Vec, length}
 use Rattle.std.proofs.Common.{get_or, sym, ap, subst, arith}
 use Rattle.epx_types.proofs.Common.{get_or_default, length-set, Global}
-use Rattle.epx_graph.proofs.Common.{DependencyGraph, IsGraph, reached_within}
-use Rattle.epx_components.specs.Partitions.{parts}
+use Rattle.epx_graph.proofs.Common.{DependencyGraph, IsGraph, IsNodePath-within}
+use Rattle.epx_components.specs.between.Partitions.{parts}
 use Rattle.epx_blockers.specs.declared.reached.Reached.TheVariants.{Nothing, One, Several}
 use Rattle.epx_blockers.specs.inner.NodeCounts.{AreMissingCounts, IsNodeCount, IsOneMoreIf}
 use Rattle.epx_blockers.specs.inner.ReachedNodes.{IsOnlyReached, IsReached}
-use Rattle.epx_blockers.proofs.NodeCountLemmas.{missing_counts_step, node_count_step, one_more}
-use Rattle.epx_blockers.proofs.ReachedNodeLemmas.{reached_read}
+use Rattle.epx_blockers.proofs.NodeCountLemmas.{AreMissingCounts-step, IsNodeCount-step}
+use Rattle.epx_blockers.proofs.NodeCountLemmas.{get_or-set_target}
+use Rattle.epx_blockers.proofs.ReachedNodeLemmas.{IsReached-read}
 use Rattle.epx_blockers.proofs.waiting.count_reached.Goals as goal
 use Rattle.epx_blockers.proofs.waiting.count_reached.Goals.{in-Nothing, in-One, in-Several}
 
@@ -16,7 +17,7 @@ only_index : (g : DependencyGraph) → IsGraph g → (P : ℕ → ℕ → Type 0
     (counts : List ℕ) → count ≡ g.committed → n < length g.ids → AreMissingCounts g P n counts
     → IsOnlyReached g n j → (count ≤ j) × (j - count < length counts)
 only_index g graph P n count j counts is l are only =
-    let within = reached_within g graph n only.0.1.0 j l only.0.1.1 in
+    let within = IsNodePath-within g graph n only.0.1.0 j l only.0.1.1 in
     (omega (arith, is, only.0.0), omega (arith, is, only.0.0, within, are.all))
 
 pub index_mut-requires : goal.index_mut-requires
@@ -31,7 +32,7 @@ index_mut-requires c =
       c.committed_len-committed.ensures,
       graph.committed_nodes,
     ) in
-    let only = reached_read g graph (parts c.args.partition.now) c.requires.partition.is
+    let only = IsReached-read g graph (parts c.args.partition.now) c.requires.partition.is
     c.requires.partition.each_node c.args.reached.now c.requires.len c.requires.each n
     c.index.result.now _ (One c.in-One.missing) l c.index.ensures c.in-One.is in
     let at = only_index g graph (IsOnlyReached g) n c.committed_len-committed.result
@@ -51,7 +52,7 @@ overflow_add-index_mut c =
       c.committed_len-committed.ensures,
       graph.committed_nodes,
     ) in
-    let only = reached_read g graph (parts c.args.partition.now) c.requires.partition.is
+    let only = IsReached-read g graph (parts c.args.partition.now) c.requires.partition.is
     c.requires.partition.each_node c.args.reached.now c.requires.len c.requires.each n
     c.index.result.now _ (One c.in-One.missing) l c.index.ensures c.in-One.is in
     let index = c.in-One.missing - c.committed_len-committed.result in
@@ -72,7 +73,7 @@ loop-node-preserved c =
     let is = c.committed_len-committed.ensures in
     let l : n < length g.ids =
     omega (arith, c.loop-node-test.true, is, graph.committed_nodes) in
-    let read = reached_read g graph (parts c.args.partition.now) c.requires.partition.is
+    let read = IsReached-read g graph (parts c.args.partition.now) c.requires.partition.is
     c.requires.partition.each_node c.args.reached.now c.requires.len c.requires.each n
     c.index.result.now in
     let items : Vec ℕ Global → List ℕ = λ v. v.items in
@@ -81,14 +82,14 @@ loop-node-preserved c =
     let alone : (new : List ℕ) → length new ≡ length old → ((i : ℕ) → i < length old
     → IsOneMoreIf (IsOnlyReached g n (g.committed + i)) (get_or old i 0) (get_or new i 0))
     → AreMissingCounts g (IsOnlyReached g) (n + 1) new =
-    λ new same change. missing_counts_step g (IsOnlyReached g) n old new same change are in
+    λ new same change. AreMissingCounts-step g (IsOnlyReached g) n old new same change are in
     let unchanged : (new : List ℕ) → new ≡ old → ((j : ℕ) → ¬ IsOnlyReached g n j)
     → AreMissingCounts g (IsOnlyReached g) (n + 1) new =
     λ new same none. alone new (ap length same)
     (λ i low. inr (none (g.committed + i), ap (λ ns. get_or ns i 0) same)) in
     let several : (new : ℕ) → IsOneMoreIf (IsReached g n Several) c.loop-node.several new
     → IsNodeCount (λ k. IsReached g k Several) (n + 1) new =
-    λ new change. node_count_step (λ k. IsReached g k Several) n c.loop-node.several
+    λ new change. IsNodeCount-step (λ k. IsReached g k Several) n c.loop-node.several
     c.loop-node.invariant.several new change in
     elim c.match-reached-index.branch [
       | in-Nothing w ↦
@@ -109,7 +110,7 @@ loop-node-preserved c =
           record {
             alone = alone c.match-reached-index.alone.items
                 (ap length grown ∙ length-set old _ _) (λ i low.
-                elim (one_more old count j i at.0 at.1 w.index_mut.result.now value) [
+                elim (get_or-set_target old count j i at.0 at.1 w.index_mut.result.now value) [
                   | inl (same, more) ↦ inl (
                     subst (IsOnlyReached g n) (omega (arith, same, is)) only,
                     ap (λ ns. get_or ns i 0) grown ∙ more,

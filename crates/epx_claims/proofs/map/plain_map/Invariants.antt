@@ -1,5 +1,5 @@
 use Rattle.std.proofs.Common.{Ok}
-use Rattle.epx_claims.specs.Answered.{AreOrderedAnswers}
+use Rattle.epx_claims.specs.between.Answered.{AreOrderedAnswers}
 use Rattle.epx_claims.proofs.map.plain_map.Given as goal
 
 abbrev pub invariant-loop-i : goal.invariant-loop-i

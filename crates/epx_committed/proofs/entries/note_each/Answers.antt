@@ -1,8 +1,8 @@
 use Rattle.std.proofs.Common.{◌≡◌, ℕ, suc, ◌+◌, [], ◌∷◌, ◌++◌, ◌∙◌, sym, subst, ap, length, arith}
 use Rattle.std.proofs.Common.{append_assoc, append-nil}
 use Rattle.epx_types.proofs.Common.{nil_from_length, on_ok_weaker, Placed}
-use Rattle.epx_committed.specs.EntryLines.{entry_lines, entry_lines_from}
-use Rattle.epx_committed.specs.Ledgers.{NotesLines}
+use Rattle.epx_committed.specs.between.EntryLines.{entry_lines, entry_lines_from}
+use Rattle.epx_committed.specs.between.Ledgers.{NotesLines}
 use Rattle.epx_committed.proofs.entries.note_each.Goals as goal
 
 pub loop-entry-preserved : goal.loop-entry-preserved

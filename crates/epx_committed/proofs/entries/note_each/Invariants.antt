@@ -1,5 +1,5 @@
 use Rattle.std.proofs.Common.{◌≡◌, ◌+◌, ◌++◌, suc, length}
-use Rattle.epx_committed.specs.EntryLines.{entry_lines, entry_lines_from}
+use Rattle.epx_committed.specs.between.EntryLines.{entry_lines, entry_lines_from}
 use Rattle.epx_committed.proofs.entries.note_each.Given as goal
 
 -- the lines of the entries so far, and those of the rest after them

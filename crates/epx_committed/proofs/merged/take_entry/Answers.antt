@@ -2,14 +2,14 @@ use Rattle.std.proofs.Common.{◌≡◌, Some, Vec, slice_get, length, option_an
 use Rattle.std.proofs.Common.{◌∙◌}
 use Rattle.epx_types.proofs.Common.{get_or_from_slice_get, slice_get_read, slice_get_within, Global}
 use Rattle.epx_types.proofs.Common.{Placed}
-use Rattle.epx_committed.proofs.LineRowLemmas.{list_of}
-use Rattle.epx_committed.proofs.TakenEntryLemmas.{other_lines_stay}
+use Rattle.epx_committed.proofs.LineRowLemmas.{line_at-in_list}
+use Rattle.epx_committed.proofs.TakenEntryLemmas.{line_at-other_row}
 use Rattle.epx_committed.proofs.merged.take_entry.Goals as goal
 
 module _ (c : goal.After-lists-1) where
   list_there : slice_get c.args.lists.now.items c.args.row.list ≡ Some c.index_mut.result.now
   list_there =
-      let from = list_of c.args.lists.now.items c.requires.0 c.args.row c.requires.1.0 in
+      let from = line_at-in_list c.args.lists.now.items c.requires.0 c.args.row c.requires.1.0 in
       slice_get_read c.args.lists.now.items (length c.args.lists.now.items) c.args.row.list
       c.index_mut.result.now refl
       (slice_get_within c.args.lists.now.items c.args.row.list from.0 from.1)
@@ -27,5 +27,5 @@ returns-clause-entry c = λ p there.
 
 pub returns-clause-others : goal.returns-clause-others
 returns-clause-others c =
-    other_lines_stay c.args.lists.now.items c.args.row c.requires.0 c.replace_entry.new.self
+    line_at-other_row c.args.lists.now.items c.args.row c.requires.0 c.replace_entry.new.self
     c.requires.1 c.index_mut.result.now (list_there c)

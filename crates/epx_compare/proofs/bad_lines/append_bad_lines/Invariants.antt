@@ -1,6 +1,6 @@
 use Rattle.std.proofs.Common.{◌≡◌, ◌++◌, map, take}
 use Rattle.epx_compare.specs.Comparisons.{bad_text}
-use Rattle.epx_versions.specs.NotedRows.{bad_line_at}
+use Rattle.epx_versions.specs.between.NotedRows.{bad_line_at}
 use Rattle.epx_compare.proofs.bad_lines.append_bad_lines.Given as goal
 
 abbrev pub invariant-loop-line : goal.invariant-loop-line

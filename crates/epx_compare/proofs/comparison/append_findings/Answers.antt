@@ -1,7 +1,7 @@
 use Rattle.std.proofs.Common.{◌≡◌, ◌∙◌, ◌++◌, List, ℕ, flat_map, map, ap, append_assoc}
 use Rattle.epx_types.proofs.Common.{on_ok_weaker}
 use Rattle.epx_compare.specs.Comparisons.{bad_text, difference_text, gaps_text}
-use Rattle.epx_versions.specs.NotedRows.{bad_line_at}
+use Rattle.epx_versions.specs.between.NotedRows.{bad_line_at}
 use Rattle.epx_compare.proofs.comparison.append_findings.Goals as goal
 
 -- three parts, one appended after the other

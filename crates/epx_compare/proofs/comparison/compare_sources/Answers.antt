@@ -1,10 +1,10 @@
 use Rattle.std.proofs.Common.{Err, inl, inr, length, subst, rules}
 use Rattle.epx_merge.specs.LogLines.{meanings_of}
-use Rattle.epx_merge.specs.SourceReadings.{EndsMaking}
-use Rattle.epx_merge.proofs.SourceReadingLemmas.{made_after}
+use Rattle.epx_merge.specs.between.SourceReadings.{EndsMaking}
+use Rattle.epx_merge.proofs.SourceReadingLemmas.{EndsMaking-made}
 use Rattle.epx_compare.specs.ComparisonAnswers.{IsComparisonResult}
 use Rattle.epx_compare.specs.inner.NotedLogs.{AreNotedLogs}
-use Rattle.epx_compare.proofs.ComparisonRefusalLemmas.{no_line_refused}
+use Rattle.epx_compare.proofs.ComparisonRefusalLemmas.{IsComparisonRefusal-read_fault}
 use Rattle.epx_compare.proofs.comparison.compare_sources.Goals as goal
 
 pub returns-in_err-noted : goal.returns-in_err-noted
@@ -22,7 +22,7 @@ returns-in_err-notes g c =
     let refused = rw c.in_err-notes.was at read.2 in
     subst (EndsMaking D IsComparisonResult c.args.sources.now
     c.note_sources.new.sources) {x = Err fault} (search rules)
-    (inr (read.0, read.1, no_line_refused read.0 fault refused))
+    (inr (read.0, read.1, IsComparisonRefusal-read_fault read.0 fault refused))
 
 pub compare_noted-requires : goal.compare_noted-requires
 compare_noted-requires g c =
@@ -45,5 +45,5 @@ returns g c =
       as_many = read.1.delivered.as_many;
       rows = c.into_noted.ensures (meanings_of read.0) noted.0 noted.1;
     } in
-    made_after D c.args.sources.now c.note_sources.new.sources IsComparisonResult read.0
+    EndsMaking-made D c.args.sources.now c.note_sources.new.sources IsComparisonResult read.0
     c.compare_noted.result read.1 (c.compare_noted.ensures read.0 is)

@@ -6,7 +6,7 @@ use Rattle.epx_compare.specs.ComparisonLines.{log_data}
 use Rattle.epx_compare.specs.Comparisons.{counts_text}
 use Rattle.epx_versions.specs.LineVersions.{versions_of}
 use Rattle.epx_compare.specs.LogCounts.{lines_in, bad_lines_in}
-use Rattle.epx_compare.proofs.LogTextLemmas.{for_logs-snoc, rows_count, bad_count}
+use Rattle.epx_compare.proofs.LogTextLemmas.{for_logs-snoc, count_by-rows, count_by-bad_lines}
 use Rattle.epx_compare.proofs.counts.append_counts.Goals as goal
 
 pub loop-log-preserved : goal.loop-log-preserved
@@ -24,12 +24,12 @@ loop-log-preserved c lines bad noted =
     ∙ (get_or_default c.in_ok-lines.lines.items log own_lines 0 lines_room
     ∙ (c.in_ok-lines.ensures.each log inside
     ∙ (ap (count_by (λ r. r.place.log == log)) c.deref.ensures.value
-    ∙ rows_count (versions_of lines) log c.args.noted.now.rows.items lines noted.rows))) in
+    ∙ count_by-rows (versions_of lines) log c.args.noted.now.rows.items lines noted.rows))) in
     let bads : own_bad ≡ bad_lines_in bad log = c.index-in-loop-log.ensures
     ∙ (get_or_default c.in_ok-bad.bad.items log own_bad 0 bad_room
     ∙ (c.in_ok-bad.ensures.each log inside
     ∙ (ap (count_by (λ b. b.place.log == log)) c.deref-2.ensures.value
-    ∙ (bad_count log c.args.noted.now.bad.items
+    ∙ (count_by-bad_lines log c.args.noted.now.bad.items
     ∙ ap (λ bs. bad_lines_in bs log) noted.bad_lines)))) in
     c.in_ok-append_log.ensures
     ∙ (ap (λ t. t ++ line_of (log_data log own_lines own_bad))

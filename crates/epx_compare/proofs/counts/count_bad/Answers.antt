@@ -3,7 +3,8 @@ use Rattle.std.proofs.Common.{arith}
 use Rattle.epx_types.proofs.Common.{length-set, get_or_default, Global}
 use Rattle.epx_types.specs.declared.fault.Why.TheVariants.{TooLong}
 use Rattle.epx_versions.specs.declared.noted.NotedBadLine.{NotedBadLine}
-use Rattle.epx_compare.proofs.LogCountLemmas.{count_small, count_more, count_same}
+use Rattle.epx_compare.proofs.LogCountLemmas.{get_or-count_small, get_or-count_more}
+use Rattle.epx_compare.proofs.LogCountLemmas.{get_or-count_same}
 use Rattle.epx_compare.proofs.counts.count_bad.Goals as goal
 use Rattle.epx_compare.proofs.counts.count_bad.Goals.{then-log-logs, else-log-logs}
 
@@ -14,7 +15,7 @@ pub overflow_add-index_mut : goal.overflow_add-index_mut
 overflow_add-index_mut c =
     let i = c.loop-line.line-index in
     let log = (get_or c.args.bad.now i nothing).place.log in
-    let small = count_small (λ (r : NotedBadLine). r.place.log) c.args.bad.now i nothing
+    let small = get_or-count_small (λ (r : NotedBadLine). r.place.log) c.args.bad.now i nothing
     c.loop-line-test.true c.loop-line.counts.items c.args.logs c.loop-line.invariant.each log
     c.if-log-logs.true in
     let room : log < length c.loop-line.counts.items =
@@ -41,14 +42,14 @@ loop-line-preserved c =
             len = ap length is ∙ (length-set old log (get_or old log 0 + 1)
                 ∙ c.loop-line.invariant.len);
             each = λ l inside. ap (λ ns. get_or ns l 0) is
-                ∙ count_more (λ (r : NotedBadLine). r.place.log) c.args.bad.now i nothing
+                ∙ get_or-count_more (λ (r : NotedBadLine). r.place.log) c.args.bad.now i nothing
                 c.loop-line-test.true old c.args.logs c.loop-line.invariant.each log refl
                 room l inside;
           }
       | else-log-logs w ↦ record {
         len = ap (λ v. length (items v)) w.counts-is ∙ c.loop-line.invariant.len;
         each = λ l inside. ap (λ v. get_or (items v) l 0) w.counts-is
-            ∙ count_same (λ (r : NotedBadLine). r.place.log) c.args.bad.now i nothing
+            ∙ get_or-count_same (λ (r : NotedBadLine). r.place.log) c.args.bad.now i nothing
             c.loop-line-test.true old c.args.logs c.loop-line.invariant.each
             w.if-log-logs.false l inside;
       }

@@ -2,7 +2,8 @@ use Rattle.std.proofs.Common.{◌≡◌, ◌∙◌, ◌+◌, ◌<◌, ℕ, List,
 use Rattle.std.proofs.Common.{arith}
 use Rattle.epx_types.proofs.Common.{length-set, get_or_default, Global}
 use Rattle.epx_versions.specs.declared.noted.NotedLine.{NotedLine}
-use Rattle.epx_compare.proofs.LogCountLemmas.{count_small, count_more, count_same}
+use Rattle.epx_compare.proofs.LogCountLemmas.{get_or-count_small, get_or-count_more}
+use Rattle.epx_compare.proofs.LogCountLemmas.{get_or-count_same}
 use Rattle.epx_compare.proofs.counts.count_rows.Goals as goal
 use Rattle.epx_compare.proofs.counts.count_rows.Goals.{then-log-logs, else-log-logs}
 
@@ -13,7 +14,7 @@ pub overflow_add-index_mut : goal.overflow_add-index_mut
 overflow_add-index_mut c =
     let i = c.loop-row.row-index in
     let log = (get_or c.args.rows.now i nothing).place.log in
-    let small = count_small (λ (r : NotedLine). r.place.log) c.args.rows.now i nothing
+    let small = get_or-count_small (λ (r : NotedLine). r.place.log) c.args.rows.now i nothing
     c.loop-row-test.true c.loop-row.counts.items c.args.logs c.loop-row.invariant.each log
     c.if-log-logs.true in
     let room : log < length c.loop-row.counts.items =
@@ -40,14 +41,14 @@ loop-row-preserved c =
             len = ap length is ∙ (length-set old log (get_or old log 0 + 1)
                 ∙ c.loop-row.invariant.len);
             each = λ l inside. ap (λ ns. get_or ns l 0) is
-                ∙ count_more (λ (r : NotedLine). r.place.log) c.args.rows.now i nothing
+                ∙ get_or-count_more (λ (r : NotedLine). r.place.log) c.args.rows.now i nothing
                 c.loop-row-test.true old c.args.logs c.loop-row.invariant.each log refl
                 room l inside;
           }
       | else-log-logs w ↦ record {
         len = ap (λ v. length (items v)) w.counts-is ∙ c.loop-row.invariant.len;
         each = λ l inside. ap (λ v. get_or (items v) l 0) w.counts-is
-            ∙ count_same (λ (r : NotedLine). r.place.log) c.args.rows.now i nothing
+            ∙ get_or-count_same (λ (r : NotedLine). r.place.log) c.args.rows.now i nothing
             c.loop-row-test.true old c.args.logs c.loop-row.invariant.each
             w.if-log-logs.false l inside;
       }

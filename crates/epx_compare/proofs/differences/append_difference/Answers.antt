@@ -5,7 +5,7 @@ use Rattle.epx_types.proofs.Common.{on_ok_weaker, Placed, IsRising}
 use Rattle.epx_types.specs.declared.id.Id.{Id}
 use Rattle.serde_json.specs.View.{view}
 use Rattle.epx_merge.specs.LogLines.{BadLineAt}
-use Rattle.epx_rows.specs.Rows.{row_of}
+use Rattle.epx_rows.specs.between.Rows.{row_of}
 use Rattle.epx_compare.specs.declared.catalog.Catalog.{Catalog}
 use Rattle.epx_compare.specs.declared.members.Members.{Members}
 use Rattle.epx_report.specs.ReportLines.{array_of}
@@ -13,9 +13,11 @@ use Rattle.epx_compare.specs.ComparisonLines.{group_data, differs_data}
 use Rattle.epx_compare.specs.Differences.{lines_of_id, differing_members, groups_of}
 use Rattle.epx_compare.specs.inner.Catalogs.{IsCatalogOf}
 use Rattle.epx_compare.specs.inner.NumberedVersions.{AreDiffering, names_of, version_at, place_at}
-use Rattle.epx_compare.proofs.GroupLemmas.{numbers_within, rows_within, versions_at, groups_are}
-use Rattle.epx_compare.proofs.DifferenceTextLemmas.{no_float-written, differs-parts, no_names}
-use Rattle.epx_compare.proofs.DifferenceTextLemmas.{no_difference, a_difference}
+use Rattle.epx_compare.proofs.GroupLemmas.{All-numbers_within, All-rows_within, map-version_at}
+use Rattle.epx_compare.proofs.GroupLemmas.{map-group_data}
+use Rattle.epx_compare.proofs.DifferenceTextLemmas.{no_float-written, differs-parts, map-from_nil}
+use Rattle.epx_compare.proofs.DifferenceTextLemmas.{difference_text-if_none}
+use Rattle.epx_compare.proofs.DifferenceTextLemmas.{difference_text-if_some}
 use Rattle.epx_compare.proofs.MemberLemmas.{differing_members-are}
 use Rattle.epx_compare.proofs.differences.append_difference.Goals as goal
 
@@ -25,7 +27,7 @@ differing-members-requires c =
     let cat = c.args.catalog.now in
     let k = c.args.position in
     let below = subst (λ n. All (λ v. v < n) (row_of cat.versions k))
-    (ap length (sym h.2.noted.versions)) (numbers_within h.0 h.1 cat h.2 k) in
+    (ap length (sym h.2.noted.versions)) (All-numbers_within h.0 h.1 cat h.2 k) in
     subst (All (λ v. v < length cat.noted.versions.keys)) (sym c.row-numbers.ensures) below
 
 -- the members that the code finds
@@ -36,7 +38,7 @@ members_are : (lines : List Placed) (bad : List BadLineAt) (c : Catalog) (k : �
     → differing_members (lines_of_id lines x) ≡ names_of m
 members_are lines bad c k x numbers m catalog rising at row differing =
     let same = ap (map (version_at c.noted.versions.keys)) row
-    ∙ versions_at lines bad c catalog rising k x at in
+    ∙ map-version_at lines bad c catalog rising k x at in
     differing_members-are (lines_of_id lines x) m (subst (λ es. AreDiffering es m) same differing)
 
 pub returns-then-is_empty : goal.returns-then-is_empty
@@ -48,7 +50,8 @@ returns-then-is_empty c lines bad x catalog at =
     let members = members_are lines bad c.args.catalog.now c.args.position x
     c.row-numbers.result.now m catalog c.ids.ensures.rising at c.row-numbers.ensures
     c.differing-members.ensures in
-    no_difference lines x c.args.text.now.items (members ∙ no_names (map view items) (names_of m)
+    difference_text-if_none lines x c.args.text.now.items
+    (members ∙ map-from_nil (map view items) (names_of m)
     c.in_ok-names.ensures (ap (map view) (nil_from_length items none)))
 
 pub group_values-requires-clause-numbers : goal.group_values-requires-clause-numbers
@@ -57,7 +60,7 @@ group_values-requires-clause-numbers c =
     let cat = c.args.catalog.now in
     let k = c.args.position in
     let below = subst (λ n. All (λ v. v < n) (row_of cat.versions k)) (sym h.2.each_version)
-    (numbers_within h.0 h.1 cat h.2 k) in
+    (All-numbers_within h.0 h.1 cat h.2 k) in
     subst (All (λ v. v < length cat.lines)) (sym c.row-numbers.ensures) below
 
 pub group_values-requires-clause-lines : goal.group_values-requires-clause-lines
@@ -65,7 +68,7 @@ group_values-requires-clause-lines c =
     let h = c.requires.catalog in
     let cat = c.args.catalog.now in
     subst (λ n. All (All (λ index. index < n)) cat.lines) (ap length (sym c.deref.ensures.value))
-    (rows_within h.0 h.1 cat h.2)
+    (All-rows_within h.0 h.1 cat h.2)
 
 pub append_line-requires : goal.append_line-requires
 append_line-requires c =
@@ -95,7 +98,7 @@ returns c = on_ok_weaker c.append_line.result (λ appended lines bad x catalog a
     (row_of cat.lines v))) (row_of cat.versions k) = c.in_ok-groups.ensures
     ∙ (λ i. map (λ v. group_data (map (place_at (c.deref.ensures.value i))
     (row_of cat.lines v))) (c.row-numbers.ensures i)) in
-    let grouped = found ∙ groups_are lines bad cat catalog c.ids.ensures.rising k x at in
+    let grouped = found ∙ map-group_data lines bad cat catalog c.ids.ensures.rising k x at in
     let written = c.in_ok-value.ensures ∙ (differs-parts id names (names_of m) groups
     (groups_of own) c.in_ok-names.ensures grouped
     ∙ ap (λ y. array_of (differs_data y (names_of m) (groups_of own))) is_x) in
@@ -103,6 +106,6 @@ returns c = on_ok_weaker c.append_line.result (λ appended lines bad x catalog a
     let none : length items ≡ 0 = sym (length-map items view) ∙ ap length e in
     let yes : c.is_empty.result ≡ true = grind (arith, nat_tests, c.is_empty.ensures) in
     let no = c.if-is_empty.false in (cc) in
-    appended ∙ ap (λ t. c.args.text.now.items ++ t) (a_difference lines x (names_of m)
+    appended ∙ ap (λ t. c.args.text.now.items ++ t) (difference_text-if_some lines x (names_of m)
     (view c.in_ok-value.value) names members c.in_ok-names.ensures some written))
     c.append_line.ensures

@@ -1,6 +1,6 @@
 use Rattle.std.proofs.Common.{◌≡◌, map, take}
 use Rattle.serde_json.specs.View.{view}
-use Rattle.epx_rows.specs.Rows.{row_of}
+use Rattle.epx_rows.specs.between.Rows.{row_of}
 use Rattle.epx_compare.specs.ComparisonLines.{group_data}
 use Rattle.epx_compare.specs.inner.NumberedVersions.{place_at}
 use Rattle.epx_compare.proofs.differences.group_values.Given as goal

@@ -2,7 +2,7 @@ use Rattle.std.proofs.Common.{◌≡◌, ◌∙◌, ◌+◌, ◌-◌, ◌<◌, �
 use Rattle.std.proofs.Common.{reverse, sym, if◌then◌else◌, arith}
 use Rattle.epx_types.specs.declared.id.Id.{Id}
 use Rattle.epx_compare.specs.Gaps.{Gap, gaps_of, goes_on, widened}
-use Rattle.epx_compare.proofs.GapLemmas.{gaps_lacked, gaps_had, marked_here}
+use Rattle.epx_compare.proofs.GapLemmas.{gaps_of-lacked, gaps_of-had, is_log_marked-here}
 use Rattle.epx_compare.proofs.gaps.find_gaps.Goals as goal
 
 -- the gaps with one more instance in front, which goes on with the first gap or not
@@ -19,12 +19,12 @@ loop-index-preserved-in-Continue-1 c has marking =
     let within : n < length ids = omega arith in
     let next : c.loop-index.index ≡ n + 1 = omega arith in
     let later = c.loop-index.invariant has marking ∙ ap (λ m. gaps_of has (drop m ids)) next in
-    let marked = marked_here has ids n zero within c.args.log c.args.marks.now marking in
+    let marked = is_log_marked-here has ids n zero within c.args.log c.args.marks.now marking in
     c.in_ok-add_before.ensures
     ∙ (ap (λ g. with_front x g (reverse c.loop-index.gaps.items))
     (c.goes_on_at-goes_on.ensures has marking)
     ∙ (ap (with_front x (goes_on has x.replica (drop (n + 1) ids))) later
-    ∙ sym (gaps_lacked has ids n zero within
+    ∙ sym (gaps_of-lacked has ids n zero within
     (marked ∙ (sym c.contains.ensures ∙ c.if-not-contains.true)))))
 
 pub loop-index-preserved : goal.loop-index-preserved
@@ -34,7 +34,7 @@ loop-index-preserved c has marking =
     let n = c.loop-index.index - 1 in
     let within : n < length ids = omega arith in
     let next : c.loop-index.index ≡ n + 1 = omega arith in
-    let marked = marked_here has ids n zero within c.args.log c.args.marks.now marking in
+    let marked = is_log_marked-here has ids n zero within c.args.log c.args.marks.now marking in
     c.loop-index.invariant has marking ∙ (ap (λ m. gaps_of has (drop m ids)) next
-    ∙ sym (gaps_had has ids n zero within
+    ∙ sym (gaps_of-had has ids n zero within
     (marked ∙ (sym c.contains.ensures ∙ c.if-not-contains.false))))

@@ -1,5 +1,5 @@
-use Rattle.epx_compare.proofs.ComparisonExistenceLemmas.{comparison_existence}
+use Rattle.epx_compare.proofs.ComparisonExistenceLemmas.{IsComparison-exists}
 use Rattle.epx_compare.proofs.laws.comparison_exists.Goals as goal
 
 pub returns : goal.returns
-returns c = comparison_existence
+returns c = IsComparison-exists

@@ -1,5 +1,5 @@
-use Rattle.epx_compare.proofs.ComparisonLawLemmas.{comparison_unique}
+use Rattle.epx_compare.proofs.ComparisonLawLemmas.{IsComparison-is_unique}
 use Rattle.epx_compare.proofs.laws.comparison_is_unique.Goals as goal
 
 pub returns : goal.returns
-returns c = comparison_unique
+returns c = IsComparison-is_unique

@@ -1,5 +1,5 @@
-use Rattle.epx_compare.proofs.GroupLawLemmas.{dependents_have_lines}
+use Rattle.epx_compare.proofs.GroupLawLemmas.{DependentsHaveLines-holds}
 use Rattle.epx_compare.proofs.laws.dependents_have_lines.Goals as goal
 
 pub returns : goal.returns
-returns c = dependents_have_lines
+returns c = DependentsHaveLines-holds

@@ -1,5 +1,5 @@
-use Rattle.epx_compare.proofs.AlikeLogLemmas.{nothing_found_iff}
+use Rattle.epx_compare.proofs.AlikeLogLemmas.{NothingFoundWhereLogsAreAlike-iff}
 use Rattle.epx_compare.proofs.laws.nothing_found_where_logs_are_alike.Goals as goal
 
 pub returns : goal.returns
-returns c = nothing_found_iff
+returns c = NothingFoundWhereLogsAreAlike-iff

@@ -3,20 +3,20 @@ use Rattle.std.proofs.Common.{length, get_or, slice_get, sym, ap, subst, arith}
 use Rattle.epx_types.proofs.Common.{list_any, length-take-le, count_by-le-length, slice_get-get_or}
 use Rattle.epx_types.proofs.Common.{take-length, Instance, Placed}
 use Rattle.epx_types.specs.declared.id.Id.{Id}
-use Rattle.epx_rows.specs.Rows.{row_of}
+use Rattle.epx_rows.specs.between.Rows.{row_of}
 use Rattle.epx_versions.specs.SameInstances.{same_id}
 use Rattle.epx_compare.specs.MissingDeps.{depends_on}
 use Rattle.epx_compare.specs.inner.MissingCounts.{AreCounts, with_one, is_missing, missing_count}
 use Rattle.epx_compare.specs.inner.MissingCounts.{deps_at_numbers}
-use Rattle.epx_compare.proofs.DependencyLemmas.{numbers_known, depends_here}
-use Rattle.epx_compare.proofs.MissingCountLemmas.{AreCounts-agree, one_more}
+use Rattle.epx_compare.proofs.DependencyLemmas.{All-numbers_known, depends_on-by_numbers}
+use Rattle.epx_compare.proofs.MissingCountLemmas.{AreCounts-agree, count_by-take_more}
 use Rattle.epx_compare.proofs.missing.count_all.Goals as goal
 
 pub count_instance-requires-clause-known : goal.count_instance-requires-clause-known
 count_instance-requires-clause-known c =
     let keys : List Instance = c.args.catalog.now.noted.versions.keys in
     subst (λ (row : List ℕ). All (λ n. n < length keys) row) (sym c.row.ensures)
-    (numbers_known c.requires.0 c.requires.1 c.args.catalog.now c.requires.2 c.loop-k.k)
+    (All-numbers_known c.requires.0 c.requires.1 c.args.catalog.now c.requires.2 c.loop-k.k)
 
 small : (n done k len : ℕ) → n ≤ done → done ≡ k → k < len → len < 2 ^ 64 → n + 1 < 2 ^ 64
 small n done k len few is within fits = omega arith
@@ -59,9 +59,9 @@ loop-k-preserved c lines bad catalogs =
     (λ x. let test : is_missing ids (deps_at_numbers keys c.row.result.now) x
     ≡ (not (list_any (same_id x) ids) && depends_on lines x y) =
     ap (λ ds. is_missing ids ds x) row_is ∙ ap (λ b. not (list_any (same_id x) ids) && b)
-    (sym (depends_here lines bad c.args.catalog.now catalogs c.ids-k-end.ensures.rising k y
+    (sym (depends_on-by_numbers lines bad c.args.catalog.now catalogs c.ids-k-end.ensures.rising k y
     here x)) in
-    one_more (λ z. not (list_any (same_id x) ids) && depends_on lines x z) ids k y
+    count_by-take_more (λ z. not (list_any (same_id x) ids) && depends_on lines x z) ids k y
     (is_missing ids (deps_at_numbers keys c.row.result.now) x) here test)
     added
 

@@ -2,7 +2,7 @@ use Rattle.std.proofs.Common.{◌∙◌, ◌↔◌, ◌+◌, List, Contains, sub
 use Rattle.epx_types.proofs.Common.{on_ok_weaker, Instance}
 use Rattle.epx_types.specs.declared.id.Id.{Id}
 use Rattle.epx_compare.specs.inner.MissingCounts.{with_one, is_missing, deps_at_numbers}
-use Rattle.epx_compare.proofs.DependencyLemmas.{same_missing}
+use Rattle.epx_compare.proofs.DependencyLemmas.{is_missing-same_elements}
 use Rattle.epx_compare.proofs.MissingCountLemmas.{AreCounts-agree}
 use Rattle.epx_compare.proofs.missing.count_instance.Goals as goal
 
@@ -18,5 +18,6 @@ returns c =
     on_ok_weaker c.count_missing-2.result (λ more counted counts. AreCounts-agree
     (with_one (is_missing ids deps) counted) (with_one (is_missing ids all) counted)
     c.count_missing-2.new.counts.entries
-    (λ x. ap (λ b. if b then counted x + 1 else counted x) (same_missing ids deps all same x))
+    (λ x. ap (λ b. if b then counted x + 1 else counted x)
+    (is_missing-same_elements ids deps all same x))
     (more counted counts)) c.count_missing-2.ensures

@@ -4,8 +4,9 @@ use Rattle.epx_types.proofs.Common.{slice_get-get_or, Contains-slice_get}
 use Rattle.epx_types.specs.declared.id.Id.{Id}
 use Rattle.epx_versions.specs.SameInstances.{same_id}
 use Rattle.epx_compare.specs.inner.MissingCounts.{AreCounts, with_one, is_missing}
-use Rattle.epx_compare.proofs.MissingCountLemmas.{AreCounts-agree, committed_next, missing_next}
-use Rattle.epx_compare.proofs.MissingCountLemmas.{not_counted}
+use Rattle.epx_compare.proofs.MissingCountLemmas.{AreCounts-agree, with_one-committed}
+use Rattle.epx_compare.proofs.MissingCountLemmas.{with_one-missing}
+use Rattle.epx_compare.proofs.MissingCountLemmas.{with_one-not_counted}
 use Rattle.epx_compare.proofs.missing.count_missing.Goals as goal
 use Rattle.epx_compare.proofs.missing.count_missing.Goals.{then-is_none+in_ok-count_one}
 use Rattle.epx_compare.proofs.missing.count_missing.Goals.{else-is_none}
@@ -33,7 +34,7 @@ count_one-requires c =
     let d = get_or deps i zero in
     let here : slice_get deps i ≡ Some d = slice_get-get_or deps i zero c.loop-dep-test.true in
     let counted = c.requires.room.0 in
-    let same = not_counted ids deps i d here c.requires.rising counted in (
+    let same = with_one-not_counted ids deps i d here c.requires.rising counted in (
       with_one (is_missing ids (take i deps)) counted,
       c.loop-dep.invariant counted c.requires.room.1,
       subst (λ n. n + 1 < 2 ^ 64) (sym same) (c.requires.room.2 d),
@@ -58,12 +59,12 @@ loop-dep-preserved c counted counts =
           subst (λ (m : List (Id × ℕ)). AreCounts after m)
           (ap (λ m. m.entries) (sym w.counts-is))
           (AreCounts-agree (with_one (same_id d) before) after w.count_one.new.counts.entries
-          (missing_next ids deps i d here c.requires.rising missing counted) added)
+          (with_one-missing ids deps i d here c.requires.rising missing counted) added)
       | else-is_none w ↦
           let among = some_position ids d c.position.result c.position.ensures
           w.if-is_none.ensures in
           subst (λ (m : List (Id × ℕ)). AreCounts after m)
           (ap (λ m. m.entries) (sym w.counts-is))
           (AreCounts-agree before after c.loop-dep.counts.entries
-          (committed_next ids deps i d here among counted) now)
+          (with_one-committed ids deps i d here among counted) now)
     ]

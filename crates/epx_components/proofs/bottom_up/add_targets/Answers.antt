@@ -1,6 +1,6 @@
 use Rattle.std.proofs.Common.{◌≡◌, inl, inr, ℕ, ◌<◌, length, get_or, sym, subst}
 use Rattle.epx_types.proofs.Common.{get_or_read, All-get_or}
-use Rattle.epx_components.proofs.CollectionLemmas.{leads_out_more, or_more}
+use Rattle.epx_components.proofs.CollectionLemmas.{LeadsOut-next, iff-or_more}
 use Rattle.epx_components.proofs.bottom_up.add_targets.Goals as goal
 use Rattle.epx_components.proofs.bottom_up.add_targets.Goals.{then-other-own, else-other-own}
 
@@ -12,8 +12,8 @@ loop-target-preserved g c = λ t.
     let other : ℕ = get_or component (get_or c.args.targets.now i 0) 0 in
     let gives = g.C.Collector.gives c.args.collector.now in
     let has = g.C.Collector.has t in
-    or_more _ _ _ _ _ _ (c.loop-target.invariant t)
-    (leads_out_more component c.args.own c.args.targets.now i
+    iff-or_more _ _ _ _ _ _ (c.loop-target.invariant t)
+    (LeadsOut-next component c.args.own c.args.targets.now i
     (λ d. gives d (get_or values d g.C.Collector.none) t))
     (elim c.if-other-own.branch [
       | then-other-own w ↦

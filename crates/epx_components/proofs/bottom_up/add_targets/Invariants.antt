@@ -1,5 +1,5 @@
 use Rattle.std.proofs.Common.{◌↔◌, ◌⊎◌, ℕ, get_or}
-use Rattle.epx_components.specs.Collections.{LeadsOut}
+use Rattle.epx_components.specs.between.Collections.{LeadsOut}
 use Rattle.epx_components.proofs.bottom_up.add_targets.Given as goal
 
 abbrev pub invariant-loop-target : goal.invariant-loop-target

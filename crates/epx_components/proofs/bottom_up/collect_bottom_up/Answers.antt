@@ -2,10 +2,10 @@ use Rattle.std.proofs.Common.{◌≡◌, ◌↔◌, ◌⊎◌, ℕ, ◌<◌, len
 use Rattle.std.proofs.Common.{arith}
 use Rattle.epx_types.proofs.Common.{get_or_read, get_or-set_same, get_or-set_other}
 use Rattle.epx_graph.proofs.Common.{edges_of}
-use Rattle.epx_components.specs.Collections.{LeadsOut}
-use Rattle.epx_components.specs.Partitions.{parts, component_of, node_at}
-use Rattle.epx_components.proofs.CollectionLemmas.{collected_more}
-use Rattle.epx_components.proofs.PartitionLemmas.{node_below, component_below}
+use Rattle.epx_components.specs.between.Collections.{LeadsOut}
+use Rattle.epx_components.specs.between.Partitions.{parts, component_of, node_at}
+use Rattle.epx_components.proofs.CollectionLemmas.{AreCollected-next}
+use Rattle.epx_components.proofs.PartitionLemmas.{node_at-within, component_of-within}
 use Rattle.epx_components.proofs.bottom_up.collect_bottom_up.Goals as goal
 
 pub loop-node-preserved : goal.loop-node-preserved
@@ -18,14 +18,14 @@ loop-node-preserved g c =
     let i = c.loop-node.node-index in
     let order = c.deref-node-items.ensures.value in
     let in' : i < length p.order = omega (arith, c.loop-node-test.true, ap length order) in
-    let node_in = node_below edges p is i in' in
+    let node_in = node_at-within edges p is i in' in
     let own : c.index-own.result.now ≡ component_of p (node_at p i) =
     get_or_read p.component _ _ (omega (arith, node_in, ap (λ xs. get_or xs i 0) order))
     c.index-own.ensures 0 ∙ ap (λ xs. get_or p.component (get_or xs i 0) 0) order in
     let own_in : component_of p (node_at p i) < length values =
     omega (
       arith,
-      component_below edges p is (node_at p i) node_in,
+      component_of-within edges p is (node_at p i) node_in,
       c.loop-node.invariant.len,
     ) in
     let x = c.add_targets.result in
@@ -45,7 +45,7 @@ loop-node-preserved g c =
     ) at added in
     record {
       len = length-set values _ _ ∙ c.loop-node.invariant.len;
-      collected = λ t. rw own (collected_more edges p is
+      collected = λ t. rw own (AreCollected-next edges p is
           (λ d v. g.C.Collector.gives c.args.collector.now d v t) (λ d. get_or values d none)
           (λ d. get_or (set values (component_of p (node_at p i)) x) d none) i in'
           (λ d ne. get_or-set_other values _ d x none ne) (g.C.Collector.has t) _

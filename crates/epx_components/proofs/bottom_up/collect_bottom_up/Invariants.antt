@@ -1,7 +1,7 @@
 use Rattle.std.proofs.Common.{◌≡◌, ℕ, length, get_or}
 use Rattle.epx_graph.proofs.Common.{edges_of}
-use Rattle.epx_components.specs.Collections.{AreCollected}
-use Rattle.epx_components.specs.Partitions.{parts}
+use Rattle.epx_components.specs.between.Collections.{AreCollected}
+use Rattle.epx_components.specs.between.Partitions.{parts}
 use Rattle.epx_components.proofs.bottom_up.collect_bottom_up.Given as goal
 
 abbrev pub invariant-loop-node : goal.invariant-loop-node

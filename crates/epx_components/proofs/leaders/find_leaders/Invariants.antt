@@ -1,5 +1,5 @@
 use Rattle.std.proofs.Common.{◌≡◌, length}
-use Rattle.epx_components.specs.Partitions.{parts}
+use Rattle.epx_components.specs.between.Partitions.{parts}
 use Rattle.epx_components.proofs.LeaderLemmas.{AreLeadersFrom}
 use Rattle.epx_components.proofs.leaders.find_leaders.Given as goal
 

@@ -1,12 +1,12 @@
 use Rattle.std.proofs.Common.{get_or, false, IsTrue, arith}
 use Rattle.epx_graph.proofs.Common.{edges_of}
-use Rattle.epx_components.specs.Partitions.{parts}
-use Rattle.epx_components.proofs.MissingLemmas.{marks_missing, none_missing}
+use Rattle.epx_components.specs.between.Partitions.{parts}
+use Rattle.epx_components.proofs.MissingLemmas.{ReachesMissing-by_marks, ReachesMissing-if_none}
 use Rattle.epx_components.proofs.missing.find_missing.Goals as goal
 
 pub returns-then-committed_len-len-clause-each : goal.returns-then-committed_len-len-clause-each
 returns-then-committed_len-len-clause-each c = λ k l.
-    none_missing (edges_of c.args.graph.now) (parts c.args.partition.now) c.requires.is _
+    ReachesMissing-if_none (edges_of c.args.graph.now) (parts c.args.partition.now) c.requires.is _
     (λ d. IsTrue (get_or c.loop-node.marks.items d false)) c.loop-node.node
     (omega (
       arith,
@@ -29,7 +29,7 @@ returns-then-committed_len-len-clause-each c = λ k l.
 
 pub returns-clause-each : goal.returns-clause-each
 returns-clause-each c = λ k l.
-    marks_missing (edges_of c.args.graph.now) (parts c.args.partition.now) c.requires.is _
+    ReachesMissing-by_marks (edges_of c.args.graph.now) (parts c.args.partition.now) c.requires.is _
     (λ d. IsTrue (get_or c.loop-node.marks.items d false)) c.loop-node.node
     (omega (
       arith,

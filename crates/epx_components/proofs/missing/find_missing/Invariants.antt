@@ -1,5 +1,5 @@
 use Rattle.std.proofs.Common.{◌≡◌, ◌↔◌, ◌≤◌, ℕ, length, get_or, false, IsTrue}
-use Rattle.epx_components.specs.Partitions.{parts}
+use Rattle.epx_components.specs.between.Partitions.{parts}
 use Rattle.epx_components.proofs.MissingLemmas.{HasNodeIn}
 use Rattle.epx_components.proofs.missing.find_missing.Given as goal
 

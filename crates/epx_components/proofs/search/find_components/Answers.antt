@@ -1,7 +1,7 @@
 use Rattle.std.proofs.Common.{◌≡◌, length, arith, sym, subst, ◌∙◌, ap}
-use Rattle.epx_graph.proofs.Common.{edges_of, edge_within}
-use Rattle.epx_components.proofs.EdgeLemmas.{edge_from}
-use Rattle.epx_components.proofs.EndLemmas.{all_closed, end_partition}
+use Rattle.epx_graph.proofs.Common.{edges_of, edges_of-within}
+use Rattle.epx_components.proofs.EdgeLemmas.{edges_of-source_within}
+use Rattle.epx_components.proofs.EndLemmas.{visit_of-all_closed, IsPartition-at_end}
 use Rattle.epx_components.specs.inner.SearchInvariants.{IsSearch}
 use Rattle.epx_components.specs.inner.SearchStates.{visit_of, state}
 use Rattle.epx_components.proofs.search.find_components.Goals as goal
@@ -24,7 +24,7 @@ component_numbers-requires c =
     omega (arith, c.loop-root.auto.root-end, c.loop-root-test.false) in
     let end = subst (λ k. IsSearch (edges_of c.args.graph.now) n k (state s)) all w in
     rw c.deref.ensures.value
-    (λ k l. all_closed (edges_of c.args.graph.now) n (state s) end
+    (λ k l. visit_of-all_closed (edges_of c.args.graph.now) n (state s) end
     (omega (arith, s.starts.ok.0, c.loop-root.invariant.none)) k (omega (arith, w.all_visits)))
 
 pub returns : goal.returns
@@ -40,8 +40,9 @@ returns c =
     let long : length s.visits.items ≡ length c.deref.result.now =
     ap length (sym c.deref.ensures.value) in
     let fits = c.len-len.ensures.fits in
-    let is = end_partition edges n (state s) component.items (edge_from c.args.graph.now fits)
-    (edge_within c.args.graph.now fits) end
+    let is = IsPartition-at_end edges n (state s) component.items
+    (edges_of-source_within c.args.graph.now fits)
+    (edges_of-within c.args.graph.now fits) end
     (omega (arith, component.ok.0, c.in_ok-component.ensures.len, w.all_visits))
     (λ k l. ap (λ visits. visit_of visits k) (sym c.deref.ensures.value)
     ∙ c.in_ok-component.ensures.closed k (omega (arith, w.all_visits))) in

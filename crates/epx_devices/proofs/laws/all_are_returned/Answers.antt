@@ -1,5 +1,5 @@
-use Rattle.epx_devices.proofs.DeliveryLemmas.{all_returned}
+use Rattle.epx_devices.proofs.DeliveryLemmas.{AllAreReturned-reader}
 use Rattle.epx_devices.proofs.laws.all_are_returned.Goals as goal
 
 pub returns : goal.returns
-returns g c = all_returned g.R.Read.remaining
+returns g c = AllAreReturned-reader g.R.Read.remaining

@@ -1,8 +1,8 @@
 use Rattle.std.proofs.Common.{◌≡◌, ◌≤◌, ◌+◌, ◌++◌, length, take, arith, false, rules, append_assoc}
 use Rattle.std.proofs.Common.{ap, sym, ◌∙◌, subst}
 use Rattle.epx_types.proofs.Common.{common_steps, length-append}
-use Rattle.epx_devices.specs.LogParts.{IsReadUpTo}
-use Rattle.epx_devices.proofs.TransferLemmas.{IsReadUpTo-step, out_of_memory}
+use Rattle.epx_devices.specs.between.LogParts.{IsReadUpTo}
+use Rattle.epx_devices.proofs.TransferLemmas.{IsReadUpTo-step, EndsLog-out_of_memory}
 use Rattle.epx_devices.proofs.transfer.read_on.Goals as goal
 
 pub returns-in_err-map_err-in-Ok : goal.returns-in_err-map_err-in-Ok
@@ -17,7 +17,7 @@ returns-in_err-map_err-in-Ok g c = λ first head long before.
     c.read_some.new.self (head ++ sofar) part _ (c.loop-bytes.invariant.2 first head long before)
     c.in-Ok.ensures.bytes.0 c.in-Ok.ensures.delivered
     (omega (arith, few, long, length-append head sofar)) whole in
-    let lost = out_of_memory D c.args.log first
+    let lost = EndsLog-out_of_memory D c.args.log first
     c.read_some.new.self c.read_some.new.self _ read in
     search (rules, lost)
 

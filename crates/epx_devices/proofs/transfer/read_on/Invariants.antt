@@ -1,5 +1,5 @@
 use Rattle.std.proofs.Common.{◌≡◌, ◌≤◌, ◌+◌, ◌-◌, ◌++◌, List, ℕ, false, length}
-use Rattle.epx_devices.specs.LogParts.{IsReadUpTo}
+use Rattle.epx_devices.specs.between.LogParts.{IsReadUpTo}
 use Rattle.epx_devices.proofs.transfer.read_on.Given as goal
 
 abbrev pub invariant-loop-bytes : goal.invariant-loop-bytes

@@ -2,7 +2,7 @@ use Rattle.std.proofs.Common.{◌∷◌, [], ◌++◌, List, sym, ap, ◌∙◌,
 use Rattle.epx_types.proofs.Common.{append_assoc, is_among}
 use Rattle.epx_types.specs.declared.id.Id.{Id}
 use Rattle.epx_executor.proofs.FilterLemmas.{filter-kept, filter-skipped}
-use Rattle.epx_executor.proofs.RemainderLemmas.{was_done, was_left}
+use Rattle.epx_executor.proofs.RemainderLemmas.{not-is_false, not-is_true}
 use Rattle.epx_executor.proofs.batch.append_done.Goals as goal
 use Rattle.epx_executor.proofs.batch.append_done.Goals.{then-not-is_left+in_ok-push}
 use Rattle.epx_executor.proofs.batch.append_done.Goals.{else-not-is_left}
@@ -20,11 +20,12 @@ loop-id-preserved c =
           ∙ ap (λ (ys : List Id). ys ++ get_or ids k none ∷ []) c.loop-id.invariant
           ∙ append_assoc before (filter p (take k ids)) (get_or ids k none ∷ [])
           ∙ ap (λ (ys : List Id). before ++ ys) (sym (filter-kept p ids k none c.loop-id-test.true
-          (was_done c.is_left.result (p (get_or ids k none)) c.is_left.ensures
+          (not-is_false c.is_left.result (p (get_or ids k none)) c.is_left.ensures
           w.if-not-is_left.true)))
       | else-not-is_left w ↦
           ap (λ v. v.items) w.found-is ∙ c.loop-id.invariant
           ∙ ap (λ (ys : List Id). before ++ ys) (sym (filter-skipped p ids k none
-          c.loop-id-test.true (was_left c.is_left.result (p (get_or ids k none)) c.is_left.ensures
+          c.loop-id-test.true
+          (not-is_true c.is_left.result (p (get_or ids k none)) c.is_left.ensures
           w.if-not-is_left.false)))
     ]

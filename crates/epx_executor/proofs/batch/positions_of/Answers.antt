@@ -3,7 +3,7 @@ use Rattle.std.proofs.Common.{sym, ap, ap₂, ◌∙◌}
 use Rattle.epx_types.proofs.Common.{map-append, take_more, instance_of, ops_or_empty}
 use Rattle.epx_types.specs.declared.id.Id.{Id}
 use Rattle.epx_types.specs.declared.op.Op.{Op}
-use Rattle.epx_executor.proofs.FoundOpsLemmas.{ops_at_position}
+use Rattle.epx_executor.proofs.FoundOpsLemmas.{ops_or_empty-position}
 use Rattle.epx_executor.proofs.batch.positions_of.Goals as goal
 
 pub loop-id-preserved : goal.loop-id-preserved
@@ -19,7 +19,7 @@ loop-id-preserved c =
     let here : at (x, i) ≡ of x =
     ap (λ j. ops_or_empty (slice_get m j)) (c.unwrap_or-position.ensures
     ∙ ap (unwrap_or c.position.result) c.len.ensures.len)
-    ∙ ops_at_position m c.len.ensures.rising x c.position.result c.position.ensures in
+    ∙ ops_or_empty-position m c.len.ensures.rising x c.position.result c.position.ensures in
     ap (map at) c.in_ok-push.ensures.items
     ∙ map-append at c.loop-id.positions.items ((x, i) ∷ [])
     ∙ ap₂ (λ (done : List (List Op)) (o : List Op). done ++ o ∷ []) c.loop-id.invariant here

@@ -1,7 +1,7 @@
 use Rattle.std.proofs.Common.{List, Contains, sym, subst, inl, inr, arith}
 use Rattle.epx_types.specs.declared.id.Id.{Id}
 use Rattle.epx_executor.specs.inner.Choices.{IsSortedOut, NeedsMissing}
-use Rattle.epx_executor.proofs.ChoiceLemmas.{each_all, each_more, IsChoice-gathered}
+use Rattle.epx_executor.proofs.ChoiceLemmas.{take-each_at_end, take-each_more, IsChoice-gathered}
 use Rattle.epx_executor.proofs.ChoiceLemmas.{IsSortedOut-more}
 use Rattle.epx_executor.proofs.choose.choose_some.Goals as goal
 
@@ -15,7 +15,7 @@ loop-entry-preserved c =
     let e = c.entry-item.result in
     let P = IsSortedOut done filings new.roots.items new.blocked.items in
     record {
-      sorted = each_more P c.args.came.now c.loop-entry.entry-index e c.loop-entry-test.true
+      sorted = take-each_more P c.args.came.now c.loop-entry.entry-index e c.loop-entry-test.true
           (λ d h. IsSortedOut-more done filings old.roots.items new.roots.items old.blocked.items
           new.blocked.items d noted.roots noted.blocked (c.loop-entry.invariant.sorted d h))
           (subst P c.entry-item.is noted.sorted);
@@ -48,7 +48,8 @@ returns c =
       are = c.in_ok-choice.ensures.filings;
       exact = c.in_ok-ids.ensures.exact;
       needs = c.loop-entry.invariant.needs;
-      sorted = each_all (IsSortedOut done filings choice.roots.items choice.blocked.items) came
+      sorted =
+          take-each_at_end (IsSortedOut done filings choice.roots.items choice.blocked.items) came
           c.loop-entry.entry-index c.loop-entry-test.false c.loop-entry.invariant.sorted;
       behind = λ x y h. c.in_ok-choice.ensures.whole x y
           (subst (λ (ids : List Id). Contains ids y) (sym c.deref-2.ensures.value) h);

@@ -3,7 +3,7 @@ use Rattle.epx_types.proofs.Common.{Below}
 use Rattle.epx_types.specs.declared.id.Id.{Id}
 use Rattle.epx_executor.specs.declared.done_runs.Run.{Run}
 use Rattle.epx_executor.specs.Runs.{start_of, end_of}
-use Rattle.epx_executor.proofs.RunLemmas.{run_before, run_after, Below-from_lt}
+use Rattle.epx_executor.proofs.RunLemmas.{Below-run_before, Below-run_after, Below-from_lt}
 use Rattle.epx_executor.proofs.done_runs.is_in_runs.Goals as goal
 
 pub loop-low-preserved-then-lt : goal.loop-low-preserved-then-lt
@@ -17,7 +17,8 @@ loop-low-preserved-then-lt c =
       omega (arith, c.loop-low.invariant.0),
       λ k d l there. (
         (c.loop-low.invariant.1 k d l there).0,
-        run_before runs c.requires middle none (omega (arith, c.loop-low.invariant.0)) c.args.id
+        Below-run_before runs c.requires middle none (omega (arith, c.loop-low.invariant.0))
+            c.args.id
             k d l
             there lower,
       ),
@@ -33,7 +34,8 @@ loop-low-preserved c =
     (Below-from_lt c.last_id.result c.args.id (sym c.lt-else-lt.ensures ∙ c.if-lt-2.true)) in (
       c.loop-low.invariant.0,
       λ k d l there.
-          let after = run_after runs c.requires middle none (omega (arith, c.loop-low.invariant.0))
+          let after =
+          Below-run_after runs c.requires middle none (omega (arith, c.loop-low.invariant.0))
           c.args.id k d l there upper in
           (omega (arith, after), (c.loop-low.invariant.1 k d l there).1),
     )

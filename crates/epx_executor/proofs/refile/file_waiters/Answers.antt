@@ -2,7 +2,8 @@ use Rattle.std.proofs.Common.{◌≡◌, Contains, sym, ap, subst, arith}
 use Rattle.epx_types.proofs.Common.{Reaches, IsCommitted, Waiting}
 use Rattle.epx_types.specs.declared.id.Id.{Id}
 use Rattle.epx_executor.specs.inner.Filings.{IsFiled}
-use Rattle.epx_executor.proofs.RefileLemmas.{waiters_all, waiters_next, within_more}
+use Rattle.epx_executor.proofs.RefileLemmas.{IsFiled-waiters_all, IsFiled-waiters_next}
+use Rattle.epx_executor.proofs.RefileLemmas.{AreWithin-more}
 use Rattle.epx_executor.proofs.refile.file_waiters.Goals as goal
 
 pub loop-waiter-preserved : goal.loop-waiter-preserved
@@ -17,12 +18,13 @@ loop-waiter-preserved c =
     ap (λ (v : Waiting). v.missing) c.waiter.view_is in
     let there : Contains ws w = (k, omega arith, sym c.waiter-item.is) in (
       λ x y h. c.file_behind.ensures.stay x y (c.loop-waiter.invariant.0 x y h),
-      waiters_next ws k w old new (omega arith) (sym c.waiter-item.is) c.loop-waiter.invariant.1
+      IsFiled-waiters_next ws k w old new (omega arith) (sym c.waiter-item.is)
+          c.loop-waiter.invariant.1
           c.file_behind.ensures.stay
           (subst (IsFiled new) id (c.file_behind.ensures.filed c.if-not-file_behind.false)),
       λ m within waiting.
           let are = waiting w there in
-          within_more m old new c.waiter.inside.id c.waiter.inside.missing
+          AreWithin-more m old new c.waiter.inside.id c.waiter.inside.missing
           (subst (IsCommitted m) (sym id) are.0)
           (subst (λ (x : Id). Reaches m x c.waiter.inside.missing) (sym id)
           (subst (Reaches m w.id) (sym missing) are.1))
@@ -31,5 +33,6 @@ loop-waiter-preserved c =
 
 pub returns-clause-filed : goal.returns-clause-filed
 returns-clause-filed c =
-    waiters_all c.args.waiters.now c.loop-waiter.waiter-index c.loop-waiter.blockers (omega arith)
+    IsFiled-waiters_all c.args.waiters.now c.loop-waiter.waiter-index c.loop-waiter.blockers
+    (omega arith)
     c.loop-waiter.invariant.1

@@ -1,6 +1,7 @@
 use Rattle.std.proofs.Common.{◌+◌, List, take, sym, subst, arith}
 use Rattle.epx_types.specs.declared.id.Id.{Id}
-use Rattle.epx_executor.proofs.RefileLemmas.{AreFiledWithout, filed_without_all, filed_without_next}
+use Rattle.epx_executor.proofs.RefileLemmas.{AreFiledWithout, AreFiledWithout-all}
+use Rattle.epx_executor.proofs.RefileLemmas.{AreFiledWithout-next}
 use Rattle.epx_executor.proofs.refile.take_out.Goals as goal
 
 pub loop-id-preserved : goal.loop-id-preserved
@@ -8,7 +9,7 @@ loop-id-preserved c =
     let before = c.args.blockers.now in
     let k = c.loop-id.id-index in
     subst (λ (ids : List Id). AreFiledWithout before (take (k + 1) ids) c.remove.new.self)
-    c.deref-id-items.ensures.value (filed_without_next before c.loop-id.blockers
+    c.deref-id-items.ensures.value (AreFiledWithout-next before c.loop-id.blockers
     c.remove.new.self c.deref-id-items.result.now k _ (omega arith)
     (subst (λ (ids : List Id). AreFiledWithout before (take k ids) c.loop-id.blockers)
     (sym c.deref-id-items.ensures.value) c.loop-id.invariant) c.remove.ensures)
@@ -18,7 +19,7 @@ loop-id-2-init c =
     let before = c.args.blockers.now in
     let k = c.loop-id.id-index in
     subst (λ (ids : List Id). AreFiledWithout before ids c.loop-id.blockers)
-    c.deref-id-items.ensures.value (filed_without_all before c.loop-id.blockers
+    c.deref-id-items.ensures.value (AreFiledWithout-all before c.loop-id.blockers
     c.deref-id-items.result.now k (omega arith)
     (subst (λ (ids : List Id). AreFiledWithout before (take k ids) c.loop-id.blockers)
     (sym c.deref-id-items.ensures.value) c.loop-id.invariant))

@@ -4,7 +4,7 @@ use Rattle.epx_types.proofs.Common.{Instance, length-map}
 use Rattle.epx_types.specs.declared.id.Id.{Id}
 use Rattle.epx_types.specs.declared.place.Place.{Place}
 use Rattle.epx_follow.specs.inner.FirstPlaces.{IsNoted, place_in}
-use Rattle.epx_follow.proofs.NotedBatchLemmas.{all_noted, one_more_noted}
+use Rattle.epx_follow.proofs.NotedBatchLemmas.{HasFirstPlaces-batch, HasFirstPlaces-batch_step}
 use Rattle.epx_follow.proofs.first_places.note_places.Goals as goal
 
 abbrev no_id : Id
@@ -29,7 +29,7 @@ loop-k-preserved c = λ lines es named has.
     let same : get_or ids k no_id ≡ (get_or es k no_instance).id =
     ap (λ (xs : List Id). get_or xs k no_id) named
     ∙ get_or-map (λ (e : Instance). e.id) es k no_instance no_id within in
-    one_more_noted before after lines more es k no_place no_instance
+    HasFirstPlaces-batch_step before after lines more es k no_place no_instance
     (sym c.requires ∙ as_many) within (c.loop-k.invariant lines es named has)
     (subst (λ (x : Id). IsNoted before x (get_or more k no_place) after) same
     (c.in_ok-note_place.ensures.here, c.in_ok-note_place.ensures.apart))
@@ -39,7 +39,7 @@ returns c = λ lines es named has.
     let k = c.loop-k.k in
     let as_many : length c.args.ids.now ≡ length es =
     ap length named ∙ length-map es (λ (e : Instance). e.id) in
-    all_noted (place_in c.loop-k.places) lines c.args.more.now es k
+    HasFirstPlaces-batch (place_in c.loop-k.places) lines c.args.more.now es k
     (omega (arith, c.requires, c.loop-k-test.false, c.loop-k.auto.k-end))
     (omega (arith, as_many, c.loop-k-test.false, c.loop-k.auto.k-end))
     (c.loop-k.invariant lines es named has)

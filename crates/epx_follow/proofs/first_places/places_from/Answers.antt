@@ -4,7 +4,7 @@ use Rattle.std.proofs.lemmas.List.{get_or-map}
 use Rattle.epx_types.proofs.Common.{Instance, length-map}
 use Rattle.epx_types.specs.declared.id.Id.{Id}
 use Rattle.epx_follow.specs.inner.FirstPlaces.{place_in}
-use Rattle.epx_follow.proofs.AfterLemmas.{one_more_placed}
+use Rattle.epx_follow.proofs.AfterLemmas.{HasFirstPlaces-lines_step}
 use Rattle.epx_follow.specs.inner.FirstPlaces.{IsNoted}
 use Rattle.epx_follow.proofs.first_places.places_from.Goals as goal
 
@@ -21,7 +21,7 @@ loop-k-preserved c =
     let same : (get_or es l.k d.now).id ≡ c.id.result =
     ap (λ (e : Instance). e.id) (get_or-map now entries l.k d d.now within
     ∙ sym (ap now c.index-entries-k.is)) ∙ sym c.id.ensures in
-    one_more_placed before after c.args.log c.args.line es l.k d.now
+    HasFirstPlaces-lines_step before after c.args.log c.args.line es l.k d.now
     (omega (arith, within, length-map entries now)) l.invariant
     (subst (λ (x : Id). IsNoted before x (record { log = c.args.log; line = c.args.line + l.k })
     after) (sym same) (c.in_ok-note_place.ensures.here, c.in_ok-note_place.ensures.apart))

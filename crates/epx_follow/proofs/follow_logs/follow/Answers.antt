@@ -6,16 +6,16 @@ use Rattle.epx_types.specs.declared.fault.Fault.TheVariants.{TooManyLogs}
 use Rattle.epx_types.specs.declared.place.Place.{Place}
 use Rattle.epx_lines.specs.Lines.{lines_of}
 use Rattle.epx_follow.specs.Following.{FollowerView}
-use Rattle.epx_follow.proofs.FollowLogLemmas.{AreFollowed, all_followed, none_followed}
-use Rattle.epx_follow.proofs.FollowLogLemmas.{one_more_followed, same_next, stops_at_end}
-use Rattle.epx_follow.proofs.FollowLogLemmas.{stops_in_next, too_many}
-use Rattle.epx_follow.proofs.LogsTakenLemmas.{same_log}
+use Rattle.epx_follow.proofs.FollowLogLemmas.{AreFollowed, IsFollowed-all, AreFollowed-none}
+use Rattle.epx_follow.proofs.FollowLogLemmas.{AreFollowed-step, get_or-next, StopsFollowing-at_end}
+use Rattle.epx_follow.proofs.FollowLogLemmas.{StopsFollowing-next_log, StopsFollowing-too_many}
+use Rattle.epx_follow.proofs.LogsTakenLemmas.{TakesLines-same_log}
 use Rattle.epx_follow.proofs.follow_logs.follow.Goals as goal
 
 pub returns-then-sources-gt-MAX_LOGS-clause-stopped :
     goal.returns-then-sources-gt-MAX_LOGS-clause-stopped
 returns-then-sources-gt-MAX_LOGS-clause-stopped g c =
-    too_many g.S.Source.model c.args.start c.args.each c.args.sources.now
+    StopsFollowing-too_many g.S.Source.model c.args.start c.args.each c.args.sources.now
     (g.W.Sink.model.contents c.args.output.now) TooManyLogs c.if-sources-gt-MAX_LOGS.true
 
 pub loop-log-init : goal.loop-log-init
@@ -27,7 +27,7 @@ loop-log-init g c =
       ap (λ (p : Place). p.line) begin,
       ap (λ (p : Place). p.log) begin,
       omega arith,
-      none_followed D c.args.start c.args.each c.args.sources.now
+      AreFollowed-none D c.args.start c.args.each c.args.sources.now
           (W.contents c.args.output.now),
     )
 
@@ -38,7 +38,7 @@ follow_log-requires-clause-source g c κs within =
     let l = c.loop-log in
     let followed = l.invariant.4 in
     let d = c.index-sources-log.result in
-    subst (λ s. D.has_failed s ≡ false) (sym (same_next D c.args.start c.args.each
+    subst (λ s. D.has_failed s ≡ false) (sym (get_or-next D c.args.start c.args.each
     c.args.sources.now l.sources l.log l.follower (contents c.args.output.now) (contents l.output)
     followed d))
     (c.requires.sources l.log d (omega (arith, c.loop-log-test.true, followed.many)))
@@ -49,7 +49,8 @@ returns-in_err-followed-clause-stopped g c =
     let l = c.loop-log in
     let followed = l.invariant.4 in
     let p = err_from_is_err_and c.from_residual.result c.from_residual.ensures.1 in
-    rw (p.1, p.2) (stops_in_next g.S.Source.model c.args.start c.args.each c.args.sources.now
+    rw (p.1, p.2)
+    (StopsFollowing-next_log g.S.Source.model c.args.start c.args.each c.args.sources.now
     l.sources l.log l.follower (contents c.args.output.now) (contents l.output) followed
     c.index-sources-log.result c.follow_log.new.source c.in_err-followed.field-0.0
     (contents c.follow_log.new.output) (omega (arith, c.loop-log-test.true, followed.many))
@@ -61,7 +62,8 @@ next_log-follower-requires g c =
     let taken = c.in_ok-followed.ensures.taken in
     omega (
       arith,
-      same_log c.args.each l.follower c.in_ok-followed.followed (lines_of taken.0) taken.2.0
+      TakesLines-same_log c.args.each l.follower c.in_ok-followed.followed (lines_of taken.0)
+          taken.2.0
           taken.2.1,
       l.invariant.2,
       c.loop-log-test.true,
@@ -80,7 +82,8 @@ loop-log-preserved g c =
     let out = W.contents c.follow_log.new.output in
     let later = c.follow_log.new.source in
     let next = c.next_log-follower.ensures in
-    let same = same_log c.args.each l.follower c.in_ok-followed.followed (lines_of taken.0)
+    let same =
+    TakesLines-same_log c.args.each l.follower c.in_ok-followed.followed (lines_of taken.0)
     taken.2.0 taken.2.1 in (
       false_from_ne_true (W.has_failed c.follow_log.new.output)
           (λ failed. absurd (cc (c.in_ok-followed.ensures.failed.1 failed))),
@@ -89,7 +92,7 @@ loop-log-preserved g c =
       omega (arith, c.loop-log-test.true, length-set l.sources l.log later),
       subst (λ (v : FollowerView). AreFollowed D c.args.start c.args.each c.args.sources.now
           (set l.sources l.log later) (l.log + 1) v was out) (sym next)
-          (one_more_followed D c.args.start c.args.each c.args.sources.now l.sources l.log
+          (AreFollowed-step D c.args.start c.args.each c.args.sources.now l.sources l.log
           l.follower was (W.contents l.output) followed c.index-sources-log.result later taken.0
           c.in_ok-followed.followed out
           (omega (arith, c.loop-log-test.true, followed.many)) taken.1 taken.2),
@@ -100,7 +103,7 @@ returns-clause-followed g c =
     let contents = g.W.Sink.model.contents in
     let l = c.loop-log in
     let followed = l.invariant.4 in
-    all_followed g.S.Source.model c.args.start c.args.each c.args.sources.now l.sources l.log
+    IsFollowed-all g.S.Source.model c.args.start c.args.each c.args.sources.now l.sources l.log
     l.follower (contents c.args.output.now) (contents l.output) followed
     (contents c.end_input.new.output)
     (omega (arith, c.loop-log-test.false, l.invariant.3, followed.many)) c.end_input.result
@@ -111,7 +114,8 @@ returns-clause-stopped g c =
     let contents = g.W.Sink.model.contents in
     let l = c.loop-log in
     let followed = l.invariant.4 in
-    stops_at_end g.S.Source.model c.args.start c.args.each c.args.sources.now l.sources l.log
+    StopsFollowing-at_end g.S.Source.model c.args.start c.args.each c.args.sources.now l.sources
+    l.log
     l.follower (contents c.args.output.now) (contents l.output) followed
     (contents c.end_input.new.output)
     (omega (arith, c.loop-log-test.false, l.invariant.3, followed.many)) c.end_input.result

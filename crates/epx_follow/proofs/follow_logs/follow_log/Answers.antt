@@ -9,9 +9,11 @@ use Rattle.epx_lines.specs.Lines.{lines_of}
 use Rattle.epx_follow.specs.Following.{FollowerView}
 use Rattle.epx_follow.specs.FollowingStops.{StopsAmong, StopsWithin}
 use Rattle.epx_follow.specs.inner.PartsTaken.{TakesBytes}
-use Rattle.epx_follow.proofs.FollowLemmas.{ended_by, followed_on, length_read, nothing_followed}
-use Rattle.epx_follow.proofs.FollowLemmas.{stops_at_last, stops_at_read, stops_in_part}
-use Rattle.epx_follow.proofs.FollowLemmas.{stops_too_long}
+use Rattle.epx_follow.proofs.FollowLemmas.{TakesBytes-ended, IsFollowedTo-step, length-read}
+use Rattle.epx_follow.proofs.FollowLemmas.{IsFollowedTo-nothing}
+use Rattle.epx_follow.proofs.FollowLemmas.{StopsWithin-last_line, StopsWithin-read}
+use Rattle.epx_follow.proofs.FollowLemmas.{StopsWithin-part}
+use Rattle.epx_follow.proofs.FollowLemmas.{StopsWithin-too_long}
 use Rattle.epx_follow.proofs.follow_logs.follow_log.Given.{Over}
 use Rattle.epx_follow.proofs.follow_logs.follow_log.Goals.{After-take_lines}
 use Rattle.epx_follow.proofs.follow_logs.follow_log.Goals as goal
@@ -23,7 +25,7 @@ reads-init g c =
       c.requires.output,
       omega arith,
       omega (arith, none, c.requires.line),
-      nothing_followed g.S.Source.model c.args.each c.args.source.now c.args.follower
+      IsFollowedTo-nothing g.S.Source.model c.args.each c.args.source.now c.args.follower
           c.new-begun.result.items (g.W.Sink.model.contents c.args.output.now)
           c.new-begun.ensures.items,
     )
@@ -31,7 +33,7 @@ reads-init g c =
 pub returns-in-Err-clause-stopped : goal.returns-in-Err-clause-stopped
 returns-in-Err-clause-stopped g c =
     let contents = g.W.Sink.model.contents in
-    stops_at_read g.S.Source.model c.args.each c.args.log c.args.source.now c.reads.source
+    StopsWithin-read g.S.Source.model c.args.each c.args.log c.args.source.now c.reads.source
     c.read_some.new.self c.args.follower c.reads.follower c.reads.begun.items
     (contents c.args.output.now) (contents c.reads.output) c.reads.invariant.4.0
     c.in-Err.ensures.failing
@@ -43,12 +45,12 @@ returns-then-count-read-clause-stopped g c =
     let begun = c.reads.begun.items in
     let room = c.read_some.new.part in
     let part = take c.in-Ok.count room in
-    stops_too_long g.S.Source.model c.args.each c.args.log c.args.source.now c.reads.source
+    StopsWithin-too_long g.S.Source.model c.args.each c.args.log c.args.source.now c.reads.source
     c.read_some.new.self c.args.follower c.reads.follower begun (contents c.args.output.now)
     (contents c.reads.output) so_far.0 part (length room) c.in-Ok.ensures.delivered
     (omega (
       arith,
-      length_read so_far.0.lines begun part,
+      length-read so_far.0.lines begun part,
       so_far.1,
       length-take c.in-Ok.count room,
       c.in-Ok.ensures.bound,
@@ -60,7 +62,7 @@ returns-in_err-follower-clause-stopped g c =
     let contents = g.W.Sink.model.contents in
     let room = c.read_some.new.part in
     let p = err_from_is_err_and c.from_residual.result c.from_residual.ensures.1 in
-    rw (p.1, p.2) (stops_in_part g.S.Source.model c.args.each c.args.log c.args.source.now
+    rw (p.1, p.2) (StopsWithin-part g.S.Source.model c.args.each c.args.log c.args.source.now
     c.reads.source c.read_some.new.self c.args.follower c.reads.follower c.reads.begun.items
     (contents c.args.output.now) (contents c.reads.output) c.reads.invariant.4.0
     (take c.in-Ok.count room) (length room) c.in_err-follower.field-0.0
@@ -76,7 +78,7 @@ reads-preserved g c =
     let room = c.read_some.new.part in
     let part = take c.in-Ok.count room in
     let whole : D.has_failed c.read_some.new.self ≡ false = grind (arith, common_steps) in
-    let on = followed_on D c.args.each c.args.log c.args.source.now c.reads.source
+    let on = IsFollowedTo-step D c.args.each c.args.log c.args.source.now c.reads.source
     c.read_some.new.self c.args.follower c.reads.follower begun (W.contents c.args.output.now)
     (W.contents c.reads.output) so_far.0 part c.follow_part.new.begun.items (length room)
     c.in_ok-follower.follower (W.contents c.follow_part.new.output) c.in-Ok.ensures.delivered
@@ -134,7 +136,7 @@ returns-clause-taken g c =
     (λ u h.
     let here = subst (λ bs. TakesBytes c.args.each c.reads.follower bs u out now)
     c.deref.ensures.value h in
-    let bytes = ended_by D c.args.each c.args.log first c.reads.source last c.args.follower
+    let bytes = TakesBytes-ended D c.args.each c.args.log first c.reads.source last c.args.follower
     c.reads.follower begun was out so_far u now here in
     (so_far.lines ++ begun, all, bytes))
     c.take_lines.ensures.taken
@@ -156,7 +158,8 @@ returns-clause-stopped g c =
     [] out now)
     (λ (fault : Fault). StopsWithin D c.args.each c.args.log first last c.args.follower fault []
     was now)
-    (λ fault h. stops_at_last D c.args.each c.args.log first c.reads.source last c.args.follower
+    (λ fault h. StopsWithin-last_line D c.args.each c.args.log first c.reads.source last
+    c.args.follower
     c.reads.follower begun was out so_far fault now all
     (subst (λ bs. StopsAmong c.args.each c.reads.follower (lines_of bs) fault [] out now)
     c.deref.ensures.value h)) c.take_lines.ensures.stopped

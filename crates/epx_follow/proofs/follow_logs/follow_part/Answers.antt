@@ -9,9 +9,10 @@ use Rattle.epx_merge.specs.LogParts.{EndsLine}
 use Rattle.epx_follow.specs.Following.{FollowerView}
 use Rattle.epx_follow.specs.FollowingStops.{StopsAmong}
 use Rattle.epx_follow.specs.inner.PartsTaken.{StopsInPart, TakesBytes, TakesPart}
-use Rattle.epx_follow.proofs.LogPartLemmas.{cut_part, ends_after, stops_in_lines}
-use Rattle.epx_follow.proofs.LogPartLemmas.{stops_once_taken, takes_all_lines, takes_no_lines}
-use Rattle.epx_follow.proofs.LogPartLemmas.{takes_then}
+use Rattle.epx_follow.proofs.LogPartLemmas.{take-append_drop, EndsLine-begun, StopsInPart-lines}
+use Rattle.epx_follow.proofs.LogPartLemmas.{StopsInPart-taken, TakesPart-all_lines}
+use Rattle.epx_follow.proofs.LogPartLemmas.{TakesPart-no_lines}
+use Rattle.epx_follow.proofs.LogPartLemmas.{TakesPart-append}
 use Rattle.epx_follow.proofs.follow_logs.follow_part.Given.{Over}
 use Rattle.epx_follow.proofs.follow_logs.follow_part.Goals.{After-extend_from_slice-2}
 use Rattle.epx_follow.proofs.follow_logs.follow_part.Goals.{else-end-gt0}
@@ -23,8 +24,8 @@ returns-in_err-map_err-clause-stopped g c =
     let v = c.args.follower in
     let bytes = c.args.begun.now.items ++ c.args.part.now in
     let out = g.W.Sink.model.contents c.args.output.now in
-    let lost = stops_once_taken c.args.each v v bytes bytes out out
-    (takes_no_lines c.args.each v v bytes bytes out out refl refl refl) in
+    let lost = StopsInPart-taken c.args.each v v bytes bytes out out
+    (TakesPart-no_lines c.args.each v v bytes bytes out out refl refl refl) in
     let p = err_from_is_err_and c.from_residual.result c.from_residual.ensures.1 in
     rw (p.1, p.2) lost
 
@@ -40,11 +41,11 @@ returns-in_err-follower-clause-stopped g c =
     let now = W.contents c.take_lines.new.output in
     let fault = c.in_err-follower.field-0.0 in
     let grown : c.extend_from_slice.new.self.items ≡ first = grind (arith, common_steps) in
-    let whole : EndsLine first = ends_after begun part end c.if-end-gt0.true
+    let whole : EndsLine first = EndsLine-begun begun part end c.if-end-gt0.true
     c.lines_end-end.ensures.within c.lines_end-end.ensures.lines in
     let stops : StopsInPart c.args.each v (begun ++ part) fault was now =
-    subst (λ bs. StopsInPart c.args.each v bs fault was now) (cut_part begun part end)
-    (stops_in_lines c.args.each v first (drop end part) fault was now whole
+    subst (λ bs. StopsInPart c.args.each v bs fault was now) (take-append_drop begun part end)
+    (StopsInPart-lines c.args.each v first (drop end part) fault was now whole
     (subst (λ bs. StopsAmong c.args.each v (lines_of bs) fault [] was now)
     (c.deref.ensures.value ∙ grown) c.in_err-follower.ensures.stopped)) in
     let p = err_from_is_err_and c.from_residual-in_err-follower.result
@@ -70,9 +71,9 @@ taken_first g c =
       | then-end-gt0+in_ok-map_err+in_ok-follower w ↦
           let grown : w.extend_from_slice.new.self.items ≡ first = grind (arith, common_steps) in
           let cleared : w.clear.new.self.items ≡ [] = grind (arith, common_steps) in
-          takes_all_lines c.args.each v w.in_ok-follower.follower c.if-end-gt0.follower first
+          TakesPart-all_lines c.args.each v w.in_ok-follower.follower c.if-end-gt0.follower first
           c.if-end-gt0.begun.items was (W.contents w.take_lines.new.output) now
-          (ends_after begun part end w.if-end-gt0.true c.lines_end-end.ensures.within
+          (EndsLine-begun begun part end w.if-end-gt0.true c.lines_end-end.ensures.within
           c.lines_end-end.ensures.lines)
           (subst (λ bs. TakesBytes c.args.each v bs w.in_ok-follower.follower was
           (W.contents w.take_lines.new.output))
@@ -81,7 +82,8 @@ taken_first g c =
       | else-end-gt0 w ↦
           let zero : end ≡ 0 = omega (arith, w.if-end-gt0.false) in
           let same : first ≡ begun = ap (λ n. begun ++ take n part) zero ∙ append-nil begun in
-          takes_no_lines c.args.each v c.if-end-gt0.follower first c.if-end-gt0.begun.items was now
+          TakesPart-no_lines c.args.each v c.if-end-gt0.follower first c.if-end-gt0.begun.items was
+          now
           w.follower-is (same ∙ sym (ap (λ b. b.items) w.begun-is)) (ap W.contents w.output-is)
     ]
 
@@ -97,10 +99,12 @@ returns-in_err-map_err-2-clause-stopped g c =
     let now = W.contents c.if-end-gt0.output in
     let taken = taken_first g
     (goal.at.returns-in_err-map_err-2-clause-stopped g c).After-extend_from_slice-2 in
-    let lost = subst (λ bs. StopsInPart c.args.each v bs Memory was now) (cut_part begun part end)
-    (stops_once_taken c.args.each v c.if-end-gt0.follower (first ++ drop end part)
+    let lost =
+    subst (λ bs. StopsInPart c.args.each v bs Memory was now) (take-append_drop begun part end)
+    (StopsInPart-taken c.args.each v c.if-end-gt0.follower (first ++ drop end part)
     (c.if-end-gt0.begun.items ++ drop end part) was now
-    (takes_then c.args.each v c.if-end-gt0.follower first c.if-end-gt0.begun.items (drop end part)
+    (TakesPart-append c.args.each v c.if-end-gt0.follower first c.if-end-gt0.begun.items
+    (drop end part)
     was now taken)) in
     let p = err_from_is_err_and c.from_residual-in_err-map_err-2.result
     c.from_residual-in_err-map_err-2.ensures.1 in
@@ -120,8 +124,9 @@ returns-clause-taken g c =
     let grown : c.extend_from_slice-2.new.self.items ≡ c.if-end-gt0.begun.items ++ drop end part =
     grind (arith, common_steps, take-rest end part) in
     subst₂ (λ bs left. TakesPart c.args.each v bs c.if-end-gt0.follower left was now)
-    (cut_part begun part end) (sym grown)
-    (takes_then c.args.each v c.if-end-gt0.follower first c.if-end-gt0.begun.items (drop end part)
+    (take-append_drop begun part end) (sym grown)
+    (TakesPart-append c.args.each v c.if-end-gt0.follower first c.if-end-gt0.begun.items
+    (drop end part)
     was now taken)
 
 pub returns-clause-counted : goal.returns-clause-counted
@@ -158,6 +163,6 @@ returns-clause-counted g c =
       counted,
       ap length grown,
       length-append left (drop end part),
-      ap length (cut_part begun part end),
+      ap length (take-append_drop begun part end),
       length-append first (drop end part),
     )

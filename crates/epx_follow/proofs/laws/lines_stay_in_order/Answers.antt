@@ -1,5 +1,5 @@
-use Rattle.epx_follow.proofs.PlaceOrderLemmas.{lines_stay_in_order}
+use Rattle.epx_follow.proofs.PlaceOrderLemmas.{LinesStayInOrder-holds}
 use Rattle.epx_follow.proofs.laws.lines_stay_in_order.Goals as goal
 
 pub returns : goal.returns
-returns c = lines_stay_in_order
+returns c = LinesStayInOrder-holds

@@ -3,8 +3,9 @@ use Rattle.std.proofs.Common.{true≢false}
 use Rattle.std.proofs.lemmas.Bool.{false_from_ne_true}
 use Rattle.std.proofs.lemmas.Result.{err_from_is_err_and}
 use Rattle.epx_lines.specs.Lines.{lines_of}
-use Rattle.epx_follow.proofs.LogsTakenLemmas.{stops_there}
-use Rattle.epx_follow.proofs.OpenBatchLemmas.{TakesTo, all_taken, held_on, line_on, taken_stops}
+use Rattle.epx_follow.proofs.LogsTakenLemmas.{StopsAmong-line}
+use Rattle.epx_follow.proofs.OpenBatchLemmas.{TakesTo, TakesBytes-to_end, TakesTo-held}
+use Rattle.epx_follow.proofs.OpenBatchLemmas.{TakesTo-line, StopsAmong-taken}
 use Rattle.epx_follow.proofs.take_lines.take_lines.Given.{Over}
 use Rattle.epx_follow.proofs.take_lines.take_lines.Goals as goal
 use Rattle.epx_follow.proofs.take_lines.take_lines.Goals.{In_ok-held}
@@ -13,7 +14,7 @@ use Rattle.epx_follow.proofs.take_lines.take_lines.Goals.{In_ok-held}
 so_far : (g : Over) (c : In_ok-held g) → TakesTo c.args.each c.args.follower c.args.bytes.now
     c.in_ok-held.held c.in_ok-held.others.now (g.W.Sink.model.contents c.args.output.now)
     (g.W.Sink.model.contents c.loop-rest.output)
-so_far g c = held_on c.args.each c.args.follower c.loop-rest.follower c.in_ok-held.held
+so_far g c = TakesTo-held c.args.each c.args.follower c.loop-rest.follower c.in_ok-held.held
     c.args.bytes.now c.loop-rest.rest.now c.in_ok-held.others.now
     (g.W.Sink.model.contents c.args.output.now) (g.W.Sink.model.contents c.loop-rest.output)
     c.loop-rest.invariant.2 c.in_ok-held.ensures.held
@@ -23,7 +24,8 @@ returns-in_err-held-clause-stopped g c =
     let contents = g.W.Sink.model.contents in
     let now = contents c.loop-rest.output in
     let p = err_from_is_err_and c.from_residual.result c.from_residual.ensures.1 in
-    rw (p.1, p.2) (taken_stops c.args.each c.args.follower c.loop-rest.follower c.args.bytes.now
+    rw (p.1, p.2)
+    (StopsAmong-taken c.args.each c.args.follower c.loop-rest.follower c.args.bytes.now
     c.loop-rest.rest.now c.in_err-held.field-0.0 (contents c.args.output.now) now now
     c.loop-rest.invariant.2 (c.in_err-held.ensures.refused now))
 
@@ -35,9 +37,11 @@ returns-in_err-held-clause-failed g c =
     )
 
 pub returns-then-is_empty-clause-taken : goal.returns-then-is_empty-clause-taken
-returns-then-is_empty-clause-taken g c = all_taken c.args.each c.args.follower c.in_ok-held.held
+returns-then-is_empty-clause-taken g c =
+    TakesBytes-to_end c.args.each c.args.follower c.in_ok-held.held
     c.args.bytes.now c.in_ok-held.others.now (g.W.Sink.model.contents c.args.output.now)
-    (g.W.Sink.model.contents c.loop-rest.output) (so_far g (goal.at.returns-then-is_empty-clause-taken g c).In_ok-held) (search rules)
+    (g.W.Sink.model.contents c.loop-rest.output)
+    (so_far g (goal.at.returns-then-is_empty-clause-taken g c).In_ok-held) (search rules)
 
 pub returns-in_err-follower-clause-stopped : goal.returns-in_err-follower-clause-stopped
 returns-in_err-follower-clause-stopped g c =
@@ -47,7 +51,7 @@ returns-in_err-follower-clause-stopped g c =
     let here = so_far g (goal.at.returns-in_err-follower-clause-stopped g c).In_ok-held in
     let p = err_from_is_err_and c.from_residual-in_err-follower.result
     c.from_residual-in_err-follower.ensures.1 in
-    rw (p.1, p.2) (stops_there c.args.each c.args.follower c.in_ok-held.held here.0 more
+    rw (p.1, p.2) (StopsAmong-line c.args.each c.args.follower c.in_ok-held.held here.0 more
     (lines_of c.args.bytes.now) line c.in_err-follower.field-0.0 (contents c.args.output.now)
     (contents c.loop-rest.output) (contents c.take_and_write.new.output) here.1 here.3 here.4
     c.in_err-follower.ensures.stopped (here.2 ∙ ap (λ ls. here.0 ++ ls) c.cut_line.ensures.lines))
@@ -70,7 +74,7 @@ loop-rest-preserved g c =
         c.in_ok-follower.ensures.counted,
         c.cut_line.ensures.rest,
       ),
-      line_on c.args.each c.args.follower c.in_ok-held.held next c.args.bytes.now
+      TakesTo-line c.args.each c.args.follower c.in_ok-held.held next c.args.bytes.now
           c.in_ok-held.others.now c.cut_line.result.0.now c.cut_line.result.1.now
           (contents c.args.output.now) (contents c.loop-rest.output)
           (contents c.take_and_write.new.output) taken.0 here c.cut_line.ensures.lines taken.1
@@ -78,6 +82,6 @@ loop-rest-preserved g c =
     )
 
 pub returns-clause-taken : goal.returns-clause-taken
-returns-clause-taken g c = all_taken c.args.each c.args.follower c.loop-rest.follower
+returns-clause-taken g c = TakesBytes-to_end c.args.each c.args.follower c.loop-rest.follower
     c.args.bytes.now c.loop-rest.rest.now (g.W.Sink.model.contents c.args.output.now)
     (g.W.Sink.model.contents c.loop-rest.output) c.loop-rest.invariant.2 (search rules)

@@ -3,7 +3,7 @@ use Rattle.std.proofs.Common.{take, drop, get_or, sym, ap, subst, ◌∙◌}
 use Rattle.epx_types.specs.declared.id.Id.{Id}
 use Rattle.epx_graph.specs.inner.Remainder.{rest_of}
 use Rattle.epx_graph.specs.inner.Nodes.{ArePositionsOf}
-use Rattle.epx_graph.proofs.RisingRowLemmas.{missing_skip, missing_more}
+use Rattle.epx_graph.proofs.RisingRowLemmas.{ArePositionsOf-skip, ArePositionsOf-push}
 use Rattle.epx_graph.proofs.build_graph.number_missing.Goals as goal
 use Rattle.epx_graph.proofs.build_graph.number_missing.Goals.{in-Some+in_ok-push, in_default}
 
@@ -29,12 +29,12 @@ loop-id-preserved c =
           ap (λ r. r.items) w.row-is ∙ w.in_ok-push.ensures.items
           ∙ ap (λ n. row ++ (n + index) ∷ []) front in
           subst (ArePositionsOf ids more) (sym is)
-          (missing_more m ids c.requires.nodes xs c.requires.rising c.requires.missing i
+          (ArePositionsOf-push m ids c.requires.nodes xs c.requires.rising c.requires.missing i
           c.loop-id-test.true row c.loop-id.invariant index at)
       | in_default w ↦
           let none = subst (λ (l : List Id). ¬ Contains l x) nodes w.in_default.ensures in
           let is : c.match-find_id.row.items ≡ row = ap (λ r. r.items) w.row-is in
           subst (ArePositionsOf ids more) (sym is)
-          (missing_skip m ids c.requires.nodes xs c.requires.rising c.requires.missing i
+          (ArePositionsOf-skip m ids c.requires.nodes xs c.requires.rising c.requires.missing i
           c.loop-id-test.true row c.loop-id.invariant none)
     ]

@@ -3,7 +3,7 @@ use Rattle.epx_types.proofs.Common.{IfOk-weaker}
 use Rattle.epx_graph.specs.declared.dependency_rows.Gathered.{Gathered}
 use Rattle.epx_graph.specs.inner.Remainder.{rest_of}
 use Rattle.epx_graph.specs.inner.Nodes.{IsGatheredOf, instances_of_piece}
-use Rattle.epx_graph.proofs.GatherPieceLemmas.{gathered_all, IfOk-both}
+use Rattle.epx_graph.proofs.GatherPieceLemmas.{IsGatheredOf-all, IfOk-both}
 use Rattle.epx_graph.proofs.dependency_rows.committed_rows.Goals as goal
 
 pub returns : goal.returns
@@ -14,7 +14,7 @@ returns g c =
     let rows_in = λ (piece : Gathered). piece.rows in
     let ids_in = λ (piece : Gathered). piece.missing.items in
     let found = c.in_ok-gathered.gathered.items in
-    let all = gathered_all rows_in ids_in m pieces.size found pieces.count
+    let all = IsGatheredOf-all rows_in ids_in m pieces.size found pieces.count
     (omega (arith, c.len.ensures.len, c.new-pieces.ensures.all)) (record {
       len = answers.len;
       each = λ i inside.

@@ -1,8 +1,8 @@
 use Rattle.std.proofs.Common.{sym, ap, ◌∙◌, append-nil}
 use Rattle.epx_types.specs.declared.id.Id.{Id}
-use Rattle.epx_rows.specs.OpenRows.{OpenRowView}
+use Rattle.epx_rows.specs.between.OpenRows.{OpenRowView}
 use Rattle.epx_graph.specs.declared.remainder.IdState.TheVariants as found
-use Rattle.epx_graph.proofs.RemainderLemmas.{gathered_next}
+use Rattle.epx_graph.proofs.RemainderLemmas.{positions_in-take}
 use Rattle.epx_graph.proofs.dependency_rows.gather.Goals as goal
 use Rattle.epx_graph.proofs.dependency_rows.gather.Goals.{in-Left+in_ok-push-in-Left, in-Done}
 use Rattle.epx_graph.proofs.dependency_rows.gather.Goals.{in-Missing+in_ok-push-in-Missing}
@@ -13,7 +13,7 @@ loop-id-preserved c =
     let row = c.loop-id.row.row in
     let missing = c.loop-id.missing.items in
     let old = c.loop-id.invariant in
-    let next = gathered_next c.args.left.now c.args.deps.now c.loop-id.id-index d
+    let next = positions_in-take c.args.left.now c.args.deps.now c.loop-id.id-index d
     c.loop-id-test.true in
     elim c.match-look_up.branch [
       | in-Left+in_ok-push-in-Left w ↦

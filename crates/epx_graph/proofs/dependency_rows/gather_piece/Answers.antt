@@ -3,8 +3,8 @@ use Rattle.std.proofs.Common.{slice_range}
 use Rattle.epx_types.proofs.Common.{without_deps, remaining_ids}
 use Rattle.epx_graph.specs.inner.Remainder.{rest_of}
 use Rattle.epx_graph.specs.inner.Nodes.{positions_of, missing_of, IsGatheredOf, first_of_piece}
-use Rattle.epx_graph.proofs.GatherPieceLemmas.{gathered_none, gathered_more}
-use Rattle.epx_graph.proofs.RemainderLemmas.{rest_rises}
+use Rattle.epx_graph.proofs.GatherPieceLemmas.{IsGatheredOf-nil, IsGatheredOf-push}
+use Rattle.epx_graph.proofs.RemainderLemmas.{IsRising-remaining_ids}
 use Rattle.epx_graph.proofs.dependency_rows.gather_piece.Goals as goal
 
 pub loop-index-init : goal.loop-index-init
@@ -13,7 +13,7 @@ loop-index-init c =
     let first = first_of_piece c.args.pieces.size c.args.pieces.instances c.args.piece in
     subst (λ n. IsGatheredOf m (slice_range m first n) c.in_ok-rows.rows
     c.new-missing.result.items) (sym c.range-start.ensures.start)
-    (gathered_none m first c.in_ok-rows.rows c.new-missing.result.items c.in_ok-rows.ensures
+    (IsGatheredOf-nil m first c.in_ok-rows.rows c.new-missing.result.items c.in_ok-rows.ensures
     c.new-missing.ensures.items)
 
 pub loop-index-preserved : goal.loop-index-preserved
@@ -38,8 +38,8 @@ loop-index-preserved c =
     ∙ sym c.in_ok-rows-2.ensures.missing in
     subst (IsGatheredOf m more c.in_ok-rows-2.rows) missing_are
     (subst (λ (r : List (List ℕ)). IsGatheredOf m more r (missing ++ missing_of m deps)) rows_are
-    (gathered_more m first c.loop-index.index (without_deps done e) rows missing low
-    c.entry_at.ensures (rest_rises done e.deps c.deps.ensures.fits.rising)
+    (IsGatheredOf-push m first c.loop-index.index (without_deps done e) rows missing low
+    c.entry_at.ensures (IsRising-remaining_ids done e.deps c.deps.ensures.fits.rising)
     c.loop-index.invariant))
 
 pub returns : goal.returns

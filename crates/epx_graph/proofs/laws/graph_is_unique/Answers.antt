@@ -1,5 +1,5 @@
-use Rattle.epx_graph.proofs.GraphUniquenessLemmas.{graph_is_unique}
+use Rattle.epx_graph.proofs.GraphUniquenessLemmas.{GraphIsUnique-holds}
 use Rattle.epx_graph.proofs.laws.graph_is_unique.Goals as goal
 
 pub returns : goal.returns
-returns c = graph_is_unique
+returns c = GraphIsUnique-holds

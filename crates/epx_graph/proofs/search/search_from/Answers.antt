@@ -1,9 +1,10 @@
 use Rattle.std.proofs.Common.{◌≡◌, ◌<◌, ◌+◌, ℕ, List, [], ◌∷◌, length, flat_map, sym, subst, subst₂}
 use Rattle.std.proofs.Common.{arith}
 use Rattle.epx_types.proofs.Common.{nat_tests, nil_from_length}
-use Rattle.epx_rows.specs.Rows.{row_of}
+use Rattle.epx_rows.specs.between.Rows.{row_of}
 use Rattle.epx_graph.specs.inner.Searches.{mark_by, SearchView, IsVisit, IsLevelSearch}
-use Rattle.epx_graph.proofs.SearchLemmas.{search_first, search_next, search_end}
+use Rattle.epx_graph.proofs.SearchLemmas.{IsLevelSearch-start, IsLevelSearch-next}
+use Rattle.epx_graph.proofs.SearchLemmas.{IsSearchFrom-at_end}
 use Rattle.epx_graph.proofs.search.search_from.Goals as goal
 
 pub loop-kind-init : goal.loop-kind-init
@@ -17,7 +18,7 @@ loop-kind-init c =
     subst₂ (λ (m : ℕ) (l : List ℕ). IsVisit (start ∷ []) m (record { marks = marks; level = l })
     new) c.mark_after.ensures c.requires.level c.in_ok-visit.ensures in
     record {
-      search = search_first rows start mark marks c.requires.closed new visits;
+      search = IsLevelSearch-start rows start mark marks c.requires.closed new visits;
       next = c.requires.next;
     }
 
@@ -45,7 +46,7 @@ loop-kind-preserved c =
     record {
       search = subst (λ (l : List ℕ). IsLevelSearch rows start mark before (n + 1)
           (record { marks = after; level = l })) (sym level)
-          (search_next rows start mark before c.requires.closed n old new
+          (IsLevelSearch-next rows start mark before c.requires.closed n old new
           c.loop-kind.invariant.search some visits);
       next = rw c.swap.ensures.y_after c.clear.ensures.items;
     }
@@ -55,6 +56,7 @@ returns-clause-marks c =
     let items = c.loop-kind.level.items in
     let none : length items ≡ 0 =
     grind (arith, nat_tests, c.is_empty.ensures, c.loop-kind-test.false) in
-    search_end c.args.rows.now c.args.start (mark_by c.args.kind c.args.start) c.args.marks.now
+    IsSearchFrom-at_end c.args.rows.now c.args.start (mark_by c.args.kind c.args.start)
+    c.args.marks.now
     c.requires.closed c.loop-kind.steps (record { marks = c.loop-kind.marks; level = items })
     c.loop-kind.invariant.search (nil_from_length items none)

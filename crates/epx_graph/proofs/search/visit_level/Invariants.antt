@@ -1,5 +1,5 @@
 use Rattle.std.proofs.Common.{take, flat_map}
-use Rattle.epx_rows.specs.Rows.{row_of}
+use Rattle.epx_rows.specs.between.Rows.{row_of}
 use Rattle.epx_graph.specs.inner.Searches.{IsVisit}
 use Rattle.epx_graph.proofs.search.visit_level.Given as goal
 

@@ -4,8 +4,9 @@ use Rattle.epx_graph.specs.Graphs.{DependencyGraph, IsGraph}
 use Rattle.epx_graph.specs.inner.LeastMissing.{AreMarksOf}
 use Rattle.epx_graph.specs.inner.Searches.{node_mark}
 use Rattle.epx_graph.specs.inner.Waiters.{IsWaiter, AreWaiters}
-use Rattle.epx_graph.proofs.GraphNodeLemmas.{reached_within}
-use Rattle.epx_graph.proofs.WaiterLemmas.{waiters_none, waiters_skip, waiters_more, waiting_list}
+use Rattle.epx_graph.proofs.GraphNodeLemmas.{IsNodePath-within}
+use Rattle.epx_graph.proofs.WaiterLemmas.{AreWaiters-nil, AreWaiters-skip, AreWaiters-push}
+use Rattle.epx_graph.proofs.WaiterLemmas.{IsWaitingList-from_waiters}
 use Rattle.epx_graph.proofs.waiters.waiting.Goals as goal
 
 mark_read : (g : DependencyGraph) (marks : List (Option ℕ)) (k n : ℕ) (mark : Option ℕ)
@@ -16,7 +17,7 @@ mark_read g marks k n mark graph are all l read =
 
 pub loop-node-init : goal.loop-node-init
 loop-node-init c = rw c.new-waiters.ensures.items
-    (waiters_none c.args.graph.now c.in_ok-marks.marks.items)
+    (AreWaiters-nil c.args.graph.now c.in_ok-marks.marks.items)
 
 pub id-requires-in-loop-node : goal.id-requires-in-loop-node
 id-requires-in-loop-node c =
@@ -28,7 +29,7 @@ id-requires-in-loop-node c =
     c.index.result.now graph are c.committed_len-node-end.ensures c.loop-node-test.true
     c.index.ensures in
     let found = are.marked k c.in-Some.missing (mark ∙ c.in-Some.is) in
-    reached_within g graph k found.reached.0 c.in-Some.missing
+    IsNodePath-within g graph k found.reached.0 c.in-Some.missing
     (omega (
       arith,
       c.loop-node-test.true,
@@ -43,7 +44,7 @@ loop-node-preserved-in_default c =
     let mark = mark_read c.args.graph.now marks k c.committed_len-node-end.result
     c.index.result.now c.in_ok-marks.ensures.fits c.in_ok-marks.ensures.marks
     c.committed_len-node-end.ensures c.loop-node-test.true c.index.ensures in
-    waiters_skip c.args.graph.now marks k c.loop-node.waiters.items (mark ∙ c.in_default.is)
+    AreWaiters-skip c.args.graph.now marks k c.loop-node.waiters.items (mark ∙ c.in_default.is)
     c.loop-node.invariant
 
 pub loop-node-preserved : goal.loop-node-preserved
@@ -64,7 +65,7 @@ loop-node-preserved c =
       missing = c.id-in-loop-node.ensures;
     } in
     rw c.in_ok-push.ensures.items
-    (waiters_more g graph marks k c.loop-node.waiters.items w
+    (AreWaiters-push g graph marks k c.loop-node.waiters.items w
     (omega (arith, c.loop-node-test.true, c.committed_len-node-end.ensures)) waits
     c.loop-node.invariant)
 
@@ -79,5 +80,5 @@ returns c m is =
       c.loop-node-test.false,
       c.loop-node.auto.node-end,
     ) in
-    waiting_list m g is marks c.in_ok-marks.ensures.marks c.loop-node.waiters.items
+    IsWaitingList-from_waiters m g is marks c.in_ok-marks.ensures.marks c.loop-node.waiters.items
     (subst (λ n. AreWaiters g marks n c.loop-node.waiters.items) all c.loop-node.invariant)

@@ -1,5 +1,5 @@
-use Rattle.epx_laws.proofs.NotReachedLemmas.{order_before}
+use Rattle.epx_laws.proofs.NotReachedLemmas.{Before-exists}
 use Rattle.epx_laws.proofs.order.not_reached_can_follow.Goals as goal
 
 pub returns : goal.returns
-returns c = order_before
+returns c = Before-exists

@@ -1,5 +1,5 @@
-use Rattle.epx_types.proofs.Common.{leader_exists}
+use Rattle.epx_types.proofs.Common.{IsLeader-exists}
 use Rattle.epx_laws.proofs.reaching.leader_exists.Goals as goal
 
 pub returns : goal.returns
-returns c = leader_exists
+returns c = IsLeader-exists

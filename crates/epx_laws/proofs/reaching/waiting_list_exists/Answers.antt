@@ -1,5 +1,5 @@
-use Rattle.epx_types.proofs.Common.{waiting_list_exists}
+use Rattle.epx_types.proofs.Common.{IsWaitingList-exists}
 use Rattle.epx_laws.proofs.reaching.waiting_list_exists.Goals as goal
 
 pub returns : goal.returns
-returns c = waiting_list_exists
+returns c = IsWaitingList-exists

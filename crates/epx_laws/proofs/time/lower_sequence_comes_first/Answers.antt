@@ -1,5 +1,5 @@
-use Rattle.epx_laws.proofs.TimeLemmas.{lower_first}
+use Rattle.epx_laws.proofs.TimeLemmas.{Before-lower_seq}
 use Rattle.epx_laws.proofs.time.lower_sequence_comes_first.Goals as goal
 
 pub returns : goal.returns
-returns c = lower_first
+returns c = Before-lower_seq

@@ -2,20 +2,21 @@ use Rattle.std.proofs.Common.{◌≡◌, ◌<◌, ◌∙◌, Some, IfSome, lengt
 use Rattle.std.proofs.lemmas.Option.{slice_get-get_or}
 use Rattle.std.proofs.lemmas.Bool.Decides.{not_from_Decides}
 use Rattle.epx_types.proofs.Common.{Contains-slice_get}
-use Rattle.epx_linear.proofs.AnswerLemmas.{absent, present, one_position, replies_decide}
+use Rattle.epx_linear.proofs.AnswerLemmas.{Contains-call_absent, slice_get-call_present}
+use Rattle.epx_linear.proofs.AnswerLemmas.{position-is_unique, Decides-reply_eq}
 use Rattle.epx_linear.proofs.call_answers.check_answer.Goals as goal
 
 pub returns-in-Some-returned : goal.returns-in-Some-returned
 returns-in-Some-returned c ids once at = (
   (c.in-Some-returned.field-0, c.in-Some-returned.is),
-  absent ids once c.args.replies.now c.args.call.now (sym c.in_default.is ∙ at),
+  Contains-call_absent ids once c.args.replies.now c.args.call.now (sym c.in_default.is ∙ at),
 )
 
 pub returns-in-None : goal.returns-in-None
 returns-in-None c ids once at = (
   λ t e. absurd (cc (c.in-None.is, e)),
   λ r i e here. absurd
-      (absent ids once c.args.replies.now c.args.call.now (sym c.in_default.is ∙ at)
+      (Contains-call_absent ids once c.args.replies.now c.args.call.now (sym c.in_default.is ∙ at)
       (Contains-slice_get ids i c.args.call.now.id here)),
 )
 
@@ -32,11 +33,12 @@ returns-then-eq c ids once at =
     slice_get-get_or replies p reply within ∙ ap Some (sym c.index-replies-position.is) in
     let answer = c.in-Some-answer.answer in
     let same : answer ≡ reply =
-    (replies_decide answer reply).0 (sym c.eq.ensures ∙ c.if-eq.true) in (
-      λ t e. Contains-slice_get ids p call.id (present ids once replies call p some),
+    (Decides-reply_eq answer reply).0 (sym c.eq.ensures ∙ c.if-eq.true) in (
+      λ t e. Contains-slice_get ids p call.id (slice_get-call_present ids once replies call p some),
       λ r i e here.
           let is_answer : Some answer ≡ Some r = sym c.in-Some-answer.is ∙ e in
-          ap (slice_get replies) (sym (one_position ids once replies call p i some here)) ∙ read
+          ap (slice_get replies) (sym (position-is_unique ids once replies call p i some here))
+          ∙ read
           ∙ ap Some (sym same) ∙ is_answer,
     )
 
@@ -56,9 +58,9 @@ returns-else-eq c ids once at =
       reply,
       p,
       c.in-Some-answer.is,
-      present ids once replies call p some,
+      slice_get-call_present ids once replies call p some,
       read,
-      not_from_Decides _ (replies_decide answer reply) (sym c.eq.ensures ∙ c.if-eq.false),
+      not_from_Decides _ (Decides-reply_eq answer reply) (sym c.eq.ensures ∙ c.if-eq.false),
     )
 
 pub returns-in-None-answer : goal.returns-in-None-answer
@@ -67,6 +69,6 @@ returns-in-None-answer c ids once at =
     let p = c.in-Some.position in
     let some = sym c.in-Some.is ∙ at in (
       λ t e. Contains-slice_get ids p call.id
-          (present ids once c.args.replies.now call p some),
+          (slice_get-call_present ids once c.args.replies.now call p some),
       λ r i e here. absurd (cc (c.in-None-answer.is, e)),
     )

@@ -2,7 +2,7 @@ use Rattle.std.proofs.Common.{◌≡◌, ◌∙◌, Some, length, map, position,
 use Rattle.std.proofs.lemmas.Option.{slice_get-get_or}
 use Rattle.epx_types.proofs.Common.{length_push}
 use Rattle.epx_types.specs.declared.command.Command.{Command}
-use Rattle.epx_linear.proofs.AnswerLemmas.{one_more_checked}
+use Rattle.epx_linear.proofs.AnswerLemmas.{AreChecked-push}
 use Rattle.epx_linear.proofs.SpanLemmas.{same_id}
 use Rattle.epx_linear.proofs.call_answers.check_answers.Goals as goal
 
@@ -21,7 +21,7 @@ loop-call-preserved c =
     ∙ ap Some (sym c.call-item.is) in (
       ap length c.in_ok-push.ensures.items
           ∙ omega (arith, length_push found o, c.loop-call.invariant.0),
-      one_more_checked ids c.args.replies.now h found c.push.new.self.items call o here
+      AreChecked-push ids c.args.replies.now h found c.push.new.self.items call o here
           (c.check_answer.ensures ids c.requires.once place) c.in_ok-push.ensures.items
           c.loop-call.invariant.1,
     )

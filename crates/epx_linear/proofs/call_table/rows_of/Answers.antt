@@ -1,7 +1,7 @@
 use Rattle.std.proofs.Common.{◌≡◌, ◌∙◌, ◌++◌, ◌∷◌, [], ◌+◌, get_or, ap, map, subst, sym, length}
 use Rattle.epx_types.proofs.Common.{length_push}
 use Rattle.epx_linear.specs.declared.call_table.CallRow.{CallRow}
-use Rattle.epx_linear.proofs.CallRowLemmas.{AreNumbered, number_more, row_more}
+use Rattle.epx_linear.proofs.CallRowLemmas.{AreNumbered, AreNumbered-push, map-push_row}
 use Rattle.epx_linear.proofs.call_table.rows_of.Goals as goal
 
 pub loop-at-preserved : goal.loop-at-preserved
@@ -16,8 +16,8 @@ loop-at-preserved c =
     let longer : length c.push.new.self.items ≡ length (rows ++ row ∷ []) = ap length pushed in
     record {
       ids = ap (map (λ (r : CallRow). r.id)) pushed
-          ∙ row_more calls at call c.loop-at-test.true rows is.ids;
+          ∙ map-push_row calls at call c.loop-at-test.true rows is.ids;
       places = subst (AreNumbered (λ (r : CallRow). r.at)) (sym pushed)
-          (number_more (λ (r : CallRow). r.at) rows row is.places (sym is.len));
+          (AreNumbered-push (λ (r : CallRow). r.at) rows row is.places (sym is.len));
       len = longer ∙ length_push rows row ∙ ap (λ n. n + 1) is.len;
     }

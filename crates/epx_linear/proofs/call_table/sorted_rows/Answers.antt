@@ -4,8 +4,9 @@ use Rattle.epx_types.specs.declared.id.Id.{Id}
 use Rattle.epx_linear.specs.declared.call_table.CallRow.{CallRow}
 use Rattle.epx_linear.specs.inner.CallRows.{AreCallRows}
 use Rattle.epx_linear.specs.inner.HistoryReadings.{called_ids}
-use Rattle.epx_linear.proofs.SpanLemmas.{apart_moved, ids_apart}
-use Rattle.epx_linear.proofs.CallRowLemmas.{rows_in_order, rows_moved, sorted_rise}
+use Rattle.epx_linear.proofs.SpanLemmas.{AllPairs-permutation, AllPairs-call_ids}
+use Rattle.epx_linear.proofs.CallRowLemmas.{AreCallRows-in_order, AreCallRows-permutation}
+use Rattle.epx_linear.proofs.CallRowLemmas.{IsRising-sorted}
 use Rattle.epx_linear.proofs.call_table.sorted_rows.Goals as goal
 
 pub returns-clause-rows : goal.returns-clause-rows
@@ -17,8 +18,9 @@ returns-clause-rows g c =
     let read = c.deref_mut.ensures.value in
     let written = with_items_is rows sorted (sort.len ∙ (ap length read ∙ sym rows.ok.0)) in
     subst (AreCallRows called) (sym written)
-    (rows_moved called c.deref_mut.result.now sorted (subst (AreCallRows called) (sym read)
-    (rows_in_order called rows.items c.in_ok-rows.ensures)) sort.permutation)
+    (AreCallRows-permutation called c.deref_mut.result.now sorted
+    (subst (AreCallRows called) (sym read)
+    (AreCallRows-in_order called rows.items c.in_ok-rows.ensures)) sort.permutation)
 
 pub returns-clause-rising : goal.returns-clause-rising
 returns-clause-rising g c history =
@@ -31,8 +33,9 @@ returns-clause-rising g c history =
     let named : map (λ (r : CallRow). r.id) c.deref_mut.result.now ≡ called_ids calls =
     ap (map (λ (r : CallRow). r.id)) read ∙ c.in_ok-rows.ensures.named in
     let apart = subst (AllPairs (λ (x : Id) (y : Id). x ≢ y)) (sym named)
-    (ids_apart calls history) in
+    (AllPairs-call_ids calls history) in
     subst (λ l. IsRising (map (λ (r : CallRow). r.id) l)) (sym written)
-    (sorted_rise sorted
-    (apart_moved (λ (r : CallRow). r.id) c.deref_mut.result.now sorted apart sort.permutation)
+    (IsRising-sorted sorted
+    (AllPairs-permutation (λ (r : CallRow). r.id) c.deref_mut.result.now sorted apart
+    sort.permutation)
     sort.sorted)

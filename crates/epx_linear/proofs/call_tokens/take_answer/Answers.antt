@@ -1,6 +1,6 @@
 use Rattle.std.proofs.Common.{◌≡◌, [], ◌∷◌, Some, option_map, refl, ap, arith}
 use Rattle.json.specs.Json.{after_end_array}
-use Rattle.epx_lines.specs.Tokens.{ReadsValues}
+use Rattle.epx_lines.specs.between.Tokens.{ReadsValues}
 use Rattle.epx_linear.proofs.call_tokens.take_answer.Goals as goal
 
 pub returns-then-take_end_array : goal.returns-then-take_end_array

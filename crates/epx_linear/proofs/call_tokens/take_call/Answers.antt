@@ -2,7 +2,7 @@ use Rattle.std.proofs.Common.{◌≡◌, true, codes, ◌∷◌, ◌++◌, arith
 use Rattle.json.specs.Token.{Token}
 use Rattle.json.specs.Reads.{token_of}
 use Rattle.serde_json.specs.Data.{string}
-use Rattle.epx_lines.specs.Tokens.{ReadsValues}
+use Rattle.epx_lines.specs.between.Tokens.{ReadsValues}
 use Rattle.epx_lines.proofs.TokenValueLemmas.{ReadsValue-deeper, ReadsValues-deeper}
 use Rattle.epx_lines.proofs.TokenValueLemmas.{ReadsValues-append, ParsesAllTo-array}
 use Rattle.epx_linear.specs.HistoryLines.{call_from_list, call_from, is_up_to}

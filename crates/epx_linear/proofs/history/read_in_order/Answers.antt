@@ -2,12 +2,12 @@ use Rattle.std.proofs.Common.{◌≡◌, ◌∙◌, Ok, length, sym, ap, rules, 
 use Rattle.epx_types.proofs.Common.{nil_from_length, nat_tests}
 use Rattle.epx_lines.specs.Lines.{lines_of}
 use Rattle.epx_linear.specs.inner.HistoryReadings.{read_call_lines, history_reading}
-use Rattle.epx_linear.proofs.HistoryLemmas.{history_is_read, bad_history_is_read}
+use Rattle.epx_linear.proofs.HistoryLemmas.{IsHistoryText-read, IsBadHistory-read}
 use Rattle.epx_linear.proofs.history.read_in_order.Goals as goal
 
 pub returns-then-not-branch-clause-bad : goal.returns-then-not-branch-clause-bad
 returns-then-not-branch-clause-bad c =
-    bad_history_is_read c.args.bytes.now c.loop-rest.line (search rules)
+    IsBadHistory-read c.args.bytes.now c.loop-rest.line (search rules)
 
 pub returns-clause-history : goal.returns-clause-history
 returns-clause-history c =
@@ -16,4 +16,4 @@ returns-clause-history c =
     let read : history_reading c.args.bytes.now ≡ Ok calls =
     sym c.loop-rest.invariant.read ∙ ap (λ rest. read_call_lines calls c.loop-rest.line
     (lines_of rest)) (nil_from_length c.loop-rest.rest.now over) in
-    history_is_read c.args.bytes.now calls read
+    IsHistoryText-read c.args.bytes.now calls read

@@ -1,6 +1,6 @@
 use Rattle.std.proofs.Common.{◌≡◌, ◌∙◌, Some, map, refl, ap, rules}
 use Rattle.epx_claims.specs.inner.PieceItems.{items_of_piece}
-use Rattle.epx_claims.proofs.JoinedPieceLemmas.{parts_joined}
+use Rattle.epx_claims.proofs.JoinedPieceLemmas.{flat_map-parts}
 use Rattle.epx_linear.proofs.HistoryPartLemmas.{map-flat_map, calls_behind}
 use Rattle.epx_linear.proofs.HistoryPartLemmas.{calls_behind-append}
 use Rattle.epx_linear.proofs.history_parts.read_pieces.Goals as goal
@@ -13,7 +13,7 @@ returns g c =
     let count = c.pieces-pieces.ensures.pieces in
     ap (map Some) c.in_ok-join.ensures
     ∙ map-flat_map Some (λ part. part.items) c.in_ok-parts.parts.items
-    ∙ parts_joined cut c.pieces-pieces.ensures.fits.some_item calls_behind refl
+    ∙ flat_map-parts cut c.pieces-pieces.ensures.fits.some_item calls_behind refl
     calls_behind-append lines (λ part. map Some part.items) c.in_ok-parts.parts.items
     (done.len ∙ count)
     (λ i inside.

@@ -7,7 +7,7 @@ use Rattle.epx_types.specs.declared.command.Command.{Command}
 use Rattle.epx_types.specs.declared.op.Op.{Op}
 use Rattle.epx_linear.specs.inner.Spans.{rank_at}
 use Rattle.epx_linear.proofs.RankLemmas.{own_rank}
-use Rattle.epx_linear.proofs.PassLemmas.{one_more_found, all_found}
+use Rattle.epx_linear.proofs.PassLemmas.{HaveFound-push, AreFoundLate-at_end}
 use Rattle.epx_linear.proofs.late_calls.find_late.Goals as goal
 
 pub note-requires-clause-collected : goal.note-requires-clause-collected
@@ -40,7 +40,7 @@ loop-index-preserved c =
     )))) in
     let is_m : c.max-latest.result ≡ max c.rank_at-own.result (c.in_ok-above.above - 1) =
     omega (arith, c.max-latest.ensures, c.saturating_sub.ensures) in
-    one_more_found commands places spans ranks i c.loop-index.table c.loop-index.found.items is
+    HaveFound-push commands places spans ranks i c.loop-index.table c.loop-index.found.items is
     command.ops.now at c.in_ok-above.above c.rank_at-own.result c.max-latest.result collected.0
     is_own is_m c.note.new.self c.late.result c.push.new.self.items
     (c.note.ensures is.done command.ops.now collected.1) c.late.ensures
@@ -56,7 +56,7 @@ returns c =
       c.loop-index-test.false,
       c.loop-index.auto.index-end,
     ) in
-    all_found commands c.args.places.now c.args.spans.now.spans.items
+    AreFoundLate-at_end commands c.args.places.now c.args.spans.now.spans.items
     c.args.spans.now.ranks.items i c.loop-index.table c.loop-index.found.items
     c.loop-index.invariant all c.args.history.now c.requires.history c.requires.spans
     c.requires.ranks

@@ -1,5 +1,5 @@
-use Rattle.epx_linear.proofs.HistoryLemmas.{history_is_no_bad_history}
+use Rattle.epx_linear.proofs.HistoryLemmas.{HistoryIsNoBadHistory-holds}
 use Rattle.epx_linear.proofs.laws.history_is_no_bad_history.Goals as goal
 
 pub returns : goal.returns
-returns c = history_is_no_bad_history
+returns c = HistoryIsNoBadHistory-holds

@@ -1,5 +1,5 @@
-use Rattle.epx_linear.proofs.HistoryLemmas.{history_or_bad_history}
+use Rattle.epx_linear.proofs.HistoryLemmas.{HistoryOrBadHistory-holds}
 use Rattle.epx_linear.proofs.laws.history_or_bad_history.Goals as goal
 
 pub returns : goal.returns
-returns c = history_or_bad_history
+returns c = HistoryOrBadHistory-holds

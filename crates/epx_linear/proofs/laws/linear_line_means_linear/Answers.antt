@@ -1,5 +1,5 @@
-use Rattle.epx_linear.proofs.LinearTextLemmas.{linear_line_means_linear}
+use Rattle.epx_linear.proofs.LinearTextLemmas.{LinearLineMeansLinear-holds}
 use Rattle.epx_linear.proofs.laws.linear_line_means_linear.Goals as goal
 
 pub returns : goal.returns
-returns c = linear_line_means_linear
+returns c = LinearLineMeansLinear-holds

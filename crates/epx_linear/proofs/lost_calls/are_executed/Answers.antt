@@ -2,7 +2,7 @@ use Rattle.std.proofs.Common.{◌≡◌, ◌∙◌, ◌+◌, ◌++◌, ◌∷◌
 use Rattle.std.proofs.Common.{get_or, subst, sym, take, arith}
 use Rattle.epx_types.proofs.Common.{take_more}
 use Rattle.epx_linear.specs.inner.MarkedCalls.{AreMarked}
-use Rattle.epx_linear.proofs.LostCallLemmas.{none_marked, not_marked, marked}
+use Rattle.epx_linear.proofs.LostCallLemmas.{AreMarked-nil, AreMarked-skip, AreMarked-push}
 use Rattle.epx_linear.proofs.lost_calls.are_executed.Goals.{in-Some+then-at-calls}
 use Rattle.epx_linear.proofs.lost_calls.are_executed.Goals.{in-Some+else-at-calls, in_default}
 use Rattle.epx_linear.proofs.lost_calls.are_executed.Goals as goal
@@ -11,7 +11,7 @@ pub loop-place-init : goal.loop-place-init
 loop-place-init c =
     subst (AreMarked c.args.calls [])
     (sym (c.in_ok-executed.ensures.items_if_clones_equal (λ y same. same)))
-    (none_marked c.args.calls)
+    (AreMarked-nil c.args.calls)
 
 pub loop-place-preserved : goal.loop-place-preserved
 loop-place-preserved c =
@@ -28,15 +28,15 @@ loop-place-preserved c =
     elim c.match-place.branch [
       | in-Some+then-at-calls w ↦
           subst (λ v. AreMarked n (before ++ place ∷ []) v.items) (sym w.executed-is)
-          (marked n before place marks is w.in-Some.at w.in-Some.is w.if-at-calls.true)
+          (AreMarked-push n before place marks is w.in-Some.at w.in-Some.is w.if-at-calls.true)
       | in-Some+else-at-calls w ↦
           subst (λ v. AreMarked n (before ++ place ∷ []) v.items) (sym w.executed-is)
-          (not_marked n before place marks is (λ j low e.
+          (AreMarked-skip n before place marks is (λ j low e.
           let both : Some w.in-Some.at ≡ Some j = sym w.in-Some.is ∙ e in
           let same : w.in-Some.at ≡ j = cc both in
           omega (arith, w.if-at-calls.false, low, same)))
       | in_default w ↦
           subst (λ v. AreMarked n (before ++ place ∷ []) v.items) (sym w.executed-is)
-          (not_marked n before place marks is (λ j low e. w.in_default.not-Some j e))
+          (AreMarked-skip n before place marks is (λ j low e. w.in_default.not-Some j e))
     ] in
     subst (λ l. AreMarked n l c.match-place.executed.items) (sym longer) now

@@ -1,7 +1,7 @@
 use Rattle.std.proofs.Common.{◌≡◌, ◌+◌, suc, get_or, set, arith, subst, Some, slice_get}
 use Rattle.epx_types.proofs.Common.{slice_get-get_or}
 use Rattle.epx_linear.specs.declared.spans.Span.{Span}
-use Rattle.epx_linear.proofs.SpanRankLemmas.{AreNoted, no_span, all_noted, one_more_noted}
+use Rattle.epx_linear.proofs.SpanRankLemmas.{AreNoted, no_span, AreRanksOf-noted, AreNoted-set}
 use Rattle.epx_linear.proofs.spans.ranks_of.Goals as goal
 
 pub loop-index-preserved : goal.loop-index-preserved
@@ -13,8 +13,8 @@ loop-index-preserved c =
     let at : slice_get spans i ≡ Some s = slice_get-get_or spans i no_span c.loop-index-test.true in
     let next : suc i ≡ i + 1 = omega arith in
     subst (λ n. AreNoted spans (i + 1) (set ranks s.at n)) next
-    (one_more_noted spans c.requires i ranks c.loop-index.invariant s at)
+    (AreNoted-set spans c.requires i ranks c.loop-index.invariant s at)
 
 pub returns : goal.returns
-returns c = all_noted c.args.spans.now c.loop-index.index c.loop-index.ranks.items
+returns c = AreRanksOf-noted c.args.spans.now c.loop-index.index c.loop-index.ranks.items
     (omega (arith, c.loop-index-test.false, c.loop-index.auto.index-end)) c.loop-index.invariant

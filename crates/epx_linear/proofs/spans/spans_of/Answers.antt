@@ -2,8 +2,8 @@ use Rattle.std.proofs.Common.{◌≡◌, ◌∙◌, ◌++◌, ◌∷◌, [], ◌
 use Rattle.epx_types.proofs.Common.{length_push}
 use Rattle.epx_linear.specs.declared.spans.Span.{Span}
 use Rattle.epx_linear.specs.inner.Spans.{times_of_call, times_of_span}
-use Rattle.epx_linear.proofs.SpanLemmas.{span_more}
-use Rattle.epx_linear.proofs.CallRowLemmas.{AreNumbered, number_more}
+use Rattle.epx_linear.proofs.SpanLemmas.{map-push_span}
+use Rattle.epx_linear.proofs.CallRowLemmas.{AreNumbered, AreNumbered-push}
 use Rattle.epx_linear.proofs.spans.spans_of.Goals as goal
 
 pub loop-at-preserved : goal.loop-at-preserved
@@ -23,9 +23,9 @@ loop-at-preserved c =
     let longer : length c.push.new.self.items ≡ length (spans ++ span ∷ []) = ap length pushed in
     record {
       times = ap (map times_of_span) pushed
-          ∙ span_more h at call c.loop-at-test.true spans is.times span
+          ∙ map-push_span h at call c.loop-at-test.true spans is.times span
           (ap times_of_call c.index-history-at.is);
       places = subst (AreNumbered (λ (s : Span). s.at)) (sym pushed)
-          (number_more (λ (s : Span). s.at) spans span is.places (sym is.len));
+          (AreNumbered-push (λ (s : Span). s.at) spans span is.places (sym is.len));
       len = longer ∙ length_push spans span ∙ ap (λ n. n + 1) is.len;
     }

@@ -1,6 +1,6 @@
 use Rattle.std.proofs.Common.{◌≡◌, get_or, arith, length, drop, take_all, ◌-◌, length-drop}
 use Rattle.epx_types.proofs.Common.{IfSome_then}
-use Rattle.epx_lines.specs.Tokens.{AreDigitsOf}
+use Rattle.epx_lines.specs.between.Tokens.{AreDigitsOf}
 use Rattle.epx_lines.proofs.NumberTextLemmas.{number_of-minus}
 use Rattle.epx_lines.proofs.digits.read_signed.Goals as goal
 

@@ -4,7 +4,7 @@ use Rattle.json.specs.Json.{read_key}
 use Rattle.json.specs.Reads.{token_of}
 use Rattle.json.proofs.Grammar.{read_key-shorter}
 use Rattle.serde_json.specs.Data.{no_members}
-use Rattle.epx_lines.specs.Tokens.{HoldsParts}
+use Rattle.epx_lines.specs.between.Tokens.{HoldsParts}
 use Rattle.epx_lines.proofs.TokenValueLemmas.{ReadsValue-shorter, HasReadMembers-more}
 use Rattle.epx_lines.proofs.TokenValueLemmas.{HasReadMembers-all, put_members, put_members-last}
 use Rattle.epx_lines.proofs.from_tokens.take_parts.Goals as goal

@@ -1,6 +1,6 @@
 use Rattle.std.proofs.Common.{length}
 use Rattle.serde_json.specs.Data.{no_members}
-use Rattle.epx_lines.specs.Tokens.{HoldsParts}
+use Rattle.epx_lines.specs.between.Tokens.{HoldsParts}
 use Rattle.epx_lines.proofs.TokenValueLemmas.{HasReadMembers, put_members}
 use Rattle.epx_lines.proofs.from_tokens.take_parts.Given as goal
 

@@ -1,5 +1,5 @@
-use Rattle.epx_lines.proofs.LineLemmas.{lines_are}
+use Rattle.epx_lines.proofs.LineLemmas.{AreLinesOf-lines_of}
 use Rattle.epx_lines.proofs.laws.lines_make_up_the_bytes.Goals as goal
 
 pub returns : goal.returns
-returns c = lines_are
+returns c = AreLinesOf-lines_of

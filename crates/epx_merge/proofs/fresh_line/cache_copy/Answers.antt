@@ -1,6 +1,6 @@
 use Rattle.std.proofs.Common.{◌≡◌, Contains, Some, slice_get, subst, rules}
 use Rattle.epx_types.proofs.Common.{slice_get_within, get_or_from_slice_get}
-use Rattle.epx_merge.specs.RedundantLines.{CachesAfter}
+use Rattle.epx_merge.specs.between.RedundantLines.{CachesAfter}
 use Rattle.epx_merge.proofs.LineCacheLemmas.{CachesAfter-kept}
 use Rattle.epx_merge.proofs.DropsCachedLemmas.{CachesSomeOf-line}
 use Rattle.epx_merge.proofs.fresh_line.cache_copy.Goals as goal

@@ -1,4 +1,4 @@
-use Rattle.epx_merge.specs.RedundantLines.{CachesSomeOf}
+use Rattle.epx_merge.specs.between.RedundantLines.{CachesSomeOf}
 use Rattle.epx_merge.proofs.fresh_line.cache_piece_copy.Given as goal
 
 abbrev pub invariant-loop-line : goal.invariant-loop-line

@@ -1,6 +1,6 @@
 use Rattle.std.proofs.Common.{◌≡◌, ◌≤◌, ◌<◌, ◌+◌, ◌++◌, ◌^◌, List, [], length}
 use Rattle.epx_merge.specs.LogLines.{MeaningAt}
-use Rattle.epx_merge.specs.RedundantLines.{DropsCached}
+use Rattle.epx_merge.specs.between.RedundantLines.{DropsCached}
 use Rattle.epx_merge.specs.inner.Gathered.{AreGathered, most_unread}
 use Rattle.epx_merge.proofs.gathered_lines.gather.Given as goal
 

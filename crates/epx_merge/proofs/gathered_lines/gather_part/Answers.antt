@@ -3,8 +3,10 @@ use Rattle.std.proofs.Common.{rules}
 use Rattle.epx_types.proofs.Common.{length-take-le}
 use Rattle.epx_merge.specs.LogParts.{EndsLine}
 use Rattle.epx_merge.proofs.LogPartLemmas.{lines_of_part}
-use Rattle.epx_merge.proofs.GatheredLemmas.{start, read_up_to, part_fails, no_room_left, lines_fit}
-use Rattle.epx_merge.proofs.GatheredLemmas.{part_lines, part_gathered, part_leaves_fewer, IsNext}
+use Rattle.epx_merge.proofs.GatheredLemmas.{start, IsReadUpTo-at_position, EndsReading-part_fails}
+use Rattle.epx_merge.proofs.GatheredLemmas.{EndsReading-memory_after_part, line-part_fits}
+use Rattle.epx_merge.proofs.GatheredLemmas.{DropsCached-part, AreGathered-next, most_unread-falls}
+use Rattle.epx_merge.proofs.GatheredLemmas.{IsNext}
 use Rattle.epx_merge.proofs.gathered_lines.gather_part.Goals as goal
 use Rattle.epx_merge.proofs.gathered_lines.gather_part.Goals.{then-is_last, else-is_last}
 
@@ -14,11 +16,12 @@ returns-in-Err-clause-lines g c = λ first lines cut h drops.
     let sources = c.args.sources.now in
     let at = c.args.at.now in
     let d = c.index-sources-at.result in
-    let read = read_up_to D first sources c.requires.few at lines h c.requires.within d in
+    let read =
+    IsReadUpTo-at_position D first sources c.requires.few at lines h c.requires.within d in
     let origin = start D first sources c.requires.few at lines h c.requires.within d in
     let ends = c.read_on.ensures origin h.begun (sym h.done) (rw c.replace-rest.ensures.value read)
     in
-    part_fails D first sources c.requires.few at lines h
+    EndsReading-part_fails D first sources c.requires.few at lines h
     c.requires.within d c.read_on.new.source c.max-most.result c.in-Err.fault
     (rw c.in-Err.is at ends)
 
@@ -28,11 +31,12 @@ returns-in_default-clause-lines g c = λ first lines cut h drops.
     let sources = c.args.sources.now in
     let at = c.args.at.now in
     let d = c.index-sources-at.result in
-    let read = read_up_to D first sources c.requires.few at lines h c.requires.within d in
+    let read =
+    IsReadUpTo-at_position D first sources c.requires.few at lines h c.requires.within d in
     let origin = start D first sources c.requires.few at lines h c.requires.within d in
     let ends = c.read_on.ensures origin h.begun (sym h.done) (rw c.replace-rest.ensures.value read)
     in
-    no_room_left D first sources c.requires.few at lines h
+    EndsReading-memory_after_part D first sources c.requires.few at lines h
     c.requires.within d c.read_on.new.source c.max-most.result c.in-Ok.part (rw c.in-Ok.is at ends)
 
 pub returns-clause-lines : goal.returns-clause-lines
@@ -41,7 +45,8 @@ returns-clause-lines g c = λ first lines cut h drops.
     let sources = c.args.sources.now in
     let at = c.args.at.now in
     let d = c.index-sources-at.result in
-    let read = read_up_to D first sources c.requires.few at lines h c.requires.within d in
+    let read =
+    IsReadUpTo-at_position D first sources c.requires.few at lines h c.requires.within d in
     let origin = start D first sources c.requires.few at lines h c.requires.within d in
     let ends = rw c.in-Ok.is at (c.read_on.ensures origin h.begun (sym h.done)
     (rw c.replace-rest.ensures.value read)) in
@@ -59,7 +64,7 @@ returns-clause-lines g c = λ first lines cut h drops.
     let most = c.max-most.result in
     let part = c.in-Ok.part in
     let size = length-take-le end bytes upto in
-    let fits = lines_fit D first sources c.requires.few at
+    let fits = line-part_fits D first sources c.requires.few at
     lines h c.requires.within d later most part ends here (omega (arith, size, upto)) in
     let added = (rw c.deref.ensures.value at c.in-Ok-add_part.ensures.lines) fits cut drops in
     let next : IsNext D first sources c.requires.few at lines
@@ -69,9 +74,9 @@ returns-clause-lines g c = λ first lines cut h drops.
       | else-is_last w ↦ inr (w.if-is_last.false, w.drop-is)
     ] in (
       lines_of_part h.ended h.begun here,
-      part_lines D first sources c.requires.few at lines h
+      DropsCached-part D first sources c.requires.few at lines h
           c.requires.within d later most part ends cut c.add_part.new.self here added.0,
-      part_gathered D first sources c.requires.few at lines
+      AreGathered-next D first sources c.requires.few at lines
           h c.requires.within d later most part ends end c.in-Ok-add_part.line upto all feeds rest
           left added.1 c.if-is_last.drop next,
     )
@@ -85,7 +90,8 @@ returns-clause-fewer g c =
     let sources = c.args.sources.now in
     let at = c.args.at.now in
     let d = c.index-sources-at.result in
-    let read = read_up_to D first sources c.requires.few at lines h c.requires.within d in
+    let read =
+    IsReadUpTo-at_position D first sources c.requires.few at lines h c.requires.within d in
     let origin = start D first sources c.requires.few at lines h c.requires.within d in
     let ends = rw c.in-Ok.is at (c.read_on.ensures origin h.begun (sym h.done)
     (rw c.replace-rest.ensures.value read)) in
@@ -109,7 +115,7 @@ returns-clause-fewer g c =
       | else-is_last w ↦ inr (w.if-is_last.false, w.drop-is)
     ] in
     let room : length at.rest.items < most = search rules in
-    part_leaves_fewer D first sources c.requires.few at lines
+    most_unread-falls D first sources c.requires.few at lines
     h c.requires.within d later most part ends end c.in-Ok-add_part.line upto all feeds rest left
     room c.if-is_last.drop next
 
@@ -122,7 +128,8 @@ returns-clause-few g c =
     let sources = c.args.sources.now in
     let at = c.args.at.now in
     let d = c.index-sources-at.result in
-    let read = read_up_to D first sources c.requires.few at lines h c.requires.within d in
+    let read =
+    IsReadUpTo-at_position D first sources c.requires.few at lines h c.requires.within d in
     let origin = start D first sources c.requires.few at lines h c.requires.within d in
     let ends = rw c.in-Ok.is at (c.read_on.ensures origin h.begun (sym h.done)
     (rw c.replace-rest.ensures.value read)) in
@@ -136,7 +143,7 @@ returns-clause-few g c =
     search (rules, c.whole_lines-end.ensures.lines) in
     let later = c.read_on.new.source in
     let most = c.max-most.result in
-    let fits = lines_fit D first sources c.requires.few at
+    let fits = line-part_fits D first sources c.requires.few at
     lines h c.requires.within d later most c.in-Ok.part ends here
     (omega (arith, length-take-le end bytes upto, upto)) in
     let added = rw c.deref.ensures.value at c.in-Ok-add_part.ensures.few in

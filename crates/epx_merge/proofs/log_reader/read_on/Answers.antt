@@ -1,8 +1,8 @@
 use Rattle.std.proofs.Common.{◌≡◌, ◌<◌, ◌∙◌, IfOk, [], MatchResult, ap, sym, subst, rules}
 use Rattle.epx_types.proofs.Common.{IfOk-weaker, piece_count}
-use Rattle.epx_merge.specs.LinePieces.{ArePiecesOf, lines_of_piece}
-use Rattle.epx_merge.specs.ReadFaults.{IsReadFault, refused_among}
-use Rattle.epx_merge.proofs.LinePieceLemmas.{pieces_in_order}
+use Rattle.epx_merge.specs.between.LinePieces.{ArePiecesOf, lines_of_piece}
+use Rattle.epx_merge.specs.between.ReadFaults.{IsReadFault, refused_among}
+use Rattle.epx_merge.proofs.LinePieceLemmas.{ArePiecesOf-in_order}
 use Rattle.epx_merge.proofs.log_reader.read_on.Goals as goal
 
 pub returns-clause-lines : goal.returns-clause-lines
@@ -15,7 +15,7 @@ returns-clause-lines g c = λ lines cut read drops.
     let count = c.pieces-pieces.ensures.pieces in
     let many = count ∙ ap (piece_count c.args.plan.cut) c.len.ensures in
     let in_order = IfOk-weaker did.result.1 _ _ (λ v h.
-    pieces_in_order is c.args.plan.cut
+    ArePiecesOf-in_order is c.args.plan.cut
     c.pieces-pieces.ensures.fits.some_item batch v.items (record {
       len = h.len ∙ many;
       each = λ i inside.

@@ -1,6 +1,6 @@
 use Rattle.std.proofs.Common.{Err, inl, subst, rules}
-use Rattle.epx_merge.specs.SourceReadings.{EndsMerging, IsMerging}
-use Rattle.epx_merge.proofs.SourceReadingLemmas.{made_after}
+use Rattle.epx_merge.specs.between.SourceReadings.{EndsMerging, IsMerging}
+use Rattle.epx_merge.proofs.SourceReadingLemmas.{EndsMaking-made}
 use Rattle.epx_merge.proofs.merged_sources.merge_sources.Goals as goal
 
 pub returns-in_err-noted : goal.returns-in_err-noted
@@ -14,6 +14,6 @@ pub returns : goal.returns
 returns g c =
     let D = g.S.Source.model in
     let read = rw c.in_ok-noted.was at c.note_sources.ensures.noted in
-    made_after D c.args.sources.now
+    EndsMaking-made D c.args.sources.now
     c.note_sources.new.sources IsMerging read.0 c.merge_noted.result read.1
     (c.merge_noted.ensures read.0 read.1.fit read.2)

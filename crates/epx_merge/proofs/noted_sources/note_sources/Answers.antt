@@ -1,23 +1,24 @@
 use Rattle.std.proofs.Common.{◌∙◌, ◌++◌, [], length, ap, arith, refl, subst}
-use Rattle.epx_merge.specs.LogReaders.{IsNoting}
+use Rattle.epx_merge.specs.between.LogReaders.{IsNoting}
 use Rattle.epx_merge.specs.LogLines.{meanings_of}
-use Rattle.epx_merge.proofs.GatheredLemmas.{all_gathered, none_gathered}
-use Rattle.epx_merge.proofs.SourceReadingLemmas.{none_delivered, out_of_memory, too_many_sources}
+use Rattle.epx_merge.proofs.GatheredLemmas.{EndsReading-all_gathered, AreGathered-none}
+use Rattle.epx_merge.proofs.SourceReadingLemmas.{AreDeliveredUpTo-none, EndsReading-memory}
+use Rattle.epx_merge.proofs.SourceReadingLemmas.{EndsReading-too_many}
 use Rattle.epx_merge.proofs.noted_sources.note_sources.Goals as goal
 
 pub returns-then-sources-gt-MAX_LOGS-clause-noted :
     goal.returns-then-sources-gt-MAX_LOGS-clause-noted
 returns-then-sources-gt-MAX_LOGS-clause-noted g c =
     let D = g.S.Source.model in
-    too_many_sources D c.args.sources.now c.requires.well
+    EndsReading-too_many D c.args.sources.now c.requires.well
     c.if-sources-gt-MAX_LOGS.true
 
 pub returns-in_default-clause-noted : goal.returns-in_default-clause-noted
 returns-in_default-clause-noted g c =
     let D = g.S.Source.model in
     let sources = c.args.sources.now in
-    out_of_memory D sources sources 0 []
-    (none_delivered D sources c.requires.well)
+    EndsReading-memory D sources sources 0 []
+    (AreDeliveredUpTo-none D sources c.requires.well)
     (omega (arith, c.if-sources-gt-MAX_LOGS.false))
 
 pub loop-sources-init : goal.loop-sources-init
@@ -31,7 +32,7 @@ loop-sources-init g c =
         [],
         c.in-Ok.ensures,
         c.new-here.ensures,
-        none_gathered D c.args.sources.now c.requires.well c.new-at.result at.0 at.1 at.2 at.3,
+        AreGathered-none D c.args.sources.now c.requires.well c.new-at.result at.0 at.1 at.2 at.3,
       ),
     )
 
@@ -67,7 +68,7 @@ returns-clause-noted g c =
     let h = c.loop-sources.invariant.2 in
     let sources = c.loop-sources.sources in
     let same = c.loop-sources.invariant.0 in
-    let all = all_gathered D c.args.sources.now sources
+    let all = EndsReading-all_gathered D c.args.sources.now sources
     (omega (arith, same, c.if-sources-gt-MAX_LOGS.false)) c.loop-sources.at (h.0 ++ h.1) h.4
     (omega (arith, c.loop-sources-test.false, c.logs.ensures)) in
     let read = c.read_during-reader.ensures.lines h.0 h.1 h.2 h.3 in

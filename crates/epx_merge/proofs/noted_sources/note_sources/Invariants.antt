@@ -1,7 +1,7 @@
 use Rattle.std.proofs.Common.{◌≡◌, ◌≤◌, ◌++◌, ◌^◌, List, [], length}
 use Rattle.epx_merge.specs.LogLines.{MeaningAt}
-use Rattle.epx_merge.specs.LogReaders.{HasRead}
-use Rattle.epx_merge.specs.RedundantLines.{DropsCached}
+use Rattle.epx_merge.specs.between.LogReaders.{HasRead}
+use Rattle.epx_merge.specs.between.RedundantLines.{DropsCached}
 use Rattle.epx_merge.specs.inner.Gathered.{AreGathered, most_unread}
 use Rattle.epx_merge.proofs.noted_sources.note_sources.Given as goal
 

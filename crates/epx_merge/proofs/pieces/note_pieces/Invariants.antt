@@ -1,7 +1,7 @@
 use Rattle.std.proofs.Common.{List}
-use Rattle.epx_committed.specs.Ledgers.{NotesLines}
+use Rattle.epx_committed.specs.between.Ledgers.{NotesLines}
 use Rattle.epx_merge.specs.LogLines.{MeaningAt}
-use Rattle.epx_merge.specs.ReadPieces.{AreRead, HasEntries}
+use Rattle.epx_merge.specs.between.ReadPieces.{AreRead, HasEntries}
 use Rattle.epx_merge.proofs.ReadPieceLemmas.{IsGathering}
 use Rattle.epx_merge.proofs.pieces.note_pieces.Given as goal
 

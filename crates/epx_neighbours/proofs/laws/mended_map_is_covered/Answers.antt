@@ -1,5 +1,5 @@
-use Rattle.epx_neighbours.proofs.MendingLemmas.{mended_map_is_covered}
+use Rattle.epx_neighbours.proofs.MendingLemmas.{MendedMapIsCovered-holds}
 use Rattle.epx_neighbours.proofs.laws.mended_map_is_covered.Goals as goal
 
 pub returns : goal.returns
-returns c = mended_map_is_covered
+returns c = MendedMapIsCovered-holds

@@ -1,5 +1,5 @@
-use Rattle.epx_neighbours.proofs.ExistenceLemmas.{uncovered_text_exists}
+use Rattle.epx_neighbours.proofs.ExistenceLemmas.{UncoveredTextExists-holds}
 use Rattle.epx_neighbours.proofs.laws.uncovered_text_exists.Goals as goal
 
 pub returns : goal.returns
-returns c = uncovered_text_exists
+returns c = UncoveredTextExists-holds

@@ -4,8 +4,9 @@ use Rattle.epx_types.proofs.Common.{false≢true}
 use Rattle.epx_neighbours.specs.declared.neighbours.Neighbours.{Neighbours}
 use Rattle.epx_neighbours.specs.inner.KeyTouches.{key_touch_at}
 use Rattle.epx_neighbours.specs.inner.NumberedPairs.{IsMadeBy}
-use Rattle.epx_neighbours.proofs.MadeLemmas.{AreMadeUpTo, made_none, made_push, made_skip}
-use Rattle.epx_neighbours.proofs.MadeLemmas.{made_all}
+use Rattle.epx_neighbours.proofs.MadeLemmas.{AreMadeUpTo, AreMadeUpTo-none, AreMadeUpTo-push}
+use Rattle.epx_neighbours.proofs.MadeLemmas.{AreMadeUpTo-skip}
+use Rattle.epx_neighbours.proofs.MadeLemmas.{AreMadeUpTo-at_end}
 use Rattle.epx_neighbours.proofs.neighbours.add_neighbours.Goals as goal
 use Rattle.epx_neighbours.proofs.neighbours.add_neighbours.Goals.{then-touch, else-touch}
 use Rattle.epx_neighbours.proofs.neighbours.add_neighbours.Goals.{then-touch-2, else-touch-2}
@@ -16,7 +17,7 @@ use Rattle.epx_neighbours.proofs.neighbours.add_neighbours.Goals.{else-other-via
 
 pub loop-earlier-init : goal.loop-earlier-init
 loop-earlier-init c =
-    made_none c.args.touches.now c.args.last_writer c.args.index c.args.found.now.items
+    AreMadeUpTo-none c.args.touches.now c.args.last_writer c.args.index c.args.found.now.items
 
 pub loop-earlier-preserved : goal.loop-earlier-preserved
 loop-earlier-preserved c =
@@ -47,7 +48,7 @@ loop-earlier-preserved c =
             ]
           ] in
           subst Up (sym (ap (λ v. v.items) w.found-is ∙ w.in_ok-push.ensures.items))
-          (made_push touches first i initial e old from below one w.if-other-touch.true
+          (AreMadeUpTo-push touches first i initial e old from below one w.if-other-touch.true
           c.loop-earlier.invariant)
       | else-other w ↦
           let none : (x : Neighbours) → ¬ IsMadeBy touches first i x e = λ x made.
@@ -64,7 +65,7 @@ loop-earlier-preserved c =
             ]
           ] in
           subst Up (sym (ap (λ v. v.items) w.found-is))
-          (made_skip touches first i initial e old none c.loop-earlier.invariant)
+          (AreMadeUpTo-skip touches first i initial e old none c.loop-earlier.invariant)
     ]
 
 pub returns : goal.returns
@@ -73,7 +74,7 @@ returns c =
     let first = c.args.last_writer in
     let i = c.args.index in
     let e = c.loop-earlier.earlier in
-    made_all touches first i c.args.found.now.items e c.loop-earlier.found.items
+    AreMadeUpTo-at_end touches first i c.args.found.now.items e c.loop-earlier.found.items
     (λ j x past made. elim c.if-touch.branch [
       | then-touch w ↦ omega (arith, w.end-is, c.loop-earlier-test.false, past, made.below)
       | else-touch w ↦ elim made.one [

@@ -1,6 +1,6 @@
 use Rattle.std.proofs.Common.{◌<◌, List, All, AllPairs, length, map, sym, subst}
 use Rattle.std.proofs.Common.{subst₂, ap, ◌∙◌}
-use Rattle.epx_audit.specs.RelatedPairs.{AreLaterFirst, AreRelatedMarks}
+use Rattle.epx_audit.specs.between.RelatedPairs.{AreLaterFirst, AreRelatedMarks}
 use Rattle.epx_types.specs.Keys.{KeyBelow}
 use Rattle.epx_types.specs.declared.id.Id.{Id}
 use Rattle.std.proofs.Common.{ℕ}
@@ -9,15 +9,15 @@ use Rattle.epx_neighbours.specs.declared.uncovered_row.UncoveredRow.{UncoveredRo
 use Rattle.epx_neighbours.specs.declared.neighbours.Neighbours.{Neighbours}
 use Rattle.epx_neighbours.specs.inner.KeyTouches.{AreTouches}
 use Rattle.epx_neighbours.specs.inner.UncoveredRows.{AreRows, HavePositionsWithin}
-use Rattle.epx_neighbours.proofs.TouchLemmas.{keys_rise}
-use Rattle.epx_neighbours.proofs.UncoveredPairLemmas.{all_within, all_pairs_within}
-use Rattle.epx_neighbours.proofs.UncoveredPairLemmas.{all_rows_within, all_rows_listed}
+use Rattle.epx_neighbours.proofs.TouchLemmas.{AllPairs-keys_in}
+use Rattle.epx_neighbours.proofs.UncoveredPairLemmas.{HavePositionsWithin-all, AreLaterFirst-all}
+use Rattle.epx_neighbours.proofs.UncoveredPairLemmas.{rows-within_names, AreUncoveredPairs-all_rows}
 use Rattle.epx_neighbours.proofs.uncovered.find_uncovered.Goals as goal
 
 pub find_touches-requires : goal.find_touches-requires
 find_touches-requires c =
     subst (AllPairs KeyBelow) (sym c.requires.keys)
-    (keys_rise (map (λ c. c.ops.now) c.args.commands.now))
+    (AllPairs-keys_in (map (λ c. c.ops.now) c.args.commands.now))
 
 pub related_pairs-requires-clause-pairs : goal.related_pairs-requires-clause-pairs
 related_pairs-requires-clause-pairs c =
@@ -30,7 +30,7 @@ related_pairs-requires-clause-pairs c =
     subst (AreLaterFirst (length order))
     (sym (c.deref-3.ensures.value ∙ (c.in_ok-pairs.ensures
     ∙ ap (map (λ (x : Neighbours). (x.after, x.before))) c.deref-2.ensures.value)))
-    (all_pairs_within m order c.requires.order commands keys c.deref.result.now
+    (AreLaterFirst-all m order c.requires.order commands keys c.deref.result.now
     c.in_ok-found.found.items c.requires.commands c.requires.keys are c.in_ok-found.ensures)
 
 pub rows_of-requires-clause-within : goal.rows_of-requires-clause-within
@@ -43,7 +43,7 @@ rows_of-requires-clause-within c =
     c.in_ok-touches.ensures in
     subst₂ (λ (ids : List Id) (found : List Neighbours). HavePositionsWithin (length ids) found)
     (sym c.ids.ensures) (sym c.deref-4.ensures.value)
-    (all_within m order c.requires.order commands keys c.deref.result.now
+    (HavePositionsWithin-all m order c.requires.order commands keys c.deref.result.now
     c.in_ok-found.found.items c.requires.commands c.requires.keys are c.in_ok-found.ensures)
 
 pub returns-clause-within : goal.returns-clause-within
@@ -63,7 +63,7 @@ returns-clause-within c =
     IfOk-weaker c.rows_of.result _ _
     (λ rows made. subst (λ (n : ℕ). All (λ (r : UncoveredRow). r.key < n) rows.items)
     (length-map c.args.keys.now (λ k. k.now))
-    (all_rows_within m order c.requires.order commands keys c.deref.result.now found
+    (rows-within_names m order c.requires.order commands keys c.deref.result.now found
     c.requires.commands c.requires.keys are c.in_ok-found.ensures marks rows.items related
     (subst₂ (λ fs ms. AreRows (ranked_ids order) fs ms rows.items) c.deref-4.ensures.value
     c.deref-5.ensures.value
@@ -86,7 +86,8 @@ returns-clause-listed c =
     ∙ ap (map (λ (x : Neighbours). (x.after, x.before))) c.deref-2.ensures.value))
     c.in_ok-marks.ensures in
     IfOk-weaker c.rows_of.result _ _
-    (λ rows made. all_rows_listed m order c.requires.order commands keys c.deref.result.now found
+    (λ rows made. AreUncoveredPairs-all_rows m order c.requires.order commands keys
+    c.deref.result.now found
     c.requires.commands c.requires.keys are c.in_ok-found.ensures marks rows.items related
     (subst₂ (λ fs ms. AreRows (ranked_ids order) fs ms rows.items) c.deref-4.ensures.value
     c.deref-5.ensures.value

@@ -1,12 +1,14 @@
 use Rattle.epx_neighbours.specs.contracts.uncovered_row.UncoveredRowPartialEq.TheImpl as row_eq
 use Rattle.epx_neighbours.specs.inner.UncoveredRows.{row_cmp}
-use Rattle.epx_neighbours.proofs.RowOrderLemmas.{row_cmp_total, row_cmp-IsAntisymmetric, rows_tie}
-use Rattle.epx_neighbours.proofs.UniqueListLemmas.{unique_kept}
+use Rattle.epx_neighbours.proofs.RowOrderLemmas.{row_cmp-IsTotalOrder, row_cmp-IsAntisymmetric}
+use Rattle.epx_neighbours.proofs.RowOrderLemmas.{row_eq-by_cmp}
+use Rattle.epx_neighbours.proofs.UniqueListLemmas.{AllPairs-kept}
 use Rattle.epx_neighbours.proofs.uncovered_row.rows_of.Goals as goal
 
 pub returns : goal.returns
 returns c =
-    let kept = unique_kept row_cmp row_cmp_total row_cmp-IsAntisymmetric row_eq.eq-value.it rows_tie
+    let kept = AllPairs-kept row_cmp row_cmp-IsTotalOrder row_cmp-IsAntisymmetric row_eq.eq-value.it
+    row_eq-by_cmp
     c.in_ok-rows.rows.items c.sort_unstable.new.self.items c.dedup.new.self.items
     c.sort_unstable.ensures.permutation c.sort_unstable.ensures.sorted c.dedup.ensures.filtered in
     record {

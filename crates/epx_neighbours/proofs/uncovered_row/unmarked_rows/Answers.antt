@@ -2,7 +2,8 @@ use Rattle.std.proofs.Common.{◌≡◌, ◌+◌, ◌<◌, ℕ, length, get_or, 
 use Rattle.epx_types.proofs.Common.{slice_get-get_or, All-get_or}
 use Rattle.epx_neighbours.specs.declared.neighbours.Neighbours.{Neighbours}
 use Rattle.epx_neighbours.specs.declared.uncovered_row.UncoveredRow.{UncoveredRow}
-use Rattle.epx_neighbours.proofs.RowLemmas.{AreUnmarkedUpTo, unmarked_push, unmarked_skip}
+use Rattle.epx_neighbours.proofs.RowLemmas.{AreUnmarkedUpTo, AreUnmarkedUpTo-push}
+use Rattle.epx_neighbours.proofs.RowLemmas.{AreUnmarkedUpTo-skip}
 use Rattle.epx_neighbours.proofs.uncovered_row.unmarked_rows.Goals as goal
 use Rattle.epx_neighbours.proofs.uncovered_row.unmarked_rows.Goals.{then-not-marks-index+in_ok-push}
 use Rattle.epx_neighbours.proofs.uncovered_row.unmarked_rows.Goals.{else-not-marks-index}
@@ -28,7 +29,7 @@ loop-index-preserved c =
           none c.loop-index-test.true c.requires.within in
           subst (AreUnmarkedUpTo ids found marks (n + 1))
           (sym (ap (λ v. v.items) w.rows-is ∙ w.in_ok-push.ensures.items))
-          (unmarked_push ids found marks n x r old
+          (AreUnmarkedUpTo-push ids found marks n x r old
           (slice_get-get_or found n none c.loop-index-test.true) w.if-not-marks-index.true
           (record {
             before = slice_get-get_or ids x.before _ within.0;
@@ -37,7 +38,8 @@ loop-index-preserved c =
           }) c.loop-index.invariant)
       | else-not-marks-index w ↦
           subst (AreUnmarkedUpTo ids found marks (n + 1)) (sym (ap (λ v. v.items) w.rows-is))
-          (unmarked_skip ids found marks n old w.if-not-marks-index.false c.loop-index.invariant)
+          (AreUnmarkedUpTo-skip ids found marks n old w.if-not-marks-index.false
+          c.loop-index.invariant)
     ]
 
 pub returns : goal.returns

@@ -1,8 +1,8 @@
 use Rattle.std.proofs.Common.{Some, sym, ap, ◌∙◌, subst, ◌≡◌, slice_get}
 use Rattle.epx_types.proofs.Common.{false≢true}
-use Rattle.epx_components.proofs.InstanceLeaderLemmas.{leader_within}
+use Rattle.epx_components.proofs.InstanceLeaderLemmas.{IsNodeLeader-within}
 use Rattle.epx_picture.specs.NodeBoxes.{IsCluster}
-use Rattle.epx_picture.proofs.ClusterLemmas.{cluster_alone, cluster_of_leader, cluster_of_member}
+use Rattle.epx_picture.proofs.ClusterLemmas.{IsCluster-alone, IsCluster-leader, IsCluster-member}
 use Rattle.epx_picture.proofs.cluster.cluster_of.Goals as goal
 use Rattle.epx_picture.proofs.cluster.cluster_of.Goals.{else-node_rank-node-via-then-node_rank-node+else-not-leader_marks-node}
 use Rattle.epx_picture.proofs.cluster.cluster_of.Goals.{else-node_rank-node-via-else-node_rank-node}
@@ -10,12 +10,13 @@ use Rattle.epx_picture.proofs.cluster.cluster_of.Goals.{else-node_rank-node-via-
 pub returns-then-not-leader_marks-node : goal.returns-then-not-leader_marks-node
 returns-then-not-leader_marks-node c m x is at =
     let all = c.requires.leader_marks in
-    cluster_alone m c.args.graph.now is c.args.node x c.args.node_rank at c.requires.node_rank
+    IsCluster-alone m c.args.graph.now is c.args.node x c.args.node_rank at c.requires.node_rank
     c.if-node_rank-node.true all.0 all.1 c.args.leader_marks.now all.2
     (λ h. false≢true (sym c.if-not-leader_marks-node.true ∙ h))
 
 pub id-requires : goal.id-requires
-id-requires c = leader_within c.args.graph.now c.requires.graph c.args.node c.args.node_rank.leader
+id-requires c =
+    IsNodeLeader-within c.args.graph.now c.requires.graph c.args.node c.args.node_rank.leader
     c.requires.node c.requires.node_rank.leader
 
 pub returns : goal.returns
@@ -28,10 +29,10 @@ returns c m x is at =
           sym at ∙ ap (slice_get g.ids) (sym w.if-node_rank-node.true) ∙ c.id.ensures in
           let one : x ≡ c.id.result = cc same in
           subst (λ y. IsCluster m x (Some y)) one
-          (cluster_of_leader m g is c.args.node x c.args.node_rank at c.requires.node_rank
+          (IsCluster-leader m g is c.args.node x c.args.node_rank at c.requires.node_rank
           w.if-node_rank-node.true all.0 all.1 c.args.leader_marks.now all.2
           w.if-not-leader_marks-node.false)
-      | else-node_rank-node-via-else-node_rank-node w ↦ cluster_of_member m g is c.args.node x
+      | else-node_rank-node-via-else-node_rank-node w ↦ IsCluster-member m g is c.args.node x
           c.args.node_rank at c.requires.node_rank c.id.result c.id.ensures
           w.if-node_rank-node.false
     ]

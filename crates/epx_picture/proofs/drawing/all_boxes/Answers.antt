@@ -1,5 +1,5 @@
 use Rattle.std.proofs.Common.{◌+◌, sym, subst}
-use Rattle.epx_picture.proofs.BoxListLemmas.{AreBoxesOf, boxes_push}
+use Rattle.epx_picture.proofs.BoxListLemmas.{AreBoxesOf, AreBoxesOf-push}
 use Rattle.epx_picture.proofs.drawing.all_boxes.Goals as goal
 
 pub box_of_node-requires-clause-node_rank : goal.box_of_node-requires-clause-node_rank
@@ -12,5 +12,5 @@ loop-position-preserved c =
     let m = c.args.merged.now in
     let n = c.loop-position.position in
     subst (AreBoxesOf m (n + 1)) (sym c.in_ok-push.ensures.items)
-    (boxes_push m n c.loop-position.node_boxes.items c.box_of_node.result
+    (AreBoxesOf-push m n c.loop-position.node_boxes.items c.box_of_node.result
     c.loop-position.invariant c.box_of_node.ensures.id c.box_of_node.ensures.node_box)

@@ -1,5 +1,5 @@
-use Rattle.epx_picture.proofs.PictureLemmas.{picture_exists}
+use Rattle.epx_picture.proofs.PictureLemmas.{IsPicture-exists}
 use Rattle.epx_picture.proofs.laws.picture_exists.Goals as goal
 
 pub returns : goal.returns
-returns c = picture_exists
+returns c = IsPicture-exists

@@ -1,6 +1,7 @@
 use Rattle.std.proofs.Common.{◌≡◌, ◌<◌, [], ◌∷◌, ◌++◌, length, slice_get, Some, sym, ap, ◌∙◌, arith}
 use Rattle.epx_types.proofs.Common.{slice_get-get_or}
-use Rattle.epx_picture.proofs.PartLemmas.{element_at, filter_more_no, filter_more_yes, mark_at}
+use Rattle.epx_picture.proofs.PartLemmas.{slice_get-exists, filter-more_no, filter-more_yes}
+use Rattle.epx_picture.proofs.PartLemmas.{get_or-mark}
 use Rattle.epx_picture.proofs.marked.marked_items.Goals as goal
 use Rattle.epx_picture.proofs.marked.marked_items.Goals.{then-mark+in_ok-push, else-mark}
 
@@ -18,11 +19,11 @@ loop-index-preserved g c test same =
           let at : slice_get items i ≡ Some x =
           slice_get-get_or items i x within ∙ ap Some (sym w.index-items-index.is) in
           ap (λ v. v.items) w.kept-is ∙ w.in_ok-push.ensures.items ∙ ap (λ ys. ys ++ x ∷ []) was
-          ∙ sym (filter_more_yes test items i x at
-          (sym (mark_at test items marks same i x at) ∙ w.if-mark.true))
+          ∙ sym (filter-more_yes test items i x at
+          (sym (get_or-mark test items marks same i x at) ∙ w.if-mark.true))
       | else-mark w ↦
-          let x = element_at items i within in
+          let x = slice_get-exists items i within in
           ap (λ v. v.items) w.kept-is ∙ was
-          ∙ sym (filter_more_no test items i x.0 x.1
-          (sym (mark_at test items marks same i x.0 x.1) ∙ w.if-mark.false))
+          ∙ sym (filter-more_no test items i x.0 x.1
+          (sym (get_or-mark test items marks same i x.0 x.1) ∙ w.if-mark.false))
     ]

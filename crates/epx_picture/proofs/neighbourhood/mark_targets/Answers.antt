@@ -1,7 +1,7 @@
 use Rattle.std.proofs.Common.{◌<◌, ℕ, List, Contains, get_or, take, length, sym, subst, arith}
 use Rattle.epx_types.proofs.Common.{All-get_or, take_more}
 use Rattle.epx_picture.specs.inner.NodeMarks.{MarkedLevel, MarksMore}
-use Rattle.epx_picture.proofs.NodeMarkLemmas.{targets_skip, targets_more}
+use Rattle.epx_picture.proofs.NodeMarkLemmas.{MarksMore-target_skip, MarksMore-target_more}
 use Rattle.epx_picture.proofs.neighbourhood.mark_targets.Goals as goal
 
 pub loop-target-preserved-then-marks-target : goal.loop-target-preserved-then-marks-target
@@ -13,7 +13,7 @@ loop-target-preserved-then-marks-target c =
     in
     subst (λ (xs : List ℕ). MarksMore (Contains xs) old now)
     (sym (take_more targets i 0 c.loop-target-test.true))
-    (targets_skip (take i targets) (get_or targets i 0) old now c.loop-target.invariant
+    (MarksMore-target_skip (take i targets) (get_or targets i 0) old now c.loop-target.invariant
     c.if-marks-target.true)
 
 pub loop-target-preserved : goal.loop-target-preserved
@@ -28,4 +28,5 @@ loop-target-preserved c =
     let within : get_or targets i 0 < length c.loop-target.marks =
     omega (arith, given, c.loop-target.invariant.nodes) in
     rw (c.in_ok-push.ensures.items, take_more targets i 0 c.loop-target-test.true)
-    (targets_more (take i targets) (get_or targets i 0) old now c.loop-target.invariant within)
+    (MarksMore-target_more (take i targets) (get_or targets i 0) old now c.loop-target.invariant
+    within)

@@ -1,7 +1,7 @@
 use Rattle.std.proofs.Common.{◌++◌, take, flat_map, string_bytes, sym, ap, ◌∙◌}
 use Rattle.epx_types.proofs.Common.{append_assoc}
 use Rattle.epx_picture.specs.PictureText.{arrow_lines}
-use Rattle.epx_picture.proofs.FlatMapLemmas.{flat_map_next}
+use Rattle.epx_picture.proofs.FlatMapLemmas.{flat_map-next}
 use Rattle.epx_picture.proofs.picture_writer.write_all_arrows.Goals as goal
 
 pub loop-position-preserved : goal.loop-position-preserved
@@ -13,4 +13,4 @@ loop-position-preserved c =
     c.in_ok-write_arrows.ensures ∙ ap (λ bytes. bytes ++ more) c.loop-position.invariant
     ∙ append_assoc before (flat_map arrow_lines (take n m)) more
     ∙ ap (λ bytes. before ++ bytes)
-    (sym (flat_map_next arrow_lines m n c.entry_at.result.now c.entry_at.ensures))
+    (sym (flat_map-next arrow_lines m n c.entry_at.result.now c.entry_at.ensures))

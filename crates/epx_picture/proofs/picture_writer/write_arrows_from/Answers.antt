@@ -4,20 +4,20 @@ use Rattle.epx_types.proofs.Common.{on_ok_weaker, Contains-slice_get, Instance}
 use Rattle.epx_types.specs.declared.id.Id.{Id}
 use Rattle.epx_picture.specs.PictureText.{arrow_lines}
 use Rattle.epx_picture.specs.PicturesAround.{with_deps_near}
-use Rattle.epx_picture.proofs.NeighbourhoodLemmas.{deps_have_nodes}
-use Rattle.epx_picture.proofs.MarkedEdgeLemmas.{edges_within, marked_deps}
+use Rattle.epx_picture.proofs.NeighbourhoodLemmas.{All-deps_have_nodes}
+use Rattle.epx_picture.proofs.MarkedEdgeLemmas.{All-edges_within, with_deps_near-marked}
 use Rattle.epx_picture.proofs.picture_writer.write_arrows_from.Goals as goal
 
 pub are_marked-requires : goal.are_marked-requires
 are_marked-requires c =
-    edges_within c.args.graph.now c.edges.ensures.fits c.args.position c.args.marks.now
+    All-edges_within c.args.graph.now c.edges.ensures.fits c.args.position c.args.marks.now
     c.edges.result.now c.edges.ensures.edges c.requires.marks
 
 pub write_marked_arrows-requires-clause-deps : goal.write_marked_arrows-requires-clause-deps
 write_marked_arrows-requires-clause-deps c =
     let m = c.args.merged.now in
     let e = c.entry_at-entry.result.now in
-    deps_have_nodes m c.args.graph.now c.requires.graph e
+    All-deps_have_nodes m c.args.graph.now c.requires.graph e
     (Contains-slice_get m c.args.position e c.entry_at-entry.ensures)
 
 pub returns-then-are_marked : goal.returns-then-are_marked
@@ -35,7 +35,8 @@ returns-then-are_marked c =
     (λ written near e same at.
     let one : Some entry ≡ Some e = sym c.entry_at-entry.ensures ∙ at in
     let is : entry ≡ e = cc one in
-    written ∙ ap (λ i. before ++ arrow_lines i) (is ∙ sym (marked_deps m g c.requires.graph near
+    written ∙ ap (λ i. before ++ arrow_lines i)
+    (is ∙ sym (with_deps_near-marked m g c.requires.graph near
     c.args.marks.now same k e at c.edges.result.now c.edges.ensures.edges
     (c.are_marked.ensures c.if-are_marked.true))))
     c.write_arrows.ensures

@@ -3,7 +3,7 @@ use Rattle.std.proofs.Common.{slice_get, Some, string_bytes, sym, ap, ◌∙◌,
 use Rattle.epx_types.proofs.Common.{All-get_or, slice_get-get_or}
 use Rattle.epx_types.specs.declared.id.Id.{Id}
 use Rattle.epx_picture.specs.PictureText.{arrow_line}
-use Rattle.epx_picture.proofs.PartLemmas.{filter_more_no, lines_more, lines_written}
+use Rattle.epx_picture.proofs.PartLemmas.{filter-more_no, flat_map-lines_more, append-written}
 use Rattle.epx_picture.proofs.picture_writer.write_marked_arrows.Goals as goal
 use Rattle.epx_picture.proofs.picture_writer.write_marked_arrows.Goals.{then-is_marked+in_ok-write_arrow}
 use Rattle.epx_picture.proofs.picture_writer.write_marked_arrows.Goals.{else-is_marked}
@@ -25,12 +25,12 @@ loop-dependency-preserved c near is =
     let was = c.loop-dependency.invariant near is in
     elim c.if-is_marked.branch [
       | then-is_marked+in_ok-write_arrow w ↦
-          lines_written (string_bytes c.if-is_marked.text) (string_bytes c.loop-dependency.text)
+          append-written (string_bytes c.if-is_marked.text) (string_bytes c.loop-dependency.text)
           before (flat_map line (filter near (take i deps))) (line x)
           (flat_map line (filter near (take (i + 1) deps)))
           (ap string_bytes w.text-is ∙ w.in_ok-write_arrow.ensures) was
-          (lines_more line near deps i x at (sym says ∙ w.if-is_marked.true))
+          (flat_map-lines_more line near deps i x at (sym says ∙ w.if-is_marked.true))
       | else-is_marked w ↦
           ap string_bytes w.text-is ∙ was ∙ ap (λ ids. before ++ flat_map line ids)
-          (sym (filter_more_no near deps i x at (sym says ∙ w.if-is_marked.false)))
+          (sym (filter-more_no near deps i x at (sym says ∙ w.if-is_marked.false)))
     ]

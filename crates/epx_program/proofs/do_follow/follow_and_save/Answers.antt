@@ -6,10 +6,10 @@ use Rattle.epx_program.specs.FollowStops.{state_number}
 use Rattle.epx_program.specs.Inputs.{text_relation}
 use Rattle.epx_program.specs.Saving.{save_relation}
 use Rattle.epx_program.specs.inner.Follows.{RefusesStart, StartsAt}
-use Rattle.epx_program.proofs.FollowEndingLemmas.{ends_with, follows_to_ends}
-use Rattle.epx_program.proofs.FollowEndingLemmas.{refused_at_paths, stops_at_paths}
-use Rattle.epx_program.proofs.OutputLemmas.{contents_unchanged}
-use Rattle.epx_program.proofs.StartLemmas.{refused_unwritten}
+use Rattle.epx_program.proofs.FollowEndingLemmas.{MatchResult-err, FollowsToEnds-from_follows}
+use Rattle.epx_program.proofs.FollowEndingLemmas.{stops_at-if_refused, stops_at-from_stops}
+use Rattle.epx_program.proofs.OutputLemmas.{Keeps-contents}
+use Rattle.epx_program.proofs.StartLemmas.{RefusesStart-not_write}
 use Rattle.epx_program.proofs.do_follow.follow_and_save.Goals as goal
 
 pub returns-in_err-start-clause-ends : goal.returns-in_err-start-clause-ends
@@ -29,14 +29,14 @@ returns-in_err-start-clause-ends g c =
     let before : StopsBefore (text_relation opening D opener E c.args.input)
     (save_relation g.V.Saver.model c.args.saver.now c.args.saver.now) options paths fault
     (g.W.Sink.model.has_failed output) (contents output) (contents output) = record {
-      output = λ write. absurd (refused_unwritten opening D opener E (state_of options)
+      output = λ write. absurd (RefusesStart-not_write opening D opener E (state_of options)
           (state_number paths) (Some c.args.input) fault refused write);
       unused = refl;
-      stops = inr (refused_at_paths opening D opener E c.args.input options paths
+      stops = inr (stops_at-if_refused opening D opener E c.args.input options paths
           (contents output) (contents output) fault refused
-          (contents_unchanged contents output output refl));
+          (Keeps-contents contents output output refl));
     } in
-    ends_with _ _ c.from_residual.result fault (search rules) (inl before)
+    MatchResult-err _ _ c.from_residual.result fault (search rules) (inl before)
 
 pub returns-in_err-last-clause-ends : goal.returns-in_err-last-clause-ends
 returns-in_err-last-clause-ends g c =
@@ -62,11 +62,11 @@ returns-in_err-last-clause-ends g c =
       unused = refl;
       stops = elim c.in_err-last.ensures.stopped [
         | inl memory ↦ inl memory
-        | inr stops ↦ inr (stops_at_paths opening D opener E c.args.input options paths was now
+        | inr stops ↦ inr (stops_at-from_stops opening D opener E c.args.input options paths was now
             left start fault starts stops)
       ];
     } in
-    ends_with _ _ c.from_residual-in_err-last.result fault (search rules) (inl before)
+    MatchResult-err _ _ c.from_residual-in_err-last.result fault (search rules) (inl before)
 
 pub returns-clause-ends : goal.returns-clause-ends
 returns-clause-ends g c =
@@ -86,7 +86,8 @@ returns-clause-ends g c =
     (Some c.args.input) left start =
     rw c.count_logs-log.ensures at c.in_ok-start.ensures.started in
     let ends : FollowsToEnds (text_relation opening D opener E c.args.input) options paths last was
-    now = follows_to_ends opening D opener E c.args.input options paths was now left start last
+    now = FollowsToEnds-from_follows opening D opener E c.args.input options paths was now left
+    start last
     starts c.in_ok-last.ensures.followed in
     MatchResult-weaker c.save_state-saved.result c.save_state-saved.ensures
     (λ _ saved. (last, ends, saved)) (λ fault lost. inr (last, ends, lost))

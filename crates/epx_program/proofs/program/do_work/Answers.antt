@@ -3,8 +3,9 @@ use Rattle.epx_tool.specs.Findings.{found_of}
 use Rattle.epx_program.specs.Calls.{paths_of}
 use Rattle.epx_program.specs.Endings.{AddsAnswer, status_of}
 use Rattle.epx_program.specs.Inputs.{AreTextsRead, text_relation}
-use Rattle.epx_program.proofs.StatusLemmas.{failed_device, ends-as-done, flushed_by_work, is_status}
-use Rattle.epx_program.proofs.StatusLemmas.{of_done, unchanged_by_work}
+use Rattle.epx_program.proofs.StatusLemmas.{status_of-failed_device, ends-as-done, OnOk-by_status}
+use Rattle.epx_program.proofs.StatusLemmas.{IsStatus-status_of}
+use Rattle.epx_program.proofs.StatusLemmas.{answer_status-exists, Keeps-by_work}
 use Rattle.epx_program.proofs.program.do_work.Goals as goal
 
 pub returns-clause-do_task : goal.returns-clause-do_task
@@ -21,25 +22,25 @@ returns-clause-do_task g c =
     let Adds : Bool → Type 0 =
     λ found. AddsAnswer c.args.task found (AreTextsRead Is (paths_of c.args.paths)) old new in
     rw (← c.new-input.ensures, ← c.new-opener.ensures) (record {
-      ends = is_status exit_code done _ ended;
+      ends = IsStatus-status_of exit_code done _ ended;
       over_input = λ bytes alone known. rw ended
           (ends-as-done exit_code c.args.task (bytes ∷ []) done _ _
           (do_task.input bytes alone known));
-      answered = of_done {P = Adds} exit_code done _ ended do_task.answered;
+      answered = answer_status-exists {P = Adds} exit_code done _ ended do_task.answered;
       part = λ bad. do_task.part (do_task.written.1 bad);
-      broken = λ alone. failed_device {P = failed ≡ true} exit_code done _ ended
+      broken = λ alone. status_of-failed_device {P = failed ≡ true} exit_code done _ ended
           do_task.written.0 (λ log unread. do_task.unread log unread alone);
     })
 
 pub returns-clause-nothing : goal.returns-clause-nothing
 returns-clause-nothing g c =
-    unchanged_by_work c.args.flags.exit_code (found_of c.do_task-done.result) _
+    Keeps-by_work c.args.flags.exit_code (found_of c.do_task-done.result) _
     (g.W.Sink.model.has_failed c.do_task-done.new.output) _ _ c.report_task-status.ensures
     c.do_task-done.ensures.nothing c.do_task-done.ensures.written
 
 pub returns-clause-flushed : goal.returns-clause-flushed
 returns-clause-flushed g c =
-    flushed_by_work c.args.flags.exit_code (found_of c.do_task-done.result) _ _
+    OnOk-by_status c.args.flags.exit_code (found_of c.do_task-done.result) _ _
     c.report_task-status.ensures
     c.do_task-done.ensures.flushed
 

@@ -1,5 +1,5 @@
 use Rattle.std.proofs.Common.{inr}
-use Rattle.epx_program.proofs.StatusLemmas.{unchanged_by_text, of-text}
+use Rattle.epx_program.proofs.StatusLemmas.{Keeps-by_text, of-text}
 use Rattle.epx_program.proofs.program.execute_words.Goals as goal
 
 pub returns-in-Work-clause-do_task : goal.returns-in-Work-clause-do_task
@@ -33,6 +33,6 @@ returns-in-Text-clause-text g c =
 pub returns-in-Text-clause-nothing : goal.returns-in-Text-clause-nothing
 returns-in-Text-clause-nothing g c =
     let W = g.W.Sink.model in
-    λ other. unchanged_by_text W.contents c.args.output.now c.print_text.new.output c.in-Text.status
+    λ other. Keeps-by_text W.contents c.args.output.now c.print_text.new.output c.in-Text.status
     _ (W.has_failed c.print_text.new.output) c.print_text.ensures.refused
     c.print_text.ensures.status

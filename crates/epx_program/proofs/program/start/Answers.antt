@@ -1,8 +1,8 @@
 use Rattle.std.proofs.Common.{inl, inr, refl}
 use Rattle.epx_types.specs.declared.fault.Fault.TheVariants.{Memory}
-use Rattle.epx_program.proofs.WordLemmas.{ends_as_asked}
-use Rattle.epx_program.proofs.OutputLemmas.{contents_unchanged}
-use Rattle.epx_program.proofs.StatusLemmas.{follow_status, found_by_work, of-words, work_status}
+use Rattle.epx_program.proofs.WordLemmas.{EndsAsAsked-cases}
+use Rattle.epx_program.proofs.OutputLemmas.{Keeps-contents}
+use Rattle.epx_program.proofs.StatusLemmas.{IfFollow-status, IfWork-found, of-words, IfWork-status}
 use Rattle.epx_program.proofs.program.start.Goals as goal
 use Rattle.epx_program.proofs.program.start.Goals.{in-Ok, in-Err}
 
@@ -12,7 +12,8 @@ returns-clause-status g c = rw c.from.ensures (elim c.match-read_args.branch [
       let said = w.execute_words-status.ensures in
       let words = w.in-Ok.words in
       rw w.status-is (of-words _ _ words _ w.in-Ok.ensures.status
-      (work_status _ _ _ _ _ _ _ words said.do_task) (follow_status _ _ _ _ _ _ words said.follow)
+      (IfWork-status _ _ _ _ _ _ _ words said.do_task)
+      (IfFollow-status _ _ _ _ _ _ words said.follow)
       said.text said.refused)
   | in-Err w ↦ rw (w.status-is, w.report_fault-status.ensures) (inl (inr (Memory, refl)))
 ])
@@ -23,8 +24,8 @@ returns-clause-flushed g c = rw c.from.ensures (elim c.match-read_args.branch [
       let said = w.execute_words-status.ensures in
       rw (w.status-is, w.output-is) (λ well. elim well [
         | inl zero ↦ said.flushed zero
-        | inr five ↦ found_by_work _ _ _ w.in-Ok.words _ w.in-Ok.ensures.status said.found
-            (follow_status _ _ _ _ _ _ w.in-Ok.words said.follow) said.text said.refused five
+        | inr five ↦ IfWork-found _ _ _ w.in-Ok.words _ w.in-Ok.ensures.status said.found
+            (IfFollow-status _ _ _ _ _ _ w.in-Ok.words said.follow) said.text said.refused five
       ])
   | in-Err w ↦ rw (w.status-is, w.report_fault-status.ensures) (λ well. elim well [
     | inl zero ↦ absurd (cc zero)
@@ -38,7 +39,8 @@ returns-clause-read_args g c texts taken = rw c.from.ensures (elim c.match-read_
       rw (w.status-is, w.output-is, w.saver-is) (inr (
         w.in-Ok.words,
         w.in-Ok.ensures.read_args texts taken,
-        ends_as_asked g.W.Sink.model.contents _ _ (g.I.Source.model.remaining c.args.input) _ _ _
+        EndsAsAsked-cases g.W.Sink.model.contents _ _ (g.I.Source.model.remaining c.args.input) _ _
+            _
             _ _ w.in-Ok.words said.do_task said.follow said.shown said.prefix said.text
             said.refused,
       ))
@@ -50,7 +52,7 @@ returns-clause-nothing g c = rw c.from.ensures (elim c.match-read_args.branch [
   | in-Ok w ↦ rw (w.status-is, w.output-is) (λ other. w.execute_words-status.ensures.nothing
       (λ follow. other (w.in-Ok.ensures.follow follow)))
   | in-Err w ↦ rw (w.status-is, w.output-is) (λ other well no.
-      contents_unchanged g.W.Sink.model.contents c.args.output.now _ refl)
+      Keeps-contents g.W.Sink.model.contents c.args.output.now _ refl)
 ])
 
 pub returns-clause-unsaved : goal.returns-clause-unsaved

@@ -1,7 +1,8 @@
 use Rattle.std.proofs.Common.{◌≡◌, ◌∙◌, ap, arith, length, map, string_bytes, subst, take_all, IfOk}
 use Rattle.std.specs.Vec.Iter.{into_iter_items}
-use Rattle.epx_program.proofs.BareWordLemmas.{words_end}
-use Rattle.epx_program.proofs.WordLemmas.{asks, names_follow, one_list_taken, words_taken}
+use Rattle.epx_program.proofs.BareWordLemmas.{IfOk-text_status}
+use Rattle.epx_program.proofs.WordLemmas.{IfOk-asks, IfOk-names_follow, AreTakenFor-is_unique}
+use Rattle.epx_program.proofs.WordLemmas.{AreTakenFor-at_end}
 use Rattle.epx_program.specs.Calls.{Asks}
 use Rattle.epx_program.proofs.read_args.read_args.Goals as goal
 
@@ -15,12 +16,14 @@ returns-clause-read_args c texts taken =
     let same = ap (map (λ w. w.now)) c.deref.ensures.value ∙ c.loop-text.invariant
     ∙ ap (map string_bytes) (lent ∙ c.deref-text-items.ensures.value) in
     let given = map (λ w. w.now) c.deref.result.now in
-    let all = words_taken c.args.words given c.loop-word.owned.items rest c.loop-word.invariant none
+    let all = AreTakenFor-at_end c.args.words given c.loop-word.owned.items rest
+    c.loop-word.invariant none
     same in
     let said = c.read_words.ensures in
     subst (λ words. IfOk c.read_words.result (Asks words))
-    (one_list_taken c.args.words given texts all taken)
-    (asks given c.read_words.result said.bare said.task said.workers said.cut said.paths said.parts
+    (AreTakenFor-is_unique c.args.words given texts all taken)
+    (IfOk-asks given c.read_words.result said.bare said.task said.workers said.cut said.paths
+    said.parts
     said.followed said.flags said.taken said.refused said.status)
 
 pub returns-clause-follow : goal.returns-clause-follow
@@ -33,12 +36,13 @@ returns-clause-follow c =
     let same = ap (map (λ w. w.now)) c.deref.ensures.value ∙ c.loop-text.invariant
     ∙ ap (map string_bytes) (lent ∙ c.deref-text-items.ensures.value) in
     let given = map (λ w. w.now) c.deref.result.now in
-    let all = words_taken c.args.words given c.loop-word.owned.items rest c.loop-word.invariant none
+    let all = AreTakenFor-at_end c.args.words given c.loop-word.owned.items rest
+    c.loop-word.invariant none
     same in
     let said = c.read_words.ensures in
-    names_follow given c.args.words all c.read_words.result said.bare said.followed
+    IfOk-names_follow given c.args.words all c.read_words.result said.bare said.followed
 
 pub returns-clause-status : goal.returns-clause-status
 returns-clause-status c =
-    words_end (map (λ w. w.now) c.deref.result.now) c.read_words.result
+    IfOk-text_status (map (λ w. w.now) c.deref.result.now) c.read_words.result
     c.read_words.ensures.bare c.read_words.ensures.status

@@ -3,9 +3,9 @@ use Rattle.epx_types.proofs.Common.{with_items_is, MatchResult-weaker}
 use Rattle.epx_graph.proofs.Common.{edges_of}
 use Rattle.epx_ranking.specs.inner.Ends.{AreEnds, AreRaised, IsEndBelow}
 use Rattle.epx_ranking.specs.inner.SequenceKeys.{AreLeftOut}
-use Rattle.epx_components.specs.Partitions.{parts, number_for}
-use Rattle.epx_ranking.proofs.ListedNodeLemmas.{nodes_committed, nodes_within}
-use Rattle.epx_ranking.proofs.NodeFaultLemmas.{prefix_from_nodes, fault_from_place}
+use Rattle.epx_components.specs.between.Partitions.{parts, number_for}
+use Rattle.epx_ranking.proofs.ListedNodeLemmas.{nodes-committed, nodes-within}
+use Rattle.epx_ranking.proofs.NodeFaultLemmas.{IsLawfulPrefix-from_nodes, IsPrefixFault-from_node}
 use Rattle.epx_ranking.proofs.check.check_listed.Goals as goal
 
 pub find_ends-requires-clause-nodes : goal.find_ends-requires-clause-nodes
@@ -14,7 +14,7 @@ find_ends-requires-clause-nodes c =
     let ids = c.requires.ready.0 in
     let ready = c.requires.ready.1 in
     rw c.deref-2.ensures.value
-    (nodes_within c.args.merged.now c.args.graph.now c.requires.graph ids node_list.nodes.items
+    (nodes-within c.args.merged.now c.args.graph.now c.requires.graph ids node_list.nodes.items
     node_list.marks.items ready.listed _ c.requires.partition.each_node)
 
 pub check_positions-requires-clause-nodes : goal.check_positions-requires-clause-nodes
@@ -23,7 +23,7 @@ check_positions-requires-clause-nodes c =
     let ids = c.requires.ready.0 in
     let ready = c.requires.ready.1 in
     rw c.deref-7.ensures.value
-    (nodes_within c.args.merged.now c.args.graph.now c.requires.graph ids node_list.nodes.items
+    (nodes-within c.args.merged.now c.args.graph.now c.requires.graph ids node_list.nodes.items
     node_list.marks.items ready.listed _ c.requires.partition.each_node)
 
 pub check_positions-requires-clause-committed : goal.check_positions-requires-clause-committed
@@ -32,7 +32,7 @@ check_positions-requires-clause-committed c =
     let ids = c.requires.ready.0 in
     let ready = c.requires.ready.1 in
     rw c.deref-7.ensures.value
-    (nodes_committed c.args.merged.now c.args.graph.now c.requires.graph ids
+    (nodes-committed c.args.merged.now c.args.graph.now c.requires.graph ids
     node_list.nodes.items node_list.marks.items ready.listed ready.once)
 
 pub returns : goal.returns
@@ -68,7 +68,7 @@ returns c = λ ids ready.
     MatchResult-weaker c.check_positions.result
     (rw (c.deref-5.ensures.value, c.deref-6.ensures.value, c.deref-7.ensures.value)
     at c.check_positions.ensures)
-    (λ _ none. prefix_from_nodes m g is p part ids nodes marks ready left_out are_left ends
+    (λ _ none. IsLawfulPrefix-from_nodes m g is p part ids nodes marks ready left_out are_left ends
     raised below are_ends are_raised are_below none)
-    (fault_from_place m g is p part ids nodes marks ready left_out are_left ends raised below
+    (IsPrefixFault-from_node m g is p part ids nodes marks ready left_out are_left ends raised below
     are_ends are_raised are_below)

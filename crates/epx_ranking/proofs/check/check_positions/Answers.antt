@@ -1,12 +1,12 @@
 use Rattle.std.proofs.Common.{◌≡◌, ◌<◌, Some, None, inl, inr, slice_get, subst, length, get_or, sym}
 use Rattle.std.proofs.Common.{ap, ◌∙◌, subst₂, arith}
 use Rattle.epx_types.proofs.Common.{false≢true, get_or_read, All-get_or, Instance}
-use Rattle.epx_components.specs.Partitions.{parts, component_of}
+use Rattle.epx_components.specs.between.Partitions.{parts, component_of}
 use Rattle.epx_ranking.specs.inner.SequenceKeys.{sequence_key_of, ComesBefore, ComesAfter}
 use Rattle.epx_ranking.specs.inner.SequenceKeys.{IsNodeEarlyAt, IsNodeOutOfSequenceAt, key_for}
-use Rattle.epx_ranking.proofs.SequenceKeyLemmas.{latest_in, overtaken_from_latest}
-use Rattle.epx_ranking.proofs.SequenceKeyLemmas.{overtaken_to_latest, latest_step}
-use Rattle.epx_ranking.proofs.SequenceKeyLemmas.{nodes_in_order_step}
+use Rattle.epx_ranking.proofs.SequenceKeyLemmas.{latest_in, IsNodeOvertakenAt-from_latest}
+use Rattle.epx_ranking.proofs.SequenceKeyLemmas.{ComesBefore-from_overtaken, AreLatest-step}
+use Rattle.epx_ranking.proofs.SequenceKeyLemmas.{AreNodesInOrder-step}
 use Rattle.epx_ranking.proofs.check.check_positions.Goals as goal
 
 pub returns-then-comes_before : goal.returns-then-comes_before
@@ -35,7 +35,7 @@ returns-then-comes_before c =
     let before = subst₂ ComesBefore c.of-key_of_node.ensures last
     (c.comes_before.ensures.0 c.if-comes_before.true) in (
       c.loop-place-test.true,
-      inl (overtaken_from_latest m p nodes n latest old.latest
+      inl (IsNodeOvertakenAt-from_latest m p nodes n latest old.latest
           c.entry_at.result.now c.entry_at.ensures before),
       (λ ahead. absurd
           (omega (arith, ahead, c.if-below-own.false, ap (λ x. get_or c.args.below.now x 0) own))),
@@ -102,7 +102,7 @@ loop-place-preserved c =
     let not_wrong : ¬ IsNodeOutOfSequenceAt m p left_out nodes n =
     λ wrong. elim wrong [
       | inl passed ↦ none
-          (overtaken_to_latest m p nodes n latest old.latest e c.entry_at.ensures passed)
+          (ComesBefore-from_overtaken m p nodes n latest old.latest e c.entry_at.ensures passed)
       | inr gap ↦ not_after
           (subst (λ f. ComesAfter (sequence_key_of f) (key_for p left_out k))
           (same_instance gap.0 gap.1) gap.2)
@@ -112,6 +112,6 @@ loop-place-preserved c =
     (omega (arith, ahead, c.if-below-own.false, ap (λ c. get_or below c 0) own)) in
     record {
       latest = rw (own, c.of-key_of_node.ensures)
-          (latest_step m p nodes n latest old.latest e c.entry_at.ensures own_in none);
-      none = nodes_in_order_step m p left_out below nodes n not_ahead not_wrong old.none;
+          (AreLatest-step m p nodes n latest old.latest e c.entry_at.ensures own_in none);
+      none = AreNodesInOrder-step m p left_out below nodes n not_ahead not_wrong old.none;
     }

@@ -1,4 +1,4 @@
-use Rattle.epx_components.specs.Partitions.{parts}
+use Rattle.epx_components.specs.between.Partitions.{parts}
 use Rattle.epx_ranking.specs.inner.SequenceKeys.{AreNodesInOrder}
 use Rattle.epx_ranking.proofs.SequenceKeyLemmas.{AreLatest}
 use Rattle.epx_ranking.proofs.check.check_positions.Given as goal

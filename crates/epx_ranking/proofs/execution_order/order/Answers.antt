@@ -2,8 +2,8 @@ use Rattle.std.proofs.Common.{[], length, sym, ap, ◌∙◌, subst}
 use Rattle.epx_types.proofs.Common.{with_items_is, IfOk-weaker, remaining, IsExecutionOrder}
 use Rattle.epx_types.proofs.Common.{remaining-nil, IsExecutionOrder-IsLawful}
 use Rattle.epx_graph.proofs.Common.{IsGraphOf}
-use Rattle.epx_ranking.proofs.SortedRankLemmas.{order_from_sort}
-use Rattle.epx_components.specs.Ranks.{ranked_all}
+use Rattle.epx_ranking.proofs.SortedRankLemmas.{IsExecutionOrder-from_sort}
+use Rattle.epx_components.specs.between.Ranks.{ranked_all}
 use Rattle.epx_ranking.specs.inner.ReadyRanks.{AreReadyRanks}
 use Rattle.epx_ranking.proofs.execution_order.order.Goals as goal
 
@@ -17,7 +17,7 @@ returns-clause-order g c =
     IfOk-weaker c.new.result _ _ (λ found at done is.
     let m = remaining done c.args.merged.now in
     let ready = subst (AreReadyRanks m) (sym read) (c.in_ok-ranks.ensures done is) in
-    let order = order_from_sort m c.deref_mut.result.now sorted ready sort.permutation
+    let order = IsExecutionOrder-from_sort m c.deref_mut.result.now sorted ready sort.permutation
     sort.sorted in
     subst (IsExecutionOrder m) (sym (at ∙ ap ranked_all written)) order) c.new.ensures
 

@@ -1,5 +1,5 @@
-use Rattle.epx_ranking.proofs.UniqueFaultLemmas.{fault_is_unique}
+use Rattle.epx_ranking.proofs.UniqueFaultLemmas.{IsOrderFault-is_unique}
 use Rattle.epx_ranking.proofs.laws.order_fault_is_unique.Goals as goal
 
 pub returns : goal.returns
-returns c = fault_is_unique
+returns c = IsOrderFault-is_unique

@@ -1,8 +1,8 @@
 use Rattle.std.proofs.Common.{◌≡◌, ◌+◌, List, sym, ap, ◌∙◌, subst, arith}
 use Rattle.epx_types.proofs.Common.{remaining}
 use Rattle.epx_components.specs.declared.rank.Rank.{Rank}
-use Rattle.epx_ranking.proofs.ReadyRankLemmas.{AreGathered, ready_ranks_all, ready_ranks_none}
-use Rattle.epx_ranking.proofs.ReadyRankLemmas.{ready_ranks_past, ready_ranks_push}
+use Rattle.epx_ranking.proofs.ReadyRankLemmas.{AreGathered, AreReadyRanks-all, AreGathered-none}
+use Rattle.epx_ranking.proofs.ReadyRankLemmas.{AreGathered-skip, AreGathered-push}
 use Rattle.epx_ranking.proofs.ready.ready_ranks.Goals as goal
 use Rattle.epx_ranking.proofs.ready.ready_ranks.Goals.{in-Some+in_ok-push, in_default}
 
@@ -12,7 +12,7 @@ rank_of-requires-clause-node_rank c =
 
 pub loop-node-init : goal.loop-node-init
 loop-node-init c done is = rw c.in_ok-ranks.ensures.items
-    (ready_ranks_none (remaining done c.args.merged.now) c.args.graph.now)
+    (AreGathered-none (remaining done c.args.merged.now) c.args.graph.now)
 
 pub loop-node-preserved : goal.loop-node-preserved
 loop-node-preserved c done is =
@@ -25,11 +25,11 @@ loop-node-preserved c done is =
       | in-Some+in_ok-push w ↦
           let more = ap (λ v. v.items) w.ranks-is ∙ w.in_ok-push.ensures.items in
           subst Gathered (sym more)
-          (ready_ranks_push m g is.graph n c.loop-node.ranks.items w.in-Some.rank
+          (AreGathered-push m g is.graph n c.loop-node.ranks.items w.in-Some.rank
           w.in-Some.ensures.id (w.in-Some.ensures.rank done is) old)
       | in_default w ↦
           subst Gathered (sym (ap (λ v. v.items) w.ranks-is))
-          (ready_ranks_past m g n c.loop-node.ranks.items
+          (AreGathered-skip m g n c.loop-node.ranks.items
           (λ x. w.in_default.ensures.none done x is) old)
     ]
 
@@ -45,5 +45,5 @@ returns c done is =
       c.loop-node-test.false,
       c.committed_len-node-end.ensures,
     ) in
-    ready_ranks_all m g is ranks
+    AreReadyRanks-all m g is ranks
     (subst (λ n. AreGathered m g n ranks) all (c.loop-node.invariant done is))

@@ -1,5 +1,6 @@
 use Rattle.std.proofs.Common.{◌≡◌, None, option_copied, sym, ap, ◌∙◌, rules}
-use Rattle.epx_types.proofs.Common.{Instance, instance_of, instance_of_iff, Contains-from_map}
+use Rattle.epx_types.proofs.Common.{Instance, instance_of, instance_of-iff_contains}
+use Rattle.epx_types.proofs.Common.{Contains-from_map}
 use Rattle.epx_types.proofs.Common.{Contains-slice_get, slice_get-from_map}
 use Rattle.epx_types.proofs.lists.ListPositionLemmas.{slice_get-map}
 use Rattle.epx_ranking.proofs.ready.seq_of.Goals as goal
@@ -8,7 +9,7 @@ pub unreachable-requires : goal.unreachable-requires
 unreachable-requires c =
     let m = c.args.merged.now in
     let e = Contains-from_map (λ (d : Instance). d.id) m c.args.id c.requires in
-    let some = (instance_of_iff m c.len.ensures.rising c.args.id e.0).1 (e.1, e.2) in
+    let some = (instance_of-iff_contains m c.len.ensures.rising c.args.id e.0).1 (e.1, e.2) in
     let none : instance_of m c.args.id ≡ None =
     sym c.get.ensures ∙ ap option_copied c.in-None.is in
     cc (some, none)
@@ -24,6 +25,6 @@ returns-then-eq c =
 
 pub returns : goal.returns
 returns c =
-    let found = (instance_of_iff c.args.merged.now c.len.ensures.rising c.args.id
+    let found = (instance_of-iff_contains c.args.merged.now c.len.ensures.rising c.args.id
     c.in-Some.entry.now).0 (sym c.get.ensures ∙ ap option_copied c.in-Some.is) in
     (c.in-Some.entry.now, found.0, found.1, sym c.seq.ensures)

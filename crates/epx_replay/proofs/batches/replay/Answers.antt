@@ -1,7 +1,7 @@
 use Rattle.std.proofs.Common.{◌≡◌, ◌≤◌, ◌<◌, ◌∙◌, drop, length, slice_range, sym, subst, rules}
 use Rattle.epx_types.proofs.Common.{length-map, drop_split, instance_of, ops_or_empty, commands_in}
-use Rattle.epx_replay.specs.Replays.{Executes}
-use Rattle.epx_replay.proofs.ReplayLemmas.{as_many_in_range, map-range, replay_goes_on}
+use Rattle.epx_replay.specs.between.Replays.{Executes}
+use Rattle.epx_replay.proofs.ReplayLemmas.{length-same_range, map-range, IsReplaying-next}
 use Rattle.epx_replay.proofs.batches.replay.Goals as goal
 
 pub loop-end-preserved : goal.loop-end-preserved
@@ -27,8 +27,8 @@ loop-end-preserved g c =
       within,
       on,
       c.in_ok-executed.ensures.found,
-      replay_goes_on _ _ _ _ _ _ _ _ (slice_range ids end next) (drop next ids) _
+      IsReplaying-next _ _ _ _ _ _ _ _ (slice_range ids end next) (drop next ids) _
           (slice_range commands end next) (drop next commands) _ _ _ _
-          (as_many_in_range ids commands end next same) (drop_split ids end next h.1)
+          (length-same_range ids commands end next same) (drop_split ids end next h.1)
           (drop_split commands end next h.1) h.5 c.in_ok-executed.ensures.text ran.0 ran.1,
     )

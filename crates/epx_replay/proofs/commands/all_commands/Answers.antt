@@ -2,7 +2,7 @@ use Rattle.std.proofs.Common.{◌≡◌, ◌++◌, ◌∙◌, map, flat_map, ref
 use Rattle.epx_types.proofs.Common.{map-append, instance_of, ops_or_empty, commands_in}
 use Rattle.epx_types.specs.declared.command.Command.{Command}
 use Rattle.epx_claims.specs.inner.PieceItems.{items_of_piece}
-use Rattle.epx_claims.proofs.JoinedPieceLemmas.{parts_joined}
+use Rattle.epx_claims.proofs.JoinedPieceLemmas.{flat_map-parts}
 use Rattle.epx_replay.proofs.ReplayLemmas.{map-flat_map}
 use Rattle.epx_replay.proofs.commands.all_commands.Goals as goal
 
@@ -18,7 +18,7 @@ returns g c =
     c.in_ok-all.ensures.items in
     ap (map (λ (c : Command). c.ops.now)) joined
     ∙ map-flat_map (λ (c : Command). c.ops.now) (λ part. part.items) c.in_ok-parts.parts.items
-    ∙ parts_joined cut c.pieces-pieces.ensures.fits.some_item (commands_in m) refl
+    ∙ flat_map-parts cut c.pieces-pieces.ensures.fits.some_item (commands_in m) refl
     (map-append (λ x. ops_or_empty (instance_of m x))) ids
     (λ part. map (λ (c : Command). c.ops.now) part.items) c.in_ok-parts.parts.items
     (done.len ∙ count)

@@ -2,19 +2,19 @@ use Rattle.std.proofs.Common.{◌≡◌, ◌∙◌, zip, flat_map, refl, sym, ap
 use Rattle.std.proofs.lemmas.Grind.{flat_map-append}
 use Rattle.epx_types.proofs.Common.{IfOk-weaker, piece_count}
 use Rattle.epx_claims.specs.inner.PieceItems.{items_of_piece}
-use Rattle.epx_claims.proofs.JoinedPieceLemmas.{parts_joined}
+use Rattle.epx_claims.proofs.JoinedPieceLemmas.{flat_map-parts}
 use Rattle.epx_report.specs.ReportLines.{reply_line}
-use Rattle.epx_replay.proofs.PairRangeLemmas.{as_many_pairs}
+use Rattle.epx_replay.proofs.PairRangeLemmas.{length-zip_same}
 use Rattle.epx_replay.proofs.reply_parts.reply_parts.Goals as goal
 
 pub returns : goal.returns
 returns g c =
     let cut = c.args.plan.cut in
     let pairs = zip c.args.ids.now c.args.replies.now in
-    let many = as_many_pairs c.args.ids.now c.args.replies.now c.requires.same in
+    let many = length-zip_same c.args.ids.now c.args.replies.now c.requires.same in
     let count = c.pieces-pieces.ensures.pieces ∙ ap (piece_count cut) (sym many) in
     IfOk-weaker c.claimed_map.result _ _ (λ parts done.
-    parts_joined cut c.pieces-pieces.ensures.fits.some_item (flat_map reply_line) refl
+    flat_map-parts cut c.pieces-pieces.ensures.fits.some_item (flat_map reply_line) refl
     (flat_map-append reply_line) pairs (λ part. part.items) parts.items
     (done.len ∙ count)
     (λ i inside.

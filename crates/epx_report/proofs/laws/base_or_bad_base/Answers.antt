@@ -1,5 +1,5 @@
-use Rattle.epx_report.proofs.BaseLemmas.{base_or_bad_base}
+use Rattle.epx_report.proofs.BaseLemmas.{BaseOrBadBase-holds}
 use Rattle.epx_report.proofs.laws.base_or_bad_base.Goals as goal
 
 pub returns : goal.returns
-returns c = base_or_bad_base
+returns c = BaseOrBadBase-holds

@@ -1,5 +1,5 @@
-use Rattle.epx_report.proofs.ListLemmas.{list_or_bad_list}
+use Rattle.epx_report.proofs.ListLemmas.{ListOrBadList-holds}
 use Rattle.epx_report.proofs.laws.list_or_bad_list.Goals as goal
 
 pub returns : goal.returns
-returns c = list_or_bad_list
+returns c = ListOrBadList-holds

@@ -1,5 +1,5 @@
-use Rattle.epx_report.proofs.ReportReadingLemmas.{report_is_read_as_it_says}
+use Rattle.epx_report.proofs.ReportReadingLemmas.{ReportIsReadAsItSays-holds}
 use Rattle.epx_report.proofs.laws.report_is_read_as_it_says.Goals as goal
 
 pub returns : goal.returns
-returns c = report_is_read_as_it_says
+returns c = ReportIsReadAsItSays-holds

@@ -1,6 +1,6 @@
 use Rattle.std.proofs.Common.{◌≡◌}
 use Rattle.std.specs.FinMap as contents
-use Rattle.epx_report.specs.inner.BaseReadings.{put_pairs}
+use Rattle.epx_report.specs.between.PutPairs.{put_pairs}
 use Rattle.epx_report.proofs.progress.store_of.Given as goal
 
 abbrev pub invariant-loop-key : goal.invariant-loop-key

@@ -1,12 +1,12 @@
 use Rattle.std.proofs.Common.{refl}
 use Rattle.epx_report.specs.ReportLines.{done_data}
-use Rattle.epx_report.proofs.LineTextLemmas.{line_written}
+use Rattle.epx_report.proofs.LineTextLemmas.{OnOk-line_of}
 use Rattle.epx_report.proofs.report_lines.append_done_instance.Goals as goal
 
 pub returns : goal.returns
 returns c =
     let last = c.write_id_parts.new.out in
-    line_written (done_data c.args.id) last.tokens last.before c.args.text.now.items
+    OnOk-line_of (done_data c.args.id) last.tokens last.before c.args.text.now.items
     c.end_line.new.text.items c.end_line.result
     (rw (c.in_ok-write_id_parts.ensures.tokens, c.in_ok-out.ensures.tokens) refl)
     (rw (c.in_ok-write_id_parts.ensures.before, c.in_ok-out.ensures.before) refl)

@@ -1,12 +1,12 @@
 use Rattle.std.proofs.Common.{refl}
 use Rattle.epx_report.specs.ReportLines.{reply_data}
-use Rattle.epx_report.proofs.LineTextLemmas.{line_written, reply_line-tokens}
+use Rattle.epx_report.proofs.LineTextLemmas.{OnOk-line_of, reply_line-tokens}
 use Rattle.epx_report.proofs.report_lines.append_reply.Goals as goal
 
 pub returns : goal.returns
 returns c =
     let last = c.write_reply.new.out in
-    line_written (reply_data c.args.id c.args.reply.now) last.tokens last.before
+    OnOk-line_of (reply_data c.args.id c.args.reply.now) last.tokens last.before
     c.args.text.now.items c.end_line.new.text.items c.end_line.result
     (rw (
       c.in_ok-write_reply.ensures.tokens,

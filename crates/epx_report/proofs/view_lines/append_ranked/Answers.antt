@@ -1,12 +1,12 @@
 use Rattle.std.proofs.Common.{refl}
 use Rattle.epx_report.specs.ViewLines.{order_data}
-use Rattle.epx_report.proofs.LineTextLemmas.{line_written}
+use Rattle.epx_report.proofs.LineTextLemmas.{OnOk-line_of}
 use Rattle.epx_report.proofs.view_lines.append_ranked.Goals as goal
 
 pub returns : goal.returns
 returns c =
     let last = c.write_id_parts-2.new.out in
-    line_written (order_data c.args.id c.args.depth c.args.leader) last.tokens last.before
+    OnOk-line_of (order_data c.args.id c.args.depth c.args.leader) last.tokens last.before
     c.args.text.now.items c.end_line.new.text.items c.end_line.result
     (rw (
       c.in_ok-write_id_parts-2.ensures.tokens,

@@ -1,12 +1,12 @@
 use Rattle.std.proofs.Common.{refl}
 use Rattle.epx_report.specs.ViewLines.{missing_data}
-use Rattle.epx_report.proofs.LineTextLemmas.{line_alone}
+use Rattle.epx_report.proofs.LineTextLemmas.{line_of-alone}
 use Rattle.epx_report.proofs.view_lines.missing_line.Goals as goal
 
 pub returns : goal.returns
 returns c =
     let last = c.write_id_parts.new.out in
-    line_alone (missing_data c.args.id) last.tokens last.before c.new-text.result.items
+    line_of-alone (missing_data c.args.id) last.tokens last.before c.new-text.result.items
     c.end_line.new.text.items
     (rw (c.in_ok-write_id_parts.ensures.tokens, c.in_ok-out.ensures.tokens) refl)
     (rw (c.in_ok-write_id_parts.ensures.before, c.in_ok-out.ensures.before) refl)

@@ -1,5 +1,5 @@
-use Rattle.epx_state.proofs.ReadinessLemmas.{state_of_an_executor_is_good}
+use Rattle.epx_state.proofs.ReadinessLemmas.{StateOfAnExecutorIsGood-holds}
 use Rattle.epx_state.proofs.laws.state_of_an_executor_is_good.Goals as goal
 
 pub returns : goal.returns
-returns c = state_of_an_executor_is_good
+returns c = StateOfAnExecutorIsGood-holds

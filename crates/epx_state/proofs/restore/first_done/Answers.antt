@@ -1,16 +1,16 @@
 use Rattle.std.proofs.Common.{arith}
-use Rattle.epx_state.proofs.RestoreLemmas.{first_among, none_further}
+use Rattle.epx_state.proofs.RestoreLemmas.{IsFirstAmong-at, Contains-none_further}
 use Rattle.epx_state.proofs.restore.first_done.Goals as goal
 
 pub returns-then-is_done-clause-found : goal.returns-then-is_done-clause-found
 returns-then-is_done-clause-found c =
-    first_among c.args.executor.now.done c.args.ids.now c.loop-position.position
+    IsFirstAmong-at c.args.executor.now.done c.args.ids.now c.loop-position.position
     (record { replica = 0; number = 0 }) c.loop-position-test.true
     (c.is_done.ensures.0 c.if-is_done.true) c.loop-position.invariant
 
 pub loop-position-preserved : goal.loop-position-preserved
 loop-position-preserved c =
-    none_further c.args.executor.now.done c.args.ids.now c.loop-position.position
+    Contains-none_further c.args.executor.now.done c.args.ids.now c.loop-position.position
     (record { replica = 0; number = 0 }) c.is_done.result c.is_done.ensures c.if-is_done.false
     c.loop-position-test.true c.loop-position.invariant
 

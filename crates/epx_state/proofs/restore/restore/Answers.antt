@@ -6,19 +6,20 @@ use Rattle.epx_types.specs.CommittedMap.{ids_of}
 use Rattle.epx_types.specs.Instances.{Instance}
 use Rattle.epx_types.specs.declared.id.Id.{Id}
 use Rattle.epx_committed.specs.MergedLines.{IsMergeFault}
-use Rattle.epx_report.specs.inner.BaseReadings.{put_pairs}
+use Rattle.epx_report.specs.between.PutPairs.{put_pairs}
 use Rattle.epx_executor.specs.CallLines.{call_lines}
 use Rattle.epx_executor.specs.Commits.{IsCommit}
 use Rattle.epx_state.specs.inner.StateProgress.{parts_of}
 use Rattle.epx_state.specs.inner.Restoring.{IsFirstAmong, IsRestoreFault}
-use Rattle.epx_state.proofs.RestoreLemmas.{first_is_ready, holds_parts, store_has_pairs}
-use Rattle.epx_state.proofs.RestoreLemmas.{merge_fault_is_restore_fault}
+use Rattle.epx_state.proofs.RestoreLemmas.{IsFirstReady-first_among, HoldsState-parts}
+use Rattle.epx_state.proofs.RestoreLemmas.{entries-put_rising}
+use Rattle.epx_state.proofs.RestoreLemmas.{IsRestoreFault-from_merge}
 use Rattle.epx_state.proofs.restore.restore.Goals as goal
 
 pub returns-in_err-executor-clause-refused : goal.returns-in_err-executor-clause-refused
 returns-in_err-executor-clause-refused g c =
     let refused : IsRestoreFault (parts_of c.args.progress) c.in_err-executor.field-0.0 =
-    merge_fault_is_restore_fault (parts_of c.args.progress) c.requires c.in_ok-done.done
+    IsRestoreFault-from_merge (parts_of c.args.progress) c.requires c.in_ok-done.done
     c.in_ok-done.ensures.done c.in_err-executor.field-0.0
     (subst (λ (ws : List Instance).
     IsMergeFault (call_lines c.in_ok-done.done [] ws) c.in_err-executor.field-0.0)
@@ -46,7 +47,7 @@ returns-in-Some-clause-refused g c =
     let ids_are : c.deref-2.result.now ≡ ids_of c.args.progress.waiting =
     c.deref-2.ensures.value ∙ c.in_ok-ids.ensures
     ∙ ap ids_of (c.deref.ensures.value ∙ c.in_ok-done.ensures.waiting) in
-    first_is_ready (parts_of c.args.progress) c.requires c.in_ok-done.done
+    IsFirstReady-first_among (parts_of c.args.progress) c.requires c.in_ok-done.done
     c.in_ok-done.ensures.done c.in_ok-store.store c.in_ok-executor.executor
     c.in_ok-executor._replies.items
     (subst (λ (ws : List Instance). IsCommit
@@ -63,7 +64,7 @@ returns-clause-restored g c =
     let ids_are : c.deref-2.result.now ≡ ids_of c.args.progress.waiting =
     c.deref-2.ensures.value ∙ c.in_ok-ids.ensures
     ∙ ap ids_of (c.deref.ensures.value ∙ c.in_ok-done.ensures.waiting) in (
-      holds_parts (parts_of c.args.progress) c.requires c.in_ok-done.done
+      HoldsState-parts (parts_of c.args.progress) c.requires c.in_ok-done.done
           c.in_ok-done.ensures.done c.in_ok-store.store c.in_ok-executor.executor
           c.in_ok-executor._replies.items
           (subst (λ (ws : List Instance). IsCommit
@@ -72,7 +73,7 @@ returns-clause-restored g c =
           c.in_ok-executor.ensures.ok)
           (subst (λ (ids : List Id). All (λ x. ¬ Contains c.in_ok-executor.executor.done x) ids)
           ids_are c.in-None.ensures.none)
-          (store_has_pairs c.args.progress.stored c.in_ok-store.store
+          (entries-put_rising c.args.progress.stored c.in_ok-store.store
           (c.in_ok-store.ensures ∙ ap (λ ps. put_pairs ps contents.empty)
           c.in_ok-done.ensures.stored) c.requires.stored),
       omega (arith, c.run_count-line.ensures.count),

@@ -6,14 +6,14 @@ use Rattle.epx_committed.specs.MergedLines.{IsMergeFault}
 use Rattle.epx_executor.specs.CallLines.{call_lines}
 use Rattle.epx_executor.specs.Commits.{IsCommit}
 use Rattle.epx_state.specs.Starts.{IsReportFault}
-use Rattle.epx_state.proofs.StartLemmas.{merge_fault_is_report_fault, report_is_held}
+use Rattle.epx_state.proofs.StartLemmas.{IsReportFault-from_merge, HoldsReport-commit}
 use Rattle.epx_state.proofs.start.read_report.Goals as goal
 
 pub returns-in_err-executor-clause-refused : goal.returns-in_err-executor-clause-refused
 returns-in_err-executor-clause-refused g c =
     let fault = c.in_err-executor.field-0.0 in
     let refused : IsReportFault c.args.bytes.now fault =
-    merge_fault_is_report_fault c.args.bytes.now c.in_ok-done.done fault
+    IsReportFault-from_merge c.args.bytes.now c.in_ok-done.done fault
     (subst (λ (ws : List Instance). IsMergeFault (call_lines c.in_ok-done.done [] ws) fault)
     c.new.ensures.items c.in_err-executor.ensures.refused) in
     search rules
@@ -33,6 +33,6 @@ returns-clause-held g c =
       base.done,
       base.stored,
       c.in_ok-read_base_by.ensures.base,
-      report_is_held c.restarted_executor_holds_the_same.ensures base.done c.in_ok-done.done
+      HoldsReport-commit c.restarted_executor_holds_the_same.ensures base.done c.in_ok-done.done
           base.stored each c.in_ok-executor.executor c.in_ok-executor._replies.items commit,
     )

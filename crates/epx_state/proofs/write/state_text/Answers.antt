@@ -10,7 +10,7 @@ use Rattle.epx_state.specs.declared.forms.StateCounts.{StateCounts}
 use Rattle.epx_state.specs.StateForms.{StateParts, state_counts, entry_line}
 use Rattle.epx_state.specs.States.{HoldsState}
 use Rattle.epx_state.specs.inner.WrittenLines.{AreReadCounts, IsReadEntry, IsReadPair}
-use Rattle.epx_state.proofs.StateTextLemmas.{EachIsRead, text_written, written}
+use Rattle.epx_state.proofs.StateTextLemmas.{EachIsRead, text_of_state-written, HoldsState-written}
 use Rattle.epx_state.proofs.write.state_text.Goals as goal
 
 pub returns : goal.returns
@@ -56,9 +56,9 @@ returns c =
           (subst (All (λ (s : Bor Key × ℤ). IsReadPair (s.0.now, s.1))) c.deref-2.ensures.value
           c.pairs_are_read.ensures));
     } in
-    written p v c.append_pairs.new.text.items holds c.in_ok-waiting.ensures.settled
+    HoldsState-written p v c.append_pairs.new.text.items holds c.in_ok-waiting.ensures.settled
     c.runs-runs.ensures.runs read
-    (text_written p counts c.new-text.result.items c.append_counts.new.text.items
+    (text_of_state-written p counts c.new-text.result.items c.append_counts.new.text.items
     c.append_runs.new.text.items c.append_entries.new.text.items c.append_pairs.new.text.items
     c.new-text.ensures.items counted c.in_ok-append_counts.ensures.text
     c.in_ok-append_runs.ensures.text

@@ -1,6 +1,6 @@
 use Rattle.std.proofs.Common.{[], ◌∙◌, length-set, arith, ap, sym, rules}
 use Rattle.epx_types.proofs.Common.{IsPermutation-refl}
-use Rattle.epx_store.proofs.RangeLemmas.{cut_all, cut_one_more}
+use Rattle.epx_store.proofs.RangeLemmas.{IsPermutation-cut_all, IsPermutation-cut_more}
 use Rattle.epx_store.proofs.ranges.cut_lists.Goals as goal
 
 pub loop-number-init : goal.loop-number-init
@@ -15,7 +15,7 @@ loop-number-preserved c =
       c.loop-number.invariant.0,
       length-set c.loop-number.low n low ∙ c.loop-number.invariant.1,
       length-set c.loop-number.high n high ∙ c.loop-number.invariant.2,
-      cut_one_more (λ v. v.items) c.args.lists c.loop-number.low c.loop-number.high n
+      IsPermutation-cut_more (λ v. v.items) c.args.lists c.loop-number.low c.loop-number.high n
           c.index-lists-number.result low high (omega (arith, here, c.loop-number.invariant.0))
           (omega (arith, here, c.loop-number.invariant.1))
           (omega (arith, here, c.loop-number.invariant.2)) c.index-lists-number.is
@@ -26,7 +26,7 @@ loop-number-preserved c =
 pub returns : goal.returns
 returns c =
     let past = c.loop-number-test.false in
-    cut_all (λ v. v.items) c.args.lists c.loop-number.low c.loop-number.high
+    IsPermutation-cut_all (λ v. v.items) c.args.lists c.loop-number.low c.loop-number.high
     c.loop-number.number (omega (arith, past, c.loop-number.invariant.0))
     (omega (arith, past, c.loop-number.invariant.1))
     (omega (arith, past, c.loop-number.invariant.2)) c.loop-number.invariant.3

@@ -2,13 +2,14 @@ use Rattle.std.proofs.Common.{Ok, Err, MatchResult, sym, subst}
 use Rattle.epx_names.specs.declared.task.Task.{Task}
 use Rattle.epx_tool.specs.Findings.{AnswersFinding}
 use Rattle.epx_tool.specs.TaskAnswers.{AnswersLogs}
-use Rattle.epx_merge.specs.SourceReadings.{EndsMaking}
-use Rattle.epx_tool.proofs.QuestionLemmas.{answers_task}
+use Rattle.epx_merge.specs.between.SourceReadings.{EndsMaking}
+use Rattle.epx_tool.proofs.QuestionLemmas.{EndsMaking-of_question}
 use Rattle.epx_tool.proofs.answer_task.answer_sources.Goals as goal
 
 pub returns-in-Some : goal.returns-in-Some
 returns-in-Some g c =
-    answers_task g.S.Source.model _ _ c.args.task c.in-Some.question c.in-Some.ensures.some
+    EndsMaking-of_question g.S.Source.model _ _ c.args.task c.in-Some.question
+    c.in-Some.ensures.some
     c.answer_merged.result c.answer_merged.ensures
 
 pub returns-in-None : goal.returns-in-None

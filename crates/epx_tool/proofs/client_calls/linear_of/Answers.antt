@@ -10,15 +10,15 @@ use Rattle.epx_linear.specs.declared.client_call.ClientCall.{ClientCall}
 use Rattle.epx_linear.specs.ClientCalls.{calls_at, calls_in}
 use Rattle.epx_linear.specs.LateCalls.{AreFoundLate}
 use Rattle.epx_linear.specs.LinearTexts.{linear_text}
-use Rattle.epx_linear.proofs.LinearTextLemmas.{linear_text_of_order}
-use Rattle.epx_tool.proofs.ReportLemmas.{few_ids}
+use Rattle.epx_linear.proofs.LinearTextLemmas.{IsLinearText-of_order}
+use Rattle.epx_tool.proofs.ReportLemmas.{length-ids_within}
 use Rattle.epx_tool.proofs.client_calls.linear_of.Goals as goal
 
 pub places-requires-after_bounds : goal.places-requires-after_bounds
 places-requires-after_bounds g c κs within =
     let m = c.args.merged.now in
     let order = c.in_ok-order.order in
-    few_ids [] m order
+    length-ids_within [] m order
     (subst (λ n. IsExecutionOrder n order) (sym (remaining-nil m))
     (c.in_ok-order.ensures.whole c.in_ok-graph.ensures.graph)) c.ids.result.now c.ids.ensures
     c.requires.few
@@ -27,7 +27,7 @@ pub run_and_find-requires-clause-few : goal.run_and_find-requires-clause-few
 run_and_find-requires-clause-few g c κs within =
     let m = c.args.merged.now in
     let order = c.in_ok-order.order in
-    few_ids [] m order
+    length-ids_within [] m order
     (subst (λ n. IsExecutionOrder n order) (sym (remaining-nil m))
     (c.in_ok-order.ensures.whole c.in_ok-graph.ensures.graph)) c.ids-2.result.now c.ids-2.ensures
     c.requires.few
@@ -52,7 +52,7 @@ returns-clause-text g c =
     c.ids-3.ensures
     ∙ ap₂ (λ (rs : List Reply) (found : List (Option Id)). linear_text ids rs h found)
     c.deref-2.ensures.value c.deref-4.ensures.value in
-    rw c.new.ensures.text (linear_text_of_order m h order
+    rw c.new.ensures.text (IsLinearText-of_order m h order
     (c.in_ok-order.ensures.whole c.in_ok-graph.ensures.graph) ids (commands_in m ids) replies text
     refl refl
     (c.in_ok-replies.ensures.replies

@@ -1,13 +1,13 @@
 use Rattle.std.proofs.Common.{refl, sym, ap, subst, ◌∙◌}
 use Rattle.epx_types.proofs.Common.{remaining, execute, IsWaitingList, commands_in}
-use Rattle.epx_views.specs.OpeningText.{opening_text}
-use Rattle.epx_tool.proofs.ReportLemmas.{few_ids, IsReportAfter-printed}
+use Rattle.epx_views.specs.between.OpeningText.{opening_text}
+use Rattle.epx_tool.proofs.ReportLemmas.{length-ids_within, IsReportAfter-printed}
 use Rattle.epx_tool.proofs.ReportPartsLemmas.{resumed_text-parts}
 use Rattle.epx_tool.proofs.map_texts.report_of.Goals as goal
 
 pub replay-requires-after_bounds : goal.replay-requires-after_bounds
 replay-requires-after_bounds g c κs within =
-    few_ids c.args.done.now c.args.merged.now c.in_ok-order.order
+    length-ids_within c.args.done.now c.args.merged.now c.in_ok-order.order
     (c.in_ok-order.ensures.order c.args.done.now c.in_ok-graph.ensures) c.ids.result.now
     c.ids.ensures c.requires.few
 

@@ -79,7 +79,8 @@ returns-in-AuditAll-clause-found g c = subst
     (λ a. (a.has_findings ≡ true) ↔ FindsOf question c.args.merged.now a.text.items))
     (sym c.in-AuditAll.is) c.audit_all_of.ensures.found
 
-pub returns-in_ok-picture_around-in-Around-clause-text : goal.returns-in_ok-picture_around-in-Around-clause-text
+pub returns-in_ok-picture_around-in-Around-clause-text :
+    goal.returns-in_ok-picture_around-in-Around-clause-text
 returns-in_ok-picture_around-in-Around-clause-text g c =
     let m = c.args.merged.now in
     subst (λ question. IsTextOf question m c.new-in-Around.result.text.items) (sym c.in-Around.is)

@@ -2,14 +2,14 @@ use Rattle.std.proofs.Common.{subst, sym}
 use Rattle.epx_names.specs.declared.task.Task.{Task}
 use Rattle.epx_tool.specs.declared.question.MapQuestion.TheVariants.{Resume, Verify}
 use Rattle.epx_tool.specs.inner.MapQuestions.{TaskAsks}
-use Rattle.epx_tool.proofs.QuestionLemmas.{asks_resume}
+use Rattle.epx_tool.proofs.QuestionLemmas.{TaskAsks-resume}
 use Rattle.epx_tool.proofs.question.read_question.Goals as goal
 
 pub returns-in_ok-read_base_by-in-Resume : goal.returns-in_ok-read_base_by-in-Resume
 returns-in_ok-read_base_by-in-Resume g c =
     let base = c.in_ok-read_base_by-in-Resume.field-0 in
     subst (λ (task : Task). TaskAsks task c.args.input.now (Resume base)) (sym c.in-Resume.is)
-    (asks_resume c.args.input.now base c.in_ok-read_base_by-in-Resume.ensures.base)
+    (TaskAsks-resume c.args.input.now base c.in_ok-read_base_by-in-Resume.ensures.base)
 
 pub returns-in_ok-read_said-in-Verify : goal.returns-in_ok-read_said-in-Verify
 returns-in_ok-read_said-in-Verify g c =

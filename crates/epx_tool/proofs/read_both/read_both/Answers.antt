@@ -5,17 +5,18 @@ use Rattle.epx_types.specs.declared.fault.Fault.TheVariants.{TooManyLogs, Read, 
 use Rattle.epx_devices.specs.Deliveries.{IsLogStop}
 use Rattle.epx_devices.specs.Transfers.{ConsumesExactly}
 use Rattle.epx_merge.specs.Refusals.{FitLimits}
-use Rattle.epx_merge.proofs.ConsumedLemmas.{nothing_consumed}
+use Rattle.epx_merge.proofs.ConsumedLemmas.{ConsumesUpTo-refl}
 use Rattle.epx_tool.specs.inner.MapQuestions.{IsTaskReading}
-use Rattle.epx_tool.proofs.LogsWithInputLemmas.{reading_refusal_with_input}
-use Rattle.epx_tool.proofs.LogsWithInputLemmas.{refusal_of_reading_with_input}
-use Rattle.epx_tool.proofs.QuestionLemmas.{both_made}
-use Rattle.epx_tool.proofs.ReturnedFaultLemmas.{same_error, ok_failed_iff, input_failed_iff}
+use Rattle.epx_tool.proofs.LogsWithInputLemmas.{IsReadingRefusalWithInput-of_logs}
+use Rattle.epx_tool.proofs.LogsWithInputLemmas.{IsReadingRefusalWithInput-at_input}
+use Rattle.epx_tool.proofs.QuestionLemmas.{EndsMakingBoth-made}
+use Rattle.epx_tool.proofs.ReturnedFaultLemmas.{IsErrOf-again, IsErrOf-ok_iff, IsErrOf-read_iff}
 use Rattle.epx_tool.proofs.ReturnedFaultLemmas.{HasRead-input, HasRead-written}
-use Rattle.epx_merge.proofs.ReturnedFaultLemmas.{neither, ok_is_no_fault, ok_does_not_stop}
-use Rattle.epx_merge.proofs.ReturnedFaultLemmas.{input_not_write, input_not_too_many}
-use Rattle.epx_merge.proofs.ReturnedFaultLemmas.{stops_at_input}
-use Rattle.epx_tool.proofs.RunEndingLemmas.{leaves_again, leaves_after}
+use Rattle.epx_merge.proofs.ReturnedFaultLemmas.{iff-not_failed, IsErrOf-not_ok, StopsAt-not_ok}
+use Rattle.epx_merge.proofs.ReturnedFaultLemmas.{IsErrOf-input_not_write}
+use Rattle.epx_merge.proofs.ReturnedFaultLemmas.{IsErrOf-input_not_too_many}
+use Rattle.epx_merge.proofs.ReturnedFaultLemmas.{StopsAt-input}
+use Rattle.epx_tool.proofs.RunEndingLemmas.{LeavesSources-again, LeavesSources-after}
 use Rattle.epx_tool.proofs.read_both.read_both.Goals as goal
 
 pub returns-in-Err : goal.returns-in-Err
@@ -29,16 +30,17 @@ returns-in-Err g c =
       fit = tt;
       delivered = tt;
       refusal = λ before logs known are.
-          reading_refusal_with_input logs before fault (read.refusal logs are);
+          IsReadingRefusalWithInput-of_logs logs before fault (read.refusal logs are);
       stopped = inl read.stopped;
-      nothing_written = λ is. read.nothing_written (same_error fault Write is);
-      sources = leaves_again g.S.Source.model c.args.sources.now c.note_sources.new.sources fault
+      nothing_written = λ is. read.nothing_written (IsErrOf-again fault Write is);
+      sources =
+          LeavesSources-again g.S.Source.model c.args.sources.now c.note_sources.new.sources fault
           read.sources;
       input = record {
-        read = neither _ _ (λ is.
-            let below = read.place count (inr (same_error fault (Read count) is)) in
+        read = iff-not_failed _ _ (λ is.
+            let below = read.place count (inr (IsErrOf-again fault (Read count) is)) in
             omega (arith, below)) c.requires.input;
-        taken = nothing_consumed (max_log_bytes + 1) (g.I.Source.model.remaining c.args.input.now);
+        taken = ConsumesUpTo-refl (max_log_bytes + 1) (g.I.Source.model.remaining c.args.input.now);
         ended = tt;
         untouched = λ log stops lower. refl {a = c.args.input.now};
         none_read = λ is. refl {a = c.args.input.now};
@@ -66,7 +68,7 @@ returns-in-Err-read_log g c =
           let same = read.bytes logs are in
           let logs_many : count ≡ length logs =
           many ∙ sym read.delivered.as_many ∙ ap length same in
-          refusal_of_reading_with_input logs before count
+          IsReadingRefusalWithInput-at_input logs before count
           (g.I.Source.model.remaining c.read_log.new.source) fault logs_many
           (subst FitLimits same read.fit) of_input.faults
           (λ is. subst (λ (o : Option (List ℕ)). ConsumesExactly o
@@ -78,17 +80,17 @@ returns-in-Err-read_log g c =
         short = read.fit.1;
         stopped = subst StopsAt many of_input.stops;
       });
-      nothing_written = input_not_write count fault of_input.faults;
-      sources = leaves_after _ _ _ count _ _ (omega (arith, many))
+      nothing_written = IsErrOf-input_not_write count fault of_input.faults;
+      sources = LeavesSources-after _ _ _ count _ _ (omega (arith, many))
           (HasRead-input count fault of_input.faults) read.sources;
       input = record {
-        read = input_failed_iff fault count (length old) _ many of_input.failed;
+        read = IsErrOf-read_iff fault count (length old) _ many of_input.failed;
         taken = of_input.no_further;
         ended = tt;
         untouched = λ log stops lower.
-            let at = stops_at_input count fault of_input.faults log stops in
+            let at = StopsAt-input count fault of_input.faults log stops in
             absurd (omega (arith, at, many, lower));
-        none_read = λ is. absurd (input_not_too_many count fault of_input.faults is);
+        none_read = λ is. absurd (IsErrOf-input_not_too_many count fault of_input.faults is);
       };
     })
 
@@ -98,7 +100,7 @@ returns g c =
     let read = noted.1 in
     let text = c.in-Ok-read_log.text.items in
     let of_input = c.in-Ok-read_log.ensures in
-    both_made g.I.Source.model g.S.Source.model _ _ _ _ text noted.0
+    EndsMakingBoth-made g.I.Source.model g.S.Source.model _ _ _ _ text noted.0
     (record {
       text = λ before known.
           subst (λ o. IfSome o (λ all. text ≡ all)) known of_input.bytes;
@@ -108,15 +110,15 @@ returns g c =
       delivered = record { of_input = of_input.delivered; of_logs = read.delivered };
       refusal = tt;
       stopped = tt;
-      nothing_written = ok_is_no_fault _ Write;
-      sources = leaves_after _ _ _ (length c.args.sources.now) _ _ (omega arith)
+      nothing_written = IsErrOf-not_ok _ Write;
+      sources = LeavesSources-after _ _ _ (length c.args.sources.now) _ _ (omega arith)
           (HasRead-written _ _ tt) read.sources;
       input = record {
-        read = ok_failed_iff _ _ _ _ _ of_input.failed;
+        read = IsErrOf-ok_iff _ _ _ _ _ of_input.failed;
         taken = of_input.no_further;
         ended = of_input.end;
-        untouched = λ log stops lower. absurd (ok_does_not_stop _ log stops);
-        none_read = λ is. absurd (ok_is_no_fault _ TooManyLogs is);
+        untouched = λ log stops lower. absurd (StopsAt-not_ok _ log stops);
+        none_read = λ is. absurd (IsErrOf-not_ok _ TooManyLogs is);
       };
     })
     (IsTaskReading c.args.task) c.read_noted.result

@@ -1,9 +1,9 @@
-use Rattle.epx_tool.proofs.PlainRunLemmas.{run_plain}
+use Rattle.epx_tool.proofs.PlainRunLemmas.{EndsRun-plain}
 use Rattle.epx_tool.proofs.task_runs.write_answer.Goals as goal
 
 pub returns-in-Ok : goal.returns-in-Ok
 returns-in-Ok g c =
-    run_plain g.S.Source.model c.args.task c.in-Ok.answer.has_findings _ _ g.W.Sink.model _ _
+    EndsRun-plain g.S.Source.model c.args.task c.in-Ok.answer.has_findings _ _ g.W.Sink.model _ _
     (c.in-Ok.ensures.alone c.requires.alone)
 
 pub returns-in-Err : goal.returns-in-Err

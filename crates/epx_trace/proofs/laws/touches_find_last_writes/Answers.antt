@@ -1,5 +1,5 @@
-use Rattle.epx_trace.proofs.TraceLemmas.{touches_find_last_writes}
+use Rattle.epx_trace.proofs.TraceLemmas.{TouchesFindLastWrites-holds}
 use Rattle.epx_trace.proofs.laws.touches_find_last_writes.Goals as goal
 
 pub returns : goal.returns
-returns c = touches_find_last_writes
+returns c = TouchesFindLastWrites-holds

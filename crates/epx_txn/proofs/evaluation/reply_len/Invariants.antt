@@ -1,5 +1,5 @@
 use Rattle.std.proofs.Common.{◌≡◌, ◌≤◌, take}
-use Rattle.epx_txn.specs.ReplyLengths.{reply_length}
+use Rattle.epx_txn.specs.between.ReplyLengths.{reply_length}
 use Rattle.epx_txn.proofs.evaluation.reply_len.Given as goal
 
 abbrev pub invariant-loop-op : goal.invariant-loop-op

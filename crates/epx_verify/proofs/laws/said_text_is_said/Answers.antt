@@ -1,5 +1,5 @@
-use Rattle.epx_verify.proofs.WrittenSaidLemmas.{said_text_is_said}
+use Rattle.epx_verify.proofs.WrittenSaidLemmas.{SaidTextIsSaid-holds}
 use Rattle.epx_verify.proofs.laws.said_text_is_said.Goals as goal
 
 pub returns : goal.returns
-returns c = said_text_is_said
+returns c = SaidTextIsSaid-holds

@@ -3,12 +3,12 @@ use Rattle.epx_types.proofs.Common.{nil_from_length, nat_tests}
 use Rattle.epx_lines.specs.Lines.{lines_of}
 use Rattle.epx_verify.specs.SaidTexts.{IsSaid}
 use Rattle.epx_verify.specs.inner.SaidReadings.{read_said_lines, said_reading}
-use Rattle.epx_verify.proofs.SaidReadingLemmas.{said_is_read, bad_said_is_read}
+use Rattle.epx_verify.proofs.SaidReadingLemmas.{IsSaid-from_reading, IsBadSaid-from_reading}
 use Rattle.epx_verify.proofs.said.read_said.Goals as goal
 
 pub returns-then-not-branch-clause-bad : goal.returns-then-not-branch-clause-bad
 returns-then-not-branch-clause-bad c =
-    bad_said_is_read c.args.bytes.now c.loop-rest.line (search rules)
+    IsBadSaid-from_reading c.args.bytes.now c.loop-rest.line (search rules)
 
 pub returns-clause-said : goal.returns-clause-said
 returns-clause-said c =
@@ -20,4 +20,4 @@ returns-clause-said c =
     let all = c.in_ok-into_said.ensures in
     subst (λ rs. IsSaid c.args.bytes.now rs c.in_ok-into_said.field-0.store) (sym all.replies)
     (subst (IsSaid c.args.bytes.now so_far.replies) (sym all.stored)
-    (said_is_read c.args.bytes.now so_far read))
+    (IsSaid-from_reading c.args.bytes.now so_far read))

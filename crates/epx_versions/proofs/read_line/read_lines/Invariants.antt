@@ -1,5 +1,5 @@
 use Rattle.std.proofs.Common.{take}
-use Rattle.epx_versions.specs.ReadMeanings.{AreReadSo}
+use Rattle.epx_versions.specs.between.ReadMeanings.{AreReadSo}
 use Rattle.epx_versions.proofs.read_line.read_lines.Given as goal
 
 abbrev pub invariant-loop-line : goal.invariant-loop-line

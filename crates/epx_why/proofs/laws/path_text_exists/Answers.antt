@@ -1,5 +1,5 @@
-use Rattle.epx_why.proofs.TextExistenceLemmas.{path_text_exists}
+use Rattle.epx_why.proofs.TextExistenceLemmas.{PathTextExists-holds}
 use Rattle.epx_why.proofs.laws.path_text_exists.Goals as goal
 
 pub returns : goal.returns
-returns c = path_text_exists
+returns c = PathTextExists-holds

@@ -1,5 +1,5 @@
-use Rattle.epx_why.proofs.UniqueTextLemmas.{path_text_is_unique}
+use Rattle.epx_why.proofs.UniqueTextLemmas.{PathTextIsUnique-holds}
 use Rattle.epx_why.proofs.laws.path_text_is_unique.Goals as goal
 
 pub returns : goal.returns
-returns c = path_text_is_unique
+returns c = PathTextIsUnique-holds

@@ -1,12 +1,12 @@
 use Rattle.std.proofs.Common.{◌≡◌, ◌<◌, ◌≤◌, ◌⊎◌, ◌+◌, ℕ, sym, subst, inl, inr, arith}
 use Rattle.epx_why.specs.declared.need.Need.{Need}
 use Rattle.epx_why.specs.inner.NodeNeeds.{AreNeedsIn}
-use Rattle.epx_why.proofs.NodeNeedLemmas.{needs_skip, needs_more}
+use Rattle.epx_why.proofs.NodeNeedLemmas.{AreNeedsIn-skip, AreNeedsIn-push}
 use Rattle.epx_why.proofs.node_needs.needs_in.Goals as goal
 
 pub loop-node-preserved-in_default : goal.loop-node-preserved-in_default
 loop-node-preserved-in_default c =
-    needs_skip c.args.graph.now c.args.distances.now c.args.start c.loop-node.node
+    AreNeedsIn-skip c.args.graph.now c.args.distances.now c.args.start c.loop-node.node
     c.loop-node.needs.items c.in_default.is c.loop-node.invariant
 
 pub loop-node-preserved : goal.loop-node-preserved
@@ -20,7 +20,8 @@ loop-node-preserved c =
       | inr high ↦ inr high
     ] in
     subst (AreNeedsIn g c.args.distances.now c.args.start (k + 1)) (sym c.in_ok-push.ensures.items)
-    (needs_more g c.args.distances.now c.args.start c.requires.graph k c.loop-node.needs.items w
+    (AreNeedsIn-push g c.args.distances.now c.args.start c.requires.graph k c.loop-node.needs.items
+    w
     (omega arith) kind (record { id = c.id.ensures; steps = c.in-Some.is }) c.loop-node.invariant)
 
 pub returns : goal.returns

@@ -5,7 +5,8 @@ use Rattle.epx_graph.proofs.Common.{edges_of, IsGraphOf, LeadsTo}
 use Rattle.epx_why.specs.WhyLines.{path_line, none_line}
 use Rattle.epx_why.specs.WhyTexts.{IsPathText}
 use Rattle.epx_why.specs.inner.NodeWalks.{id_at, IsFirstNodePath}
-use Rattle.epx_why.proofs.WalkLemmas.{no_start, no_end, no_path, first_path, first_walk_within}
+use Rattle.epx_why.proofs.WalkLemmas.{HasNoPath-no_start, HasNoPath-no_end, HasNoPath-not_reached}
+use Rattle.epx_why.proofs.WalkLemmas.{IsFirstPath-from_nodes, IsFirstNodePath-within}
 use Rattle.epx_why.proofs.path.path_text.Goals as goal
 
 pub returns-in_default : goal.returns-in_default
@@ -13,7 +14,7 @@ returns-in_default c =
     let g = c.args.graph.now in
     IfOk-weaker c.no_path.result (λ text. text.items ≡ none_line)
     (λ text. (m : List _) → IsGraphOf m g → IsPathText m c.args.from c.args.to text.items)
-    (λ text is m of. inr (no_start m g of c.args.from c.args.to c.in_default.ensures, is))
+    (λ text is m of. inr (HasNoPath-no_start m g of c.args.from c.args.to c.in_default.ensures, is))
     c.no_path.ensures
 
 pub returns-in_default-node : goal.returns-in_default-node
@@ -21,7 +22,8 @@ returns-in_default-node c =
     let g = c.args.graph.now in
     IfOk-weaker c.no_path-in_default-node.result (λ text. text.items ≡ none_line)
     (λ text. (m : List _) → IsGraphOf m g → IsPathText m c.args.from c.args.to text.items)
-    (λ text is m of. inr (no_end m g of c.args.from c.args.to c.in_default-node.ensures, is))
+    (λ text is m of. inr
+    (HasNoPath-no_end m g of c.args.from c.args.to c.in_default-node.ensures, is))
     c.no_path-in_default-node.ensures
 
 pub first_walk-requires-clause-graph : goal.first_walk-requires-clause-graph
@@ -50,7 +52,7 @@ walk c =
 
 pub path_line-requires : goal.path_line-requires
 path_line-requires c =
-    first_walk_within c.requires.0 c.args.graph.now c.requires.1 c.in-Some.node
+    IsFirstNodePath-within c.requires.0 c.args.graph.now c.requires.1 c.in-Some.node
     c.in-Some-node.target c.args.from c.args.to c.in-Some.ensures c.in-Some-node.ensures
     c.deref.result.now (walk c)
 
@@ -70,7 +72,8 @@ returns-in-Some-2 c =
     IfOk-weaker c.path_line.result (λ text. text.items ≡ path_line (x ∷ map (id_at g) nodes))
     (λ text. (m : List _) → IsGraphOf m g → IsPathText m x y text.items)
     (λ text is m of.
-    let path = first_path m g of k t x y c.in-Some.ensures c.in-Some-node.ensures nodes found in
+    let path = IsFirstPath-from_nodes m g of k t x y c.in-Some.ensures c.in-Some-node.ensures nodes
+    found in
     inl (record { via = path.0; first = path.1; printed = is ∙ ap path_line path.2 }))
     c.path_line.ensures
 
@@ -87,5 +90,5 @@ returns-in-None c =
     IfOk-weaker c.no_path-in-None.result (λ text. text.items ≡ none_line)
     (λ text. (m : List _) → IsGraphOf m g → IsPathText m x y text.items)
     (λ text is m of. inr
-    (no_path m g of k t x y c.in-Some.ensures c.in-Some-node.ensures none, is))
+    (HasNoPath-not_reached m g of k t x y c.in-Some.ensures c.in-Some-node.ensures none, is))
     c.no_path-in-None.ensures

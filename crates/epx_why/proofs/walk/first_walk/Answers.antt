@@ -1,7 +1,8 @@
 use Rattle.std.proofs.Common.{◌≡◌, ◌-◌, suc, sym, subst, subst₂, arith}
 use Rattle.epx_graph.proofs.Common.{edges_of}
 use Rattle.epx_why.specs.inner.NodeWalks.{IsFewest, IsNext, IsWalkBegun}
-use Rattle.epx_why.proofs.WalkLemmas.{begun_first, begun_more, begun_end, fewest_on}
+use Rattle.epx_why.proofs.WalkLemmas.{IsWalkBegun-first, IsWalkBegun-step, IsFirstNodePath-at_end}
+use Rattle.epx_why.proofs.WalkLemmas.{IsFewest-edges_of}
 use Rattle.epx_why.proofs.walk.first_walk.Goals as goal
 
 pub loop-left-init : goal.loop-left-init
@@ -17,7 +18,8 @@ loop-left-init c =
     c.deref-2.ensures.value c.edges-2.ensures.edges c.next_node-last.ensures in
     subst (λ nodes. IsWalkBegun g ds c.args.target k (suc n) nodes next n)
     (sym c.in_ok-nodes.ensures.items)
-    (begun_first g c.requires.graph c.args.target ds c.in_ok-distances.ensures k n next few is)
+    (IsWalkBegun-first g c.requires.graph c.args.target ds c.in_ok-distances.ensures k n next few
+    is)
 
 -- the walk before the step, with one step more to go
 begun : (c : goal.After-edges-in-loop-left)
@@ -35,7 +37,7 @@ next_node-last-requires-in-loop-left-clause-some c =
     let g = c.args.graph.now in
     let ds = c.in_ok-distances.distances.items in
     let left = c.loop-left.left - 1 in
-    let few = fewest_on g c.requires.graph c.args.target ds c.in_ok-distances.ensures
+    let few = IsFewest-edges_of g c.requires.graph c.args.target ds c.in_ok-distances.ensures
     c.loop-left.last left (begun c).distance in
     let few_here : IsFewest c.deref-in-loop-left.result.now c.edges-in-loop-left.result.now left =
     subst₂ (λ d x. IsFewest d x left) (sym c.deref-in-loop-left.ensures.value)
@@ -58,7 +60,7 @@ loop-left-preserved c =
     c.next_node-last-in-loop-left.ensures in
     subst (λ nodes. IsWalkBegun g ds c.args.target k (suc c.in-Some.fewest) nodes next left)
     (sym c.in_ok-push.ensures.items)
-    (begun_more g c.requires.graph c.args.target ds c.in_ok-distances.ensures k
+    (IsWalkBegun-step g c.requires.graph c.args.target ds c.in_ok-distances.ensures k
     (suc c.in-Some.fewest) c.loop-left.nodes.items last left next was is)
 
 pub returns : goal.returns
@@ -70,7 +72,7 @@ returns c =
     let few : IsFewest ds (edges_of g k) n = subst₂ (λ d x. IsFewest d x n) c.deref.ensures.value
     c.edges.ensures.edges c.in-Some.ensures in
     let done : c.loop-left.left ≡ 0 = omega arith in
-    begun_end g c.requires.graph c.args.target ds c.in_ok-distances.ensures k n
+    IsFirstNodePath-at_end g c.requires.graph c.args.target ds c.in_ok-distances.ensures k n
     c.loop-left.nodes.items c.loop-left.last few
     (subst (IsWalkBegun g ds c.args.target k (suc n) c.loop-left.nodes.items c.loop-left.last) done
     c.loop-left.invariant)

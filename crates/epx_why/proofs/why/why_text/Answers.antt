@@ -10,8 +10,8 @@ use Rattle.epx_why.specs.WhyLines.{need_line, ready_line}
 use Rattle.epx_why.specs.declared.need.Need.{Need}
 use Rattle.epx_why.specs.Needs.{AreNeedsOf, AreNeeding}
 use Rattle.epx_why.specs.WhyTexts.{IsWhyText}
-use Rattle.epx_why.proofs.WhyTextLemmas.{absent_text, missing_text, waiting_by_first}
-use Rattle.epx_why.proofs.WhyTextLemmas.{ready_without_needs, ranked_within, ready_text}
+use Rattle.epx_why.proofs.WhyTextLemmas.{IsWhyText-absent, IsWhyText-missing, IsWhyText-waiting}
+use Rattle.epx_why.proofs.WhyTextLemmas.{IsReady-no_needs, ranked_ids-within, IsWhyText-ready}
 use Rattle.epx_why.proofs.why.why_text.Goals as goal
 
 not_committed : {b : Bool} (k n : ℕ) → (k < n → b ≡ true) → b ≡ false → n ≤ k
@@ -28,7 +28,7 @@ returns-in_default c =
     (λ text. text.items ≡ missing_line c.args.id ++ flat_map (need_line (codes "needed")) [])
     (λ text. (m : List _) → IsGraphOf m g → IsExecutionOrder m c.args.order.now
     → IsWhyText m c.args.id text.items)
-    (λ text is m of order. absent_text m g of c.args.id c.in_default.ensures text.items is)
+    (λ text is m of order. IsWhyText-absent m g of c.args.id c.in_default.ensures text.items is)
     c.missing_text.ensures
 
 pub is_committed-requires : goal.is_committed-requires
@@ -51,7 +51,7 @@ returns-then-not-is_committed c =
     (λ text. text.items ≡ missing_line x ++ flat_map (need_line (codes "needed")) needing)
     (λ text. (m : List _) → IsGraphOf m g → IsExecutionOrder m c.args.order.now
     → IsWhyText m x text.items)
-    (λ text is m of order. missing_text m g of x k c.in-Some.ensures past needing
+    (λ text is m of order. IsWhyText-missing m g of x k c.in-Some.ensures past needing
     (subst (AreNeeding m x) (sym c.deref.ensures.value)
     (c.in_ok-find_needing.ensures m x of c.in-Some.ensures)) text.items is)
     c.missing_text-then-not-is_committed.ensures
@@ -72,7 +72,7 @@ returns-in-Some-first c =
     ++ flat_map (need_line (codes "needs")) needs)
     (λ text. (m : List _) → IsGraphOf m g → IsExecutionOrder m c.args.order.now
     → IsWhyText m x text.items)
-    (λ text is m of order. waiting_by_first m g of x k c.in-Some.ensures low needs first at_first
+    (λ text is m of order. IsWhyText-waiting m g of x k c.in-Some.ensures low needs first at_first
     (subst (AreNeedsOf m x) (sym c.deref-in-Some-first.ensures.value)
     (c.in_ok-needs.ensures m x of c.in-Some.ensures)) text.items is)
     c.waiting_text.ensures
@@ -84,7 +84,7 @@ position_of-requires c =
     let x = c.args.id in
     let k = c.in-Some.node in
     let low : k < g.committed = c.is_committed.ensures.0 c.if-not-is_committed.false in
-    let ready = ready_without_needs m g c.requires.1 x k c.in-Some.ensures low
+    let ready = IsReady-no_needs m g c.requires.1 x k c.in-Some.ensures low
     c.in_ok-needs.needs.items
     (c.in-None.ensures.value ∙ ap (λ (ns : List Need). slice_get ns 0) c.deref-2.ensures.value)
     (c.in_ok-needs.ensures m x c.requires.1 c.in-Some.ensures) in
@@ -95,7 +95,7 @@ ready_line-requires c =
     let order = c.args.order.now in
     let at = ap (λ (ids : List Id). slice_get ids c.position_of.result) (sym c.ids.ensures)
     ∙ c.position_of.ensures in
-    ranked_within order c.position_of.result c.args.id at
+    ranked_ids-within order c.position_of.result c.args.id at
 
 pub returns : goal.returns
 returns c =
@@ -109,5 +109,5 @@ returns c =
     → text.items ≡ ready_line position r)
     (λ text. (m : List _) → IsGraphOf m c.args.graph.now → IsExecutionOrder m order
     → IsWhyText m x text.items)
-    (λ text is m of executed. ready_text m order x position executed at text.items is)
+    (λ text is m of executed. IsWhyText-ready m order x position executed at text.items is)
     c.ready_line.ensures

@@ -3,7 +3,7 @@ use Rattle.epx_types.proofs.Common.{map_push}
 use Rattle.serde_json.specs.View.{view}
 use Rattle.epx_why.specs.WhyLines.{id_data}
 use Rattle.epx_why.proofs.MapStepLemmas.{id_at-is}
-use Rattle.epx_why.proofs.WhyLineLemmas.{path_more}
+use Rattle.epx_why.proofs.WhyLineLemmas.{path_data-push}
 use Rattle.epx_why.proofs.why_lines.path_value.Goals as goal
 
 pub loop-node-preserved : goal.loop-node-preserved
@@ -14,7 +14,7 @@ loop-node-preserved c =
     let part = c.in_ok-id_value-2.field-0 in
     ap (map view) c.in_ok-push-3.ensures.items
     ∙ map_push view c.loop-node.values.items part
-    ∙ path_more g c.args.start nodes i
+    ∙ path_data-push g c.args.start nodes i
     (map view c.loop-node.values.items) (view part)
     c.loop-node-test.true c.loop-node.invariant
     (c.in_ok-id_value-2.ensures

@@ -2,7 +2,7 @@ use Rattle.std.proofs.Common.{codes, refl}
 use Rattle.epx_types.proofs.Common.{IfOk-weaker}
 use Rattle.clap.specs.Words.{Rule, with_rule}
 use Rattle.epx_words.specs.App.{flag_rule, logs_rule, numbers_app, text_rule}
-use Rattle.epx_words.proofs.CommandLemmas.{with_argument}
+use Rattle.epx_words.proofs.CommandLemmas.{app_of-with_argument}
 use Rattle.epx_words.proofs.commands.follow.Goals as goal
 
 abbrev each : Rule
@@ -19,12 +19,15 @@ returns c =
     let start = numbers_app (codes "follow") in
     let by_line = with_rule start each in
     let from_state = with_rule by_line state in
-    let one = with_argument c.in_ok-subcommand.field-0 c.in_ok-follow.follow c.flag-each.result
+    let one =
+    app_of-with_argument c.in_ok-subcommand.field-0 c.in_ok-follow.follow c.flag-each.result
     start each c.in_ok-follow.ensures c.in_ok-subcommand.ensures c.flag-each.ensures refl in
-    let two = with_argument c.in_ok-follow.follow c.in_ok-stated.stated c.text_option-state.result
+    let two =
+    app_of-with_argument c.in_ok-follow.follow c.in_ok-stated.stated c.text_option-state.result
     by_line state c.in_ok-stated.ensures one c.text_option-state.ensures refl in
-    let three = with_argument c.in_ok-stated.stated c.in_ok-arg.field-0 c.text_option-save.result
+    let three =
+    app_of-with_argument c.in_ok-stated.stated c.in_ok-arg.field-0 c.text_option-save.result
     from_state save c.in_ok-arg.ensures two c.text_option-save.ensures refl in
     IfOk-weaker c.arg-4.result _ _
-    (λ made added. with_argument c.in_ok-arg.field-0 made c.logs.result
+    (λ made added. app_of-with_argument c.in_ok-arg.field-0 made c.logs.result
     (with_rule from_state save) logs_rule added three c.logs.ensures refl) c.arg-4.ensures

@@ -2,7 +2,7 @@ use Rattle.std.proofs.Common.{◌≡◌, codes, refl, rules}
 use Rattle.epx_types.proofs.Common.{IfOk-weaker}
 use Rattle.clap.specs.Words.{new_app, rule_of, with_rule}
 use Rattle.epx_words.specs.App.{flag_rule, number_rule}
-use Rattle.epx_words.proofs.CommandLemmas.{with_argument}
+use Rattle.epx_words.proofs.CommandLemmas.{app_of-with_argument}
 use Rattle.epx_words.proofs.commands.subcommand.Goals as goal
 
 pub returns : goal.returns
@@ -12,14 +12,15 @@ returns c =
     let cut = number_rule (codes "cut") (codes "256") 1 65536 in
     let workers_is : rule_of c.help-workers.result ≡ workers = search rules in
     let cut_is : rule_of c.help-cut.result ≡ cut = search rules in
-    let one = with_argument c.with_help.result c.in_ok-arg.field-0 c.help-workers.result start
+    let one =
+    app_of-with_argument c.with_help.result c.in_ok-arg.field-0 c.help-workers.result start
     workers c.in_ok-arg.ensures c.with_help.ensures workers_is refl in
-    let two = with_argument c.in_ok-arg.field-0 c.in_ok-numbered.numbered c.help-cut.result
+    let two = app_of-with_argument c.in_ok-arg.field-0 c.in_ok-numbered.numbered c.help-cut.result
     (with_rule start workers) cut c.in_ok-numbered.ensures one cut_is refl in
-    let three = with_argument c.in_ok-numbered.numbered c.in_ok-explained.explained
+    let three = app_of-with_argument c.in_ok-numbered.numbered c.in_ok-explained.explained
     c.flag-explain.result (with_rule (with_rule start workers) cut) (flag_rule (codes "explain"))
     c.in_ok-explained.ensures two c.flag-explain.ensures refl in
     IfOk-weaker c.arg-4.result _ _
-    (λ made added. with_argument c.in_ok-explained.explained made c.flag-quiet.result
+    (λ made added. app_of-with_argument c.in_ok-explained.explained made c.flag-quiet.result
     (with_rule (with_rule (with_rule start workers) cut) (flag_rule (codes "explain")))
     (flag_rule (codes "quiet")) added three c.flag-quiet.ensures refl) c.arg-4.ensures

@@ -6,7 +6,7 @@ use Rattle.std.specs.Str.Parse.{ExplainsUnsignedError, HasUnsignedDigitsIfOk}
 use Rattle.std.specs.declared.num.ParseIntError.{ParseIntError}
 use Rattle.clap.specs.Words.{found_of, one_of, rows_of}
 use Rattle.epx_words.specs.SubcommandRows.{IsNumberOf}
-use Rattle.epx_words.proofs.NumberLemmas.{number_read}
+use Rattle.epx_words.proofs.NumberLemmas.{IsRead-from_number}
 use Rattle.epx_words.proofs.read.plan_of.Goals as goal
 
 abbrev ParsesUsize : List ℕ → Result ℕ ParseIntError → Type 0
@@ -15,24 +15,24 @@ ParsesUsize bs r = ParsesUnsigned 64 10 bs r × ExplainsUnsignedError 10 bs r
 
 pub unwrap-workers-requires : goal.unwrap-workers-requires
 unwrap-workers-requires c =
-    let read = number_read ParseIntError ParsesUsize (λ u x g. g.0) 1 64
+    let read = IsRead-from_number ParseIntError ParsesUsize (λ u x g. g.0) 1 64
     (found_of c.args.matches.now) (codes "workers") c.get_one.result c.get_one.ensures.value
     c.requires.workers in
     subst IsSome (sym read.is) refl
 
 pub unwrap-cut-requires : goal.unwrap-cut-requires
 unwrap-cut-requires c =
-    let read = number_read ParseIntError ParsesUsize (λ u x g. g.0) 1 65536
+    let read = IsRead-from_number ParseIntError ParsesUsize (λ u x g. g.0) 1 65536
     (found_of c.args.matches.now) (codes "cut") c.get_one-2.result c.get_one-2.ensures.value
     c.requires.cut in
     subst IsSome (sym read.is) refl
 
 pub unwrap-requires : goal.unwrap-requires
 unwrap-requires c =
-    let workers = number_read ParseIntError ParsesUsize (λ u x g. g.0) 1 64
+    let workers = IsRead-from_number ParseIntError ParsesUsize (λ u x g. g.0) 1 64
     (found_of c.args.matches.now) (codes "workers") c.get_one.result c.get_one.ensures.value
     c.requires.workers in
-    let cut = number_read ParseIntError ParsesUsize (λ u x g. g.0) 1 65536
+    let cut = IsRead-from_number ParseIntError ParsesUsize (λ u x g. g.0) 1 65536
     (found_of c.args.matches.now) (codes "cut") c.get_one-2.result c.get_one-2.ensures.value
     c.requires.cut in
     let workers_is : workers.number ≡ c.unwrap-workers.result = cc in
@@ -50,7 +50,7 @@ made_of made plan wanted is h = subst (λ o. IfSome o (λ p. p ≡ wanted)) is h
 
 pub returns-clause-workers : goal.returns-clause-workers
 returns-clause-workers c =
-    let read = number_read ParseIntError ParsesUsize (λ u x g. g.0) 1 64
+    let read = IsRead-from_number ParseIntError ParsesUsize (λ u x g. g.0) 1 64
     (found_of c.args.matches.now) (codes "workers") c.get_one.result c.get_one.ensures.value
     c.requires.workers in
     let plan = made_of c.new.result c.unwrap.result _ (search rules) c.new.ensures.plan in
@@ -60,7 +60,7 @@ returns-clause-workers c =
 
 pub returns-clause-cut : goal.returns-clause-cut
 returns-clause-cut c =
-    let read = number_read ParseIntError ParsesUsize (λ u x g. g.0) 1 65536
+    let read = IsRead-from_number ParseIntError ParsesUsize (λ u x g. g.0) 1 65536
     (found_of c.args.matches.now) (codes "cut") c.get_one-2.result c.get_one-2.ensures.value
     c.requires.cut in
     let plan = made_of c.new.result c.unwrap.result _ (search rules) c.new.ensures.plan in

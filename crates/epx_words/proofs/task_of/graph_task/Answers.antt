@@ -1,7 +1,7 @@
 use Rattle.std.proofs.Common.{◌≡◌, ◌∙◌, Some, ap, codes, sym, arith, option_map}
 use Rattle.clap.specs.Words.{found_of, rows_of, first_of}
 use Rattle.clap.proofs.WalkLemmas.{first_value-rows}
-use Rattle.epx_words.proofs.SubjectLemmas.{bad_around, bad_steps}
+use Rattle.epx_words.proofs.SubjectLemmas.{NamesPart-not_bad_around, NamesPart-not_bad_steps}
 use Rattle.epx_words.proofs.task_of.graph_task.Goals as goal
 
 pub whole_graph-requires : goal.whole_graph-requires
@@ -17,7 +17,7 @@ returns-in_err-id-in-Some-clause-none c =
     sym (ap (option_map (λ s. s.now)) c.in-Some.is)
     ∙ (c.get_str.ensures ∙ first_value-rows f (codes "around")) in
     rw c.from_residual.ensures
-    (bad_around (rows_of f) c.in-Some.text.now is c.in_err-id-in-Some.ensures.none)
+    (NamesPart-not_bad_around (rows_of f) c.in-Some.text.now is c.in_err-id-in-Some.ensures.none)
 
 pub returns-in_err-steps-in-Some-clause-none : goal.returns-in_err-steps-in-Some-clause-none
 returns-in_err-steps-in-Some-clause-none c =
@@ -26,7 +26,7 @@ returns-in_err-steps-in-Some-clause-none c =
     sym (ap (option_map (λ s. s.now)) c.in-Some.is)
     ∙ (c.get_str.ensures ∙ first_value-rows f (codes "around")) in
     rw c.from_residual-in_err-steps-in-Some.ensures
-    (bad_steps (rows_of f) c.in-Some.text.now is c.in_err-steps-in-Some.ensures.none)
+    (NamesPart-not_bad_steps (rows_of f) c.in-Some.text.now is c.in_err-steps-in-Some.ensures.none)
 
 pub returns-in_ok-steps-in-Some-clause-rows : goal.returns-in_ok-steps-in-Some-clause-rows
 returns-in_ok-steps-in-Some-clause-rows c =

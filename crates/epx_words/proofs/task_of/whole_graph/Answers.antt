@@ -1,7 +1,7 @@
 use Rattle.std.proofs.Common.{◌≡◌, ◌∙◌, Some, None, ap, codes, sym, option_map}
 use Rattle.clap.specs.Words.{found_of, rows_of, first_of}
 use Rattle.clap.proofs.WalkLemmas.{first_value-rows}
-use Rattle.epx_words.proofs.SubjectLemmas.{steps_alone}
+use Rattle.epx_words.proofs.SubjectLemmas.{NamesPart-not_steps_alone}
 use Rattle.epx_words.proofs.task_of.whole_graph.Goals as goal
 
 pub returns-in-None-clause-rows : goal.returns-in-None-clause-rows
@@ -18,4 +18,4 @@ returns-in-Some-clause-none c =
     let is : Some c.in-Some.field-0.now ≡ first_of (codes "steps") (rows_of f) =
     sym (ap (option_map (λ s. s.now)) c.in-Some.is)
     ∙ (c.get_str.ensures ∙ first_value-rows f (codes "steps")) in
-    steps_alone (rows_of f) c.in-Some.field-0.now c.requires is
+    NamesPart-not_steps_alone (rows_of f) c.in-Some.field-0.now c.requires is

@@ -1,6 +1,6 @@
 use Rattle.std.proofs.Common.{◌∷◌, ◌++◌, [], sym, ap, ◌∙◌, subst}
 use Rattle.epx_types.proofs.Common.{on_ok_weaker, access_of, accesses_in}
-use Rattle.epx_apply.specs.KeyTables.{IsKeyTableOf}
+use Rattle.epx_apply.specs.between.KeyTables.{IsKeyTableOf}
 use Rattle.epx_apply.specs.inner.LevelTables.{AddsAccesses}
 use Rattle.epx_apply.proofs.KeyTableLemmas.{AddsAccesses-append}
 use Rattle.epx_apply.proofs.key_table.KeyTable.add_accesses.Goals as goal

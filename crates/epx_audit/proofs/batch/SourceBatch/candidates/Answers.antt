@@ -1,9 +1,9 @@
 use Rattle.std.proofs.Common.{◌≡◌, ℕ, ◌<◌, List, Bool, length, get_or, ap, ◌∙◌, arith}
 use Rattle.epx_types.proofs.Common.{get_or_read, All-get_or}
-use Rattle.epx_components.specs.Partitions.{ComponentParts, parts, component_of, number_for}
+use Rattle.epx_components.specs.between.Partitions.{ComponentParts, parts, component_of, number_for}
 use Rattle.epx_audit.specs.declared.batch.SourceBatch.{SourceBatch}
 use Rattle.epx_audit.specs.inner.Batches.{IsWhole}
-use Rattle.epx_audit.proofs.BatchLemmas.{apart_by_bits, related_or_free_by_bits}
+use Rattle.epx_audit.proofs.BatchLemmas.{IsReadyApart-by_bits, IsRelatedOrFree-by_bits}
 use Rattle.epx_audit.proofs.batch.SourceBatch.candidates.Goals as goal
 
 -- the words of a node and of its component
@@ -39,7 +39,7 @@ returns-clause-apart c g touches sources b batch within h =
     let alone =
     (rw (sharing, reached, reaching) at
     (c.bits_without.ensures b (omega (arith, within, batch.few)))).0 h in
-    apart_by_bits g p touches sources words c.args.ready.now batch b node within below
+    IsReadyApart-by_bits g p touches sources words c.args.ready.now batch b node within below
     c.if-not-ready-node.false alone
 
 pub returns-clause-rest : goal.returns-clause-rest
@@ -51,7 +51,7 @@ returns-clause-rest c g touches sources b batch within none =
     in
     let (sharing, reached, reaching) = read_words p words node _ _ _ _ c.requires.whole below
     c.index-own.ensures c.index.ensures c.index-2.ensures c.index-3.ensures in
-    related_or_free_by_bits g p touches sources words c.args.ready.now batch b node within below
+    IsRelatedOrFree-by_bits g p touches sources words c.args.ready.now batch b node within below
     (λ alone. none
     ((rw (sharing, reached, reaching) at
     (c.bits_without.ensures b (omega (arith, within, batch.few)))).1 alone))

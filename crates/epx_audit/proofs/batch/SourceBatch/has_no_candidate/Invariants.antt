@@ -1,6 +1,6 @@
 use Rattle.std.proofs.Common.{ℕ, ◌<◌, List, length, get_or}
 use Rattle.epx_graph.proofs.Common.{DependencyGraph, edges_of}
-use Rattle.epx_components.specs.Partitions.{parts}
+use Rattle.epx_components.specs.between.Partitions.{parts}
 use Rattle.epx_audit.specs.declared.doubtful_touches.DoubtfulTouch.{DoubtfulTouch}
 use Rattle.epx_audit.specs.inner.Batches.{IsBatch}
 use Rattle.epx_audit.specs.inner.DoubtfulKeys.{IsRelatedOrFree}

@@ -1,5 +1,6 @@
 use Rattle.std.proofs.Common.{◌↔◌, IsTrue, map, ap, ◌∙◌, subst₂}
-use Rattle.epx_audit.proofs.KeyConflictLemmas.{ShareKey, conflict_by_first, conflict_by_second}
+use Rattle.epx_audit.proofs.KeyConflictLemmas.{ShareKey, KeysConflict-by_first}
+use Rattle.epx_audit.proofs.KeyConflictLemmas.{KeysConflict-by_second}
 use Rattle.epx_audit.proofs.conflicts.CommandKeys.conflict.Goals as goal
 
 pub returns-then-have_common_key : goal.returns-then-have_common_key
@@ -11,7 +12,7 @@ returns-then-have_common_key c =
     (ap (map (λ k. k.now)) c.deref.ensures.value ∙ ap (λ v. v.written) c.self.view_is)
     (ap (map (λ k. k.now)) c.deref-2.ensures.value ∙ ap (λ v. v.touched) c.other.view_is)
     c.have_common_key.ensures in
-    conflict_by_first v w c.have_common_key.result first c.if-have_common_key.true
+    KeysConflict-by_first v w c.have_common_key.result first c.if-have_common_key.true
 
 pub returns-else-have_common_key : goal.returns-else-have_common_key
 returns-else-have_common_key c =
@@ -29,5 +30,6 @@ returns-else-have_common_key c =
     ∙ ap (λ v. v.touched) c.self.view_is)
     (ap (map (λ k. k.now)) c.deref-else-have_common_key-2.ensures.value
     ∙ ap (λ v. v.written) c.other.view_is) c.have_common_key-else-have_common_key.ensures in
-    conflict_by_second v w c.have_common_key.result c.have_common_key-else-have_common_key.result
+    KeysConflict-by_second v w c.have_common_key.result
+    c.have_common_key-else-have_common_key.result
     first second c.if-have_common_key.false

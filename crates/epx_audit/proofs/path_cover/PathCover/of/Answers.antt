@@ -1,20 +1,21 @@
 use Rattle.std.proofs.Common.{◌≡◌, ◌<◌, ◌≤◌, All, get_or, length, sym, subst, ap, ◌∙◌, arith}
-use Rattle.epx_graph.proofs.Common.{edges_of, edge_within}
+use Rattle.epx_graph.proofs.Common.{edges_of, edges_of-within}
 use Rattle.epx_audit.specs.inner.PathCovers.{AreJoined, ArePositions, AreTails, lists_of}
-use Rattle.epx_audit.proofs.OrderNodeLemmas.{leaders_join, nodes_in_graph}
-use Rattle.epx_audit.proofs.OrderOnceLemmas.{nodes_once}
-use Rattle.epx_audit.proofs.PathCoverStepLemmas.{IsStep, covered_next, tails_next, tails_written}
+use Rattle.epx_audit.proofs.OrderNodeLemmas.{LeadersJoin-order_nodes, All-nodes_in_graph}
+use Rattle.epx_audit.proofs.OrderOnceLemmas.{get_or-nodes_once}
+use Rattle.epx_audit.proofs.PathCoverStepLemmas.{IsStep, AreCovered-next, AreTails-next}
+use Rattle.epx_audit.proofs.PathCoverStepLemmas.{take-written}
 use Rattle.epx_audit.proofs.path_cover.PathCover.of.Goals as goal
 
 pub positions_of-requires : goal.positions_of-requires
 positions_of-requires c = record {
   nodes = subst (λ n. All (λ k. k < n) c.args.nodes.now) (sym c.len.ensures.len)
-      (nodes_in_graph c.args.merged.now c.args.order.now c.args.nodes.now c.requires.nodes
+      (All-nodes_in_graph c.args.merged.now c.args.order.now c.args.nodes.now c.requires.nodes
       c.args.graph.now c.requires.graph);
 }
 
 pub merge_members-requires-clause-nodes : goal.merge_members-requires-clause-nodes
-merge_members-requires-clause-nodes c = nodes_in_graph c.args.merged.now c.args.order.now
+merge_members-requires-clause-nodes c = All-nodes_in_graph c.args.merged.now c.args.order.now
     c.args.nodes.now c.requires.nodes c.args.graph.now c.requires.graph
 
 pub loop-cover-preserved : goal.loop-cover-preserved
@@ -32,7 +33,7 @@ loop-cover-preserved c =
     omega (arith, c.len-in-loop-cover-2.ensures, c.loop-cover.cover.members.ok.0) in
     let in_order : c.component_end-end.result ≤ length c.args.nodes.now =
     omega (arith, c.component_end-end.ensures.within, c.requires.nodes.whole) in
-    let joins = leaders_join c.args.merged.now c.args.order.now nodes c.requires.nodes g
+    let joins = LeadersJoin-order_nodes c.args.merged.now c.args.order.now nodes c.requires.nodes g
     c.requires.graph c.requires.order in
     let value = c.deref_mut.ensures.value in
     let step : IsStep edges nodes old new end c.loop-cover.row.greatest.items
@@ -48,7 +49,7 @@ loop-cover-preserved c =
           c.in_ok-positions.ensures.positions;
       in_positions = λ p t below edge. omega (
         arith,
-        edge_within g c.requires.graph.graph (get_or nodes p 0) t edge,
+        edges_of-within g c.requires.graph.graph (get_or nodes p 0) t edge,
         c.in_ok-positions.ensures.len,
         c.len.ensures.len,
         ap length c.deref.ensures.value,
@@ -61,15 +62,15 @@ loop-cover-preserved c =
     } in
     let long : length c.push_component.new.tails ≡ length c.loop-cover.tails.items =
     c.push_component.ensures.tails ∙ ap length value in
-    let back = tails_written c.push_component.new.tails c.loop-cover.tails.items
+    let back = take-written c.push_component.new.tails c.loop-cover.tails.items
     c.loop-cover.tails.len long c.loop-cover.tails.ok.0 in
     record {
-      covered = covered_next edges nodes old new end c.loop-cover.row.greatest.items
+      covered = AreCovered-next edges nodes old new end c.loop-cover.row.greatest.items
           c.merge_members.new.self.greatest.items c.deref_mut.result.now c.push_component.new.tails
           c.deref.result.now next.0 next.1 step;
       within = omega (arith, next.2.whole, in_order);
       tails = subst (AreTails edges nodes new) (sym back)
-          (tails_next edges nodes old new end c.loop-cover.row.greatest.items
+          (AreTails-next edges nodes old new end c.loop-cover.row.greatest.items
           c.merge_members.new.self.greatest.items c.deref_mut.result.now c.push_component.new.tails
           c.deref.result.now next.0 next.1 step);
       each_tail = ap length back ∙ (long ∙ inv.each_tail);
@@ -88,7 +89,7 @@ returns c = record {
     c.loop-cover.cover.members.ok.0,
     c.loop-cover.invariant.within,
   );
-  once = nodes_once c.args.merged.now c.args.order.now c.args.nodes.now c.requires.nodes
+  once = get_or-nodes_once c.args.merged.now c.args.order.now c.args.nodes.now c.requires.nodes
       c.requires.order;
   covered = c.loop-cover.invariant.covered;
 }

@@ -3,18 +3,18 @@ use Rattle.std.proofs.Common.{subst, ap, ◌∙◌, arith}
 use Rattle.std.proofs.lemmas.List.Sorted.{IsNonDecreasingBy-from_sort}
 use Rattle.epx_audit.specs.declared.path_cover.PathMember.{PathMember}
 use Rattle.epx_audit.specs.inner.PathCovers.{AddsTo, greatest_on, lists_of}
-use Rattle.epx_audit.proofs.RowMergeLemmas.{next_component, paths_sorted}
+use Rattle.epx_audit.proofs.RowMergeLemmas.{IsNextComponent-from_lists, AreNotedPaths-permutation}
 use Rattle.epx_audit.proofs.path_cover.PathCover.push_component.Goals as goal
 
 pub push_row-requires : goal.push_row-requires
 push_row-requires c = record {
-  paths = paths_sorted c.note.new.self.greatest.items c.note.new.self.paths.items
+  paths = AreNotedPaths-permutation c.note.new.self.greatest.items c.note.new.self.paths.items
       c.sort_unstable.new.self.items c.sort_unstable.ensures.permutation c.in_ok-note.ensures.paths;
 }
 
 pub clear-requires : goal.clear-requires
 clear-requires c = record {
-  paths = paths_sorted c.note.new.self.greatest.items c.note.new.self.paths.items
+  paths = AreNotedPaths-permutation c.note.new.self.greatest.items c.note.new.self.paths.items
       c.sort_unstable.new.self.items c.sort_unstable.ensures.permutation c.in_ok-note.ensures.paths;
 }
 
@@ -49,9 +49,11 @@ returns-clause-next c =
     (λ x e. (x ≡ c.path_on-path.result) × (e ≡ n))) start c.in_ok-note.ensures.adds in (
       member,
       row,
-      next_component old c.args.end c.args.row.now.greatest.items row c.args.tails.now member paths
+      IsNextComponent-from_lists old c.args.end c.args.row.now.greatest.items row c.args.tails.now
+          member paths
           added.0 (omega arith) c.requires.entries start path own
-          (paths_sorted row c.note.new.self.paths.items paths c.sort_unstable.ensures.permutation
+          (AreNotedPaths-permutation row c.note.new.self.paths.items paths
+          c.sort_unstable.ensures.permutation
           c.in_ok-note.ensures.paths) added.1
           (IsNonDecreasingBy-from_sort (λ x. x) paths c.sort_unstable.ensures.sorted)
           row_start row_end c.push_copies.new.members.items c.push_row.new.row_paths.items

@@ -6,7 +6,8 @@ use Rattle.epx_types.proofs.Common.{cases_lt, false≢true, get_or_read}
 use Rattle.epx_graph.proofs.Common.{NodeReaches, edges_of}
 use Rattle.epx_audit.specs.declared.path_cover.PathMember.{PathMember}
 use Rattle.epx_audit.specs.inner.PathCovers.{lists_of, member_at}
-use Rattle.epx_audit.proofs.PathCoverLemmas.{found_decides, none_found, row_count, row_rises}
+use Rattle.epx_audit.proofs.PathCoverLemmas.{NodeReaches-by_found, NodeReaches-none_found}
+use Rattle.epx_audit.proofs.PathCoverLemmas.{length-row, get_or-row_rising}
 use Rattle.epx_audit.proofs.path_cover.PathCover.reaches.Goals as goal
 
 -- the paths in the row of a member
@@ -30,19 +31,19 @@ returns-in-Ok c = λ g nodes is later_in earlier_in.
     let row : xs ≡ paths_in (member_at members p) c.args.self.now.row_paths.items =
     ap (λ m. paths_in m c.deref.result.now) from
     ∙ ap (paths_in (member_at members p)) c.deref.ensures.value in
-    let rises = row_rises (edges_of g) nodes (lists_of c.args.self.now) is.covered p p_in in
+    let rises = get_or-row_rising (edges_of g) nodes (lists_of c.args.self.now) is.covered p p_in in
     let at = searched xs c.index-2.result.now.path (Ok c.in-Ok.index) c.in-Ok.ensures.position
     (subst (λ (ys : List ℕ). (i j : ℕ) → i ≤ j → j < length ys → get_or ys i 0 ≤ get_or ys j 0)
     (sym row) rises) in
     let i = c.in-Ok.index in
-    let decides = found_decides (edges_of g) nodes (lists_of c.args.self.now) is.covered
+    let decides = NodeReaches-by_found (edges_of g) nodes (lists_of c.args.self.now) is.covered
     (λ x y x_in y_in same. is.once x y (omega (arith, is.whole, x_in))
     (omega (arith, is.whole, y_in)) same)
     p q i p_in q_in (subst (λ (ys : List ℕ). i < length ys) row at.0)
     (subst (λ (ys : List ℕ). get_or ys i 0 ≡ (member_at members q).path) row
     (at.1 ∙ ap (λ (m : PathMember). m.path) to)) in
     let row_in = is.covered.rows p p_in in
-    let count = row_count (edges_of g) nodes (lists_of c.args.self.now) is.covered p p_in in
+    let count = length-row (edges_of g) nodes (lists_of c.args.self.now) is.covered p p_in in
     let i_in : i < length (paths_in (member_at members p) c.args.self.now.row_paths.items) =
     subst (λ (ys : List ℕ). i < length ys) row at.0 in
     let within : c.index.result.now.row_start + i < length c.args.self.now.row_positions.items =
@@ -89,13 +90,13 @@ returns-in-Err c = λ g nodes is later_in earlier_in.
     let row : xs ≡ paths_in (member_at members p) c.args.self.now.row_paths.items =
     ap (λ m. paths_in m c.deref.result.now) from
     ∙ ap (paths_in (member_at members p)) c.deref.ensures.value in
-    let rises = row_rises (edges_of g) nodes (lists_of c.args.self.now) is.covered p p_in in
+    let rises = get_or-row_rising (edges_of g) nodes (lists_of c.args.self.now) is.covered p p_in in
     let at = searched xs c.index-2.result.now.path (Err c.in-Err.field-0) c.in-Err.ensures.position
     (subst (λ (ys : List ℕ). (i j : ℕ) → i ≤ j → j < length ys → get_or ys i 0 ≤ get_or ys j 0)
     (sym row) rises) in
     let n = c.in-Err.field-0 in
     let absent : ¬ NodeReaches (edges_of g) (get_or nodes p 0) (get_or nodes q 0) =
-    none_found (edges_of g) nodes (lists_of c.args.self.now) is.covered
+    NodeReaches-none_found (edges_of g) nodes (lists_of c.args.self.now) is.covered
     (λ x y x_in y_in same. is.once x y (omega (arith, is.whole, x_in))
     (omega (arith, is.whole, y_in)) same)
     p q p_in q_in (λ i below same.

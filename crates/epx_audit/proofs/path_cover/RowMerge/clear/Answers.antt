@@ -2,7 +2,7 @@ use Rattle.std.proofs.Common.{◌≡◌, ◌≤◌, ◌<◌, ◌+◌, ℕ, Some,
 use Rattle.std.proofs.Common.{sym, ap, subst, ◌∙◌, arith}
 use Rattle.epx_types.proofs.Common.{Contains-get_or, get_or_read}
 use Rattle.epx_audit.specs.inner.PathCovers.{greatest_on}
-use Rattle.epx_audit.proofs.RowMergeLemmas.{cleared_more, path_within}
+use Rattle.epx_audit.proofs.RowMergeLemmas.{greatest_on-clear, AreNotedPaths-within}
 use Rattle.epx_audit.proofs.path_cover.RowMerge.clear.Goals as goal
 
 pub index_mut-requires : goal.index_mut-requires
@@ -17,7 +17,7 @@ index_mut-requires c =
     let path : c.index-path.result.now ≡ get_or c.loop-index.self.paths.items i 0 =
     get_or_read c.loop-index.self.paths.items i c.index-path.result.now
     (omega (arith, in', ap length same)) c.index-path.ensures 0 in
-    let within = path_within c.args.self.now.greatest.items paths (get_or paths i 0)
+    let within = AreNotedPaths-within c.args.self.now.greatest.items paths (get_or paths i 0)
     c.requires.paths (Contains-get_or paths i 0 in') in
     omega (
       arith,
@@ -42,12 +42,13 @@ loop-index-preserved c =
     get_or_read c.loop-index.self.paths.items i c.index-path.result.now
     (omega (arith, in', ap length same)) c.index-path.ensures 0
     ∙ ap (λ xs. get_or xs i 0) same in
-    let within = path_within c.args.self.now.greatest.items paths (get_or paths i 0)
+    let within = AreNotedPaths-within c.args.self.now.greatest.items paths (get_or paths i 0)
     c.requires.paths (Contains-get_or paths i 0 in') in
     record {
       len = length-set greatest _ _ ∙ len;
       same = same;
       left = subst (λ p. (x e : ℕ) → greatest_on (set greatest p None) x ≡ Some e
           → (k : ℕ) × (i + 1 ≤ k) × (k < length paths) × (get_or paths k 0 ≡ x)) (sym path)
-          (cleared_more greatest paths i (omega (arith, within, len)) c.loop-index.invariant.left);
+          (greatest_on-clear greatest paths i (omega (arith, within, len))
+          c.loop-index.invariant.left);
     }

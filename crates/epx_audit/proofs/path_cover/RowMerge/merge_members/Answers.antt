@@ -2,7 +2,7 @@ use Rattle.std.proofs.Common.{◌≡◌, ◌<◌, ◌≤◌, inl, inr, ℕ, List
 use Rattle.epx_types.proofs.Common.{cases_lt}
 use Rattle.epx_graph.proofs.Common.{edges_of}
 use Rattle.epx_audit.specs.inner.PathCovers.{AddsTo, IsMemberEntry, IsTargetEntry, lists_of}
-use Rattle.epx_audit.proofs.RowMergeLemmas.{adds_member}
+use Rattle.epx_audit.proofs.RowMergeLemmas.{AddsTo-member}
 use Rattle.epx_audit.proofs.path_cover.RowMerge.merge_members.Goals as goal
 
 pub loop-position-preserved : goal.loop-position-preserved
@@ -35,7 +35,7 @@ loop-position-preserved c =
             subst (λ k. i < length (edges (get_or nodes k 0))
             → get_or positions (get_or (edges (get_or nodes k 0)) i 0) 0 < end) same at in'
       ];
-      adds = adds_member edges nodes c.args.self.now.greatest.items
+      adds = AddsTo-member edges nodes c.args.self.now.greatest.items
           c.loop-position.self.greatest.items c.merge_targets.new.self.greatest.items
           (lists_of cover) positions n from c.loop-position.invariant.adds
           (subst (λ (ts : List ℕ). AddsTo c.loop-position.self.greatest.items

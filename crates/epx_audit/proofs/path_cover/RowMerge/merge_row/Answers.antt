@@ -2,7 +2,7 @@ use Rattle.std.proofs.Common.{◌≡◌, ◌<◌, ◌≤◌, get_or, length, sub
 use Rattle.epx_types.proofs.Common.{get_or_read}
 use Rattle.epx_audit.specs.declared.path_cover.PathMember.{PathMember}
 use Rattle.epx_audit.specs.inner.PathCovers.{AddsTo, member_at}
-use Rattle.epx_audit.proofs.RowMergeLemmas.{adds_entry}
+use Rattle.epx_audit.proofs.RowMergeLemmas.{AddsTo-entry}
 use Rattle.epx_audit.proofs.path_cover.RowMerge.merge_row.Goals as goal
 
 pub loop-entry-preserved : goal.loop-entry-preserved
@@ -35,7 +35,7 @@ loop-entry-preserved c =
     get_or_read cover.row_positions.items n c.index-in-loop-entry.result.now
     (omega (arith, below, c.requires.covered.2.entries)) c.index-in-loop-entry.ensures 0 in
     record {
-      adds = adds_entry old c.loop-entry.self.greatest.items c.note.new.self.greatest.items
+      adds = AddsTo-entry old c.loop-entry.self.greatest.items c.note.new.self.greatest.items
           cover.row_paths.items cover.row_positions.items
           (member_at cover.members.items c.args.position).row_start n from
           c.loop-entry.invariant.adds

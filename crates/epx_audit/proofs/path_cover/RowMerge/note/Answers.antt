@@ -2,7 +2,7 @@ use Rattle.std.proofs.Common.{◌≡◌, ◌⊎◌, inl, inr, ℕ, max, Some, No
 use Rattle.std.proofs.Common.{◌∙◌, arith}
 use Rattle.epx_types.proofs.Common.{cases_lt, get_or_read}
 use Rattle.epx_audit.specs.inner.PathCovers.{AreNotedPaths, greatest_on}
-use Rattle.epx_audit.proofs.RowMergeLemmas.{adds_set, paths_kept, paths_push}
+use Rattle.epx_audit.proofs.RowMergeLemmas.{AddsTo-set, AreNotedPaths-set, AreNotedPaths-push}
 use Rattle.epx_audit.proofs.path_cover.RowMerge.note.Goals as goal
 
 some_same : (a b : ℕ) → Some a ≡ Some b → a ≡ b
@@ -23,7 +23,7 @@ returns-in-Some-clause-adds c =
     sym (get_or_read greatest path c.index.result.now c.requires.path c.index.ensures None)
     ∙ c.in-Some.is in
     let value : c.max.result ≡ max c.in-Some.greatest c.args.position = omega arith in
-    adds_set greatest path c.args.position c.max.result c.requires.path (omega (arith, value))
+    AddsTo-set greatest path c.args.position c.max.result c.requires.path (omega (arith, value))
     (elim (greater c.in-Some.greatest c.args.position) [
       | inl new ↦ inl (value ∙ new)
       | inr old ↦ inr (noted ∙ ap Some (sym (value ∙ old)))
@@ -37,7 +37,7 @@ returns-in-Some-clause-paths c =
     let noted : greatest_on greatest path ≡ Some c.in-Some.greatest =
     sym (get_or_read greatest path c.index.result.now c.requires.path c.index.ensures None)
     ∙ c.in-Some.is in
-    paths_kept greatest c.args.self.now.paths.items path c.in-Some.greatest c.max.result
+    AreNotedPaths-set greatest c.args.self.now.paths.items path c.in-Some.greatest c.max.result
     c.requires.paths noted
 
 pub returns-clause-adds : goal.returns-clause-adds
@@ -45,12 +45,12 @@ returns-clause-adds c =
     let greatest = c.args.self.now.greatest.items in
     let path = c.args.path in
     let read = get_or_read greatest path c.index.result.now c.requires.path c.index.ensures None in
-    adds_set greatest path c.args.position c.args.position c.requires.path (omega arith)
+    AddsTo-set greatest path c.args.position c.args.position c.requires.path (omega arith)
     (inl refl) (λ e is. absurd (c.in_default.not-Some e (read ∙ is)))
 
 pub returns-clause-paths : goal.returns-clause-paths
 returns-clause-paths c =
     subst (AreNotedPaths (set c.args.self.now.greatest.items c.args.path (Some c.args.position)))
     (sym c.in_ok-push.ensures.items)
-    (paths_push c.args.self.now.greatest.items c.args.self.now.paths.items c.args.path
+    (AreNotedPaths-push c.args.self.now.greatest.items c.args.self.now.paths.items c.args.path
     c.args.position c.requires.paths c.requires.path)

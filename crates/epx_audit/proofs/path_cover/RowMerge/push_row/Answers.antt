@@ -2,7 +2,7 @@ use Rattle.std.proofs.Common.{◌≡◌, ◌<◌, ◌+◌, ◌++◌, ◌∷◌, 
 use Rattle.std.proofs.Common.{length, take, append_assoc, sym, subst, ap, ◌∙◌, arith, Contains}
 use Rattle.epx_types.proofs.Common.{Contains-get_or, get_or_read, take_more}
 use Rattle.epx_audit.specs.inner.PathCovers.{IsCoverRow, greatest_on}
-use Rattle.epx_audit.proofs.RowMergeLemmas.{path_within, row_push}
+use Rattle.epx_audit.proofs.RowMergeLemmas.{AreNotedPaths-within, IsCoverRow-push}
 use Rattle.epx_audit.proofs.path_cover.RowMerge.push_row.Goals as goal
 
 none_some : (x : Option ℕ) (e : ℕ) → x ≡ None → x ≡ Some e → ⊥
@@ -12,7 +12,8 @@ pub index-requires : goal.index-requires
 index-requires c =
     let x = get_or c.deref-path-items.result.now c.loop-path.path-index 0 in
     let within : x < length c.args.self.now.greatest.items =
-    path_within c.args.self.now.greatest.items c.args.self.now.paths.items x c.requires.paths
+    AreNotedPaths-within c.args.self.now.greatest.items c.args.self.now.paths.items x
+    c.requires.paths
     (subst (λ (ps : List ℕ). Contains ps x) c.deref-path-items.ensures.value
     (Contains-get_or c.deref-path-items.result.now c.loop-path.path-index 0
     c.loop-path-test.true)) in
@@ -27,7 +28,7 @@ unreachable-requires c =
     (Contains-get_or c.deref-path-items.result.now c.loop-path.path-index 0
     c.loop-path-test.true) in
     let noted = c.requires.paths.only x in' in
-    let within = path_within greatest c.args.self.now.paths.items x c.requires.paths in' in
+    let within = AreNotedPaths-within greatest c.args.self.now.paths.items x c.requires.paths in' in
     let read : c.index.result.now ≡ greatest_on greatest x =
     get_or_read greatest x c.index.result.now within c.index.ensures None in
     none_some (greatest_on greatest x) noted.0 (sym read ∙ c.in-None.is) noted.1
@@ -44,7 +45,7 @@ loop-path-preserved c =
     let in' : Contains c.args.self.now.paths.items x =
     subst (λ (ps : List ℕ). Contains ps x) value
     (Contains-get_or c.deref-path-items.result.now n 0 c.loop-path-test.true) in
-    let within = path_within greatest paths x c.requires.paths in' in
+    let within = AreNotedPaths-within greatest paths x c.requires.paths in' in
     let read : c.index.result.now ≡ greatest_on greatest x =
     get_or_read greatest x c.index.result.now within c.index.ensures None in
     let more : take (n + 1) paths ≡ take n paths ++ x ∷ [] =
@@ -59,7 +60,8 @@ loop-path-preserved c =
         old.positions.0 ++ c.in-Some.position ∷ [],
         subst (λ (ps : List ℕ). IsCoverRow greatest ps (old.positions.0 ++ c.in-Some.position ∷ []))
             (sym more)
-            (row_push greatest (take n paths) old.positions.0 x c.in-Some.position old.positions.1
+            (IsCoverRow-push greatest (take n paths) old.positions.0 x c.in-Some.position
+            old.positions.1
             (sym read ∙ c.in-Some.is)),
         c.in_ok-push-in-Some.ensures.items
             ∙ (ap (λ (xs : List ℕ). xs ++ c.in-Some.position ∷ []) old.positions.2

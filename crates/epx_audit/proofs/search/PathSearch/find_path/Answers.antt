@@ -1,7 +1,7 @@
 use Rattle.std.proofs.Common.{◌∷◌, [], inl, inr, Contains, sym, subst, ◌∙◌}
 use Rattle.epx_types.proofs.Common.{Contains-append_left, Contains-push}
-use Rattle.epx_graph.proofs.Common.{edges_of, edge_within}
-use Rattle.epx_components.proofs.NodePathLemmas.{reaches_edge, reaches_on}
+use Rattle.epx_graph.proofs.Common.{edges_of, edges_of-within}
+use Rattle.epx_components.proofs.NodePathLemmas.{NodeReaches-edge, NodeReaches-trans}
 use Rattle.epx_audit.proofs.search.PathSearch.find_path.Goals as goal
 
 pub open_targets-requires-clause-node : goal.open_targets-requires-clause-node
@@ -18,7 +18,7 @@ returns-then-branch-clause-reaches c = λ yes.
     (c.loop.invariant.opened node
     (subst (λ xs. Contains xs node) (sym c.in-Some.ensures.items)
     (Contains-push c.pop.new.self.items node))).1 in
-    reaches_on (edges_of c.args.graph.now) c.args.from node _ from
+    NodeReaches-trans (edges_of c.args.graph.now) c.args.from node _ from
     (c.in_ok-open_targets.ensures.reaches c.if-branch.true)
 
 pub loop-preserved : goal.loop-preserved
@@ -35,9 +35,9 @@ loop-preserved c =
             (subst (λ xs. Contains xs j) (sym c.in-Some.ensures.items)
             (Contains-append_left c.pop.new.self.items (node ∷ []) j was))
         | inr edge ↦ (
-          edge_within g c.len-end.ensures.fits node j edge,
-          reaches_on (edges_of g) c.args.from node j popped.1
-              (reaches_edge (edges_of g) node j edge),
+          edges_of-within g c.len-end.ensures.fits node j edge,
+          NodeReaches-trans (edges_of g) c.args.from node j popped.1
+              (NodeReaches-edge (edges_of g) node j edge),
         )
       ];
     }

@@ -1,7 +1,7 @@
 use Rattle.std.proofs.Common.{inl, inr, Contains, length, length-set, get_or, subst, ap, ◌∙◌}
 use Rattle.epx_types.proofs.Common.{Contains-get_or, Contains-push_cases}
-use Rattle.epx_graph.proofs.Common.{edges_of, edge_within}
-use Rattle.epx_components.proofs.NodePathLemmas.{reaches_edge, reaches_on}
+use Rattle.epx_graph.proofs.Common.{edges_of, edges_of-within}
+use Rattle.epx_components.proofs.NodePathLemmas.{NodeReaches-edge, NodeReaches-trans}
 use Rattle.epx_audit.proofs.search.PathSearch.open_targets.Goals as goal
 use Rattle.epx_audit.proofs.search.PathSearch.open_targets.Goals.{then-index-position+then-index-self+in_ok-push}
 use Rattle.epx_audit.proofs.search.PathSearch.open_targets.Goals.{else-index-position}
@@ -18,8 +18,8 @@ returns-then-reaches_by_chain-clause-reaches c = λ yes.
     (Contains-get_or targets c.loop-target.target-index 0 c.loop-target-test.true) in
     let between = c.reaches_by_chain.ensures c.if-reaches_by_chain.true in
     let down = c.requires.reach.down target c.args.position
-    (edge_within g c.edges-target-items.ensures.fits node target edge) between.0 between.1 in
-    reaches_on edges node target _ (reaches_edge edges node target edge) down.1
+    (edges_of-within g c.edges-target-items.ensures.fits node target edge) between.0 between.1 in
+    NodeReaches-trans edges node target _ (NodeReaches-edge edges node target edge) down.1
 
 pub loop-target-preserved : goal.loop-target-preserved
 loop-target-preserved c =

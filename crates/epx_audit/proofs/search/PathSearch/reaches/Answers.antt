@@ -1,7 +1,7 @@
 use Rattle.std.proofs.Common.{◌≡◌, ◌<◌, length, get_or, arith, IsTrue}
 use Rattle.epx_types.proofs.Common.{get_or_read, All-get_or, IfOk-weaker}
 use Rattle.epx_graph.proofs.Common.{edges_of, NodeReaches}
-use Rattle.epx_components.proofs.NodePathLemmas.{reaches_edge, reaches_on}
+use Rattle.epx_components.proofs.NodePathLemmas.{NodeReaches-edge, NodeReaches-trans}
 use Rattle.epx_audit.proofs.search.PathSearch.reaches.Goals as goal
 use Rattle.epx_audit.proofs.search.PathSearch.reaches.Goals.{then-reaches_by_chain-via-then-reaches_by_chain}
 use Rattle.epx_audit.proofs.search.PathSearch.reaches.Goals.{then-reaches_by_chain-via-else-reaches_by_chain+then-has_edge}
@@ -32,7 +32,7 @@ returns-then-reaches_by_chain-clause-reaches c = λ yes.
       | then-reaches_by_chain-via-else-reaches_by_chain+then-has_edge w ↦
           let other : w.index.result.now ≡ get_or nodes earlier 0 =
           get_or_read nodes _ _ c.requires.earlier w.index.ensures 0 in
-          reaches_edge edges node (get_or nodes earlier 0)
+          NodeReaches-edge edges node (get_or nodes earlier 0)
           ((rw (read, other) at w.has_edge.ensures) w.if-has_edge.true)
     ]
 
@@ -53,6 +53,6 @@ returns-clause-reaches c =
     IfOk-weaker c.find_path.result
     (λ yes. IsTrue yes → NodeReaches edges node (get_or nodes start 0))
     (λ yes. IsTrue yes → NodeReaches edges node (get_or nodes earlier 0))
-    (λ yes found true. reaches_on edges node (get_or nodes start 0) (get_or nodes earlier 0)
+    (λ yes found true. NodeReaches-trans edges node (get_or nodes start 0) (get_or nodes earlier 0)
     (found true) on)
     (rw (read, first) at c.find_path.ensures.reaches)

@@ -1,8 +1,9 @@
 use Rattle.std.proofs.Common.{◌≡◌, [], ◌∷◌, ◌++◌, ◌+◌, ◌∙◌, sym, ap, refl, length, arith}
 use Rattle.epx_types.proofs.Common.{on_ok_weaker}
 use Rattle.epx_committed.specs.inner.LineIndexes.{mark_of}
-use Rattle.epx_committed.specs.inner.LineRows.{firsts_at}
-use Rattle.epx_committed.proofs.FirstLineLemmas.{known_row, named_row, known_line}
+use Rattle.epx_committed.specs.LineRows.{firsts_at}
+use Rattle.epx_committed.proofs.FirstLineLemmas.{Contains-at_mark, NamesItsLine-contains}
+use Rattle.epx_committed.proofs.FirstLineLemmas.{Contains-firsts_at}
 use Rattle.epx_committed.proofs.FirstLineLemmas.{AreFirstLines-same, AreFirstLines-push}
 use Rattle.epx_committed.proofs.FirstLineLemmas.{NotesLines-push}
 use Rattle.epx_committed.proofs.ledger.FirstLines.note_line.Goals as goal
@@ -11,18 +12,19 @@ pub line_in-first-requires : goal.line_in-first-requires
 line_in-first-requires c =
     let noted = c.args.self.now in
     let row = c.index.result.now in
-    let known = known_row c.args.lists.now noted c.requires.firsts c.args.row.id c.in-Some.index row
+    let known =
+    Contains-at_mark c.args.lists.now noted c.requires.firsts c.args.row.id c.in-Some.index row
     c.in-Some.ensures.some c.index.ensures in
-    named_row c.args.lists.now noted c.requires.firsts row known.0
+    NamesItsLine-contains c.args.lists.now noted c.requires.firsts row known.0
 
 pub returns-in-Some-clause-noted : goal.returns-in-Some-clause-noted
 returns-in-Some-clause-noted c =
     let lists = c.args.lists.now in
     let noted = c.args.self.now in
     let row = c.index.result.now in
-    let known = known_row lists noted c.requires.firsts c.args.row.id c.in-Some.index row
+    let known = Contains-at_mark lists noted c.requires.firsts c.args.row.id c.in-Some.index row
     c.in-Some.ensures.some c.index.ensures in
-    let first = known_line lists noted c.requires.firsts row c.args.line.now.instance.id
+    let first = Contains-firsts_at lists noted c.requires.firsts row c.args.line.now.instance.id
     c.line_in-first.result.now known.0 (known.1 ∙ sym c.requires.row.1) c.line_in-first.ensures in
     on_ok_weaker c.compare.result (λ noting. noting (firsts_at lists noted.rows.items) first)
     c.compare.ensures

@@ -1,5 +1,5 @@
 use Rattle.std.proofs.Common.{take}
-use Rattle.epx_committed.specs.Ledgers.{NotesLines}
+use Rattle.epx_committed.specs.between.Ledgers.{NotesLines}
 use Rattle.epx_committed.specs.inner.FirstLines.{AreFirstLines, Extends, ledger_view}
 use Rattle.epx_committed.proofs.ledger.FirstLines.note_list.Given as goal
 

@@ -1,6 +1,6 @@
 use Rattle.std.proofs.Common.{sym, subst, arith}
-use Rattle.epx_committed.specs.Ledgers.{IsLedgerOf}
-use Rattle.epx_committed.proofs.LineRowLemmas.{AreSortedRows, AreLineRows-moved, have_lists}
+use Rattle.epx_committed.specs.between.Ledgers.{IsLedgerOf}
+use Rattle.epx_committed.proofs.LineRowLemmas.{AreSortedRows, AreLineRows-moved, HasList-all}
 use Rattle.epx_committed.proofs.LineRowLemmas.{ManyInstances-rows, FewInstances-rows, IsMerged-rows}
 use Rattle.epx_committed.proofs.LedgerCloseLemmas.{IsDisagreementAt-least}
 use Rattle.epx_committed.proofs.ledger.Ledger.close.Goals as goal
@@ -8,7 +8,7 @@ use Rattle.epx_committed.proofs.ledger.Ledger.close.Goals as goal
 pub sort_rows-requires : goal.sort_rows-requires
 sort_rows-requires c =
     let lists = c.self.inside.lists in
-    have_lists lists.items c.self.inside.firsts.rows.items (omega (arith, lists.ok.0))
+    HasList-all lists.items c.self.inside.firsts.rows.items (omega (arith, lists.ok.0))
     c.self.invariant.named
 
 pub returns-then-len-gt-MAX_INSTANCES : goal.returns-then-len-gt-MAX_INSTANCES

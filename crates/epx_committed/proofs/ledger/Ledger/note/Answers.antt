@@ -1,6 +1,6 @@
 use Rattle.std.proofs.Common.{◌≡◌, ◌∙◌, sym, ap, subst, subst₂, [], ◌∷◌, length, take, arith}
 use Rattle.epx_types.proofs.Common.{take_at}
-use Rattle.epx_committed.specs.Ledgers.{NotesLines}
+use Rattle.epx_committed.specs.between.Ledgers.{NotesLines}
 use Rattle.epx_committed.specs.inner.FirstLines.{AreFirstLines, ledger_view}
 use Rattle.epx_committed.proofs.FirstLineLemmas.{AreFirstLines-list, AreFirstLines-without}
 use Rattle.epx_committed.proofs.FirstLineLemmas.{NotesLines-list, NotesLines-without}

@@ -1,6 +1,7 @@
 use Rattle.std.proofs.Common.{slice_get, Some, sym, ap, subst, ◌∙◌, arith}
-use Rattle.epx_committed.specs.inner.LineRows.{line_at, NamesItsLine}
-use Rattle.epx_committed.proofs.MergedMapLemmas.{within_rows, named_there, entry_there}
+use Rattle.epx_committed.specs.LineRows.{line_at, NamesItsLine}
+use Rattle.epx_committed.proofs.MergedMapLemmas.{length-within_rows, NamesItsLine-at_index}
+use Rattle.epx_committed.proofs.MergedMapLemmas.{slice_get-entry}
 use Rattle.epx_committed.proofs.merged.Merged.entry_at.Goals as goal
 
 pub index-requires : goal.index-requires
@@ -9,7 +10,7 @@ index-requires c =
     omega (
       arith,
       rows.ok.0,
-      within_rows c.self.inside.lists.items rows.items c.self.invariant.0 c.args.self.now
+      length-within_rows c.self.inside.lists.items rows.items c.self.invariant.0 c.args.self.now
           c.self.view_is c.args.position c.requires,
     )
 
@@ -17,7 +18,7 @@ pub line_in-requires : goal.line_in-requires
 line_in-requires c =
     let row = c.index.result.now in
     subst (λ l. NamesItsLine l row) (sym c.deref.ensures.value)
-    (named_there c.self.inside.lists.items c.self.inside.rows.items c.self.invariant.0
+    (NamesItsLine-at_index c.self.inside.lists.items c.self.inside.rows.items c.self.invariant.0
     c.args.self.now c.self.view_is c.args.position row c.requires c.index.ensures)
 
 pub returns : goal.returns
@@ -25,6 +26,6 @@ returns c =
     let row = c.index.result.now in
     let line = ap (λ l. line_at l row) (sym c.deref.ensures.value) ∙ c.line_in.ensures in
     ap (λ m. slice_get m c.args.position) (sym c.self.view_is)
-    ∙ entry_there c.self.inside.lists.items c.self.inside.rows.items c.self.invariant.0
+    ∙ slice_get-entry c.self.inside.lists.items c.self.inside.rows.items c.self.invariant.0
     c.args.self.now c.self.view_is c.args.position row c.requires c.index.ensures
     c.line_in.result.now line ∙ ap Some (sym c.entry.ensures)

@@ -1,6 +1,6 @@
 use Rattle.std.proofs.Common.{sym}
 use Rattle.epx_types.proofs.Common.{position_of-within, instance_of-position}
-use Rattle.epx_committed.proofs.MergedMapLemmas.{instance_nowhere}
+use Rattle.epx_committed.proofs.MergedMapLemmas.{instance_of-none}
 use Rattle.epx_committed.proofs.merged.Merged.get.Goals as goal
 
 pub entry_at-requires : goal.entry_at-requires
@@ -13,5 +13,5 @@ returns-in-Some c =
     c.entry_at.result.now (sym c.in-Some.ensures.position) c.entry_at.ensures)
 
 pub returns-in-None : goal.returns-in-None
-returns-in-None c = instance_nowhere c.args.self.now c.in-None.ensures.rising c.args.id
+returns-in-None c = instance_of-none c.args.self.now c.in-None.ensures.rising c.args.id
     (sym c.in-None.ensures.position)

@@ -1,8 +1,9 @@
 use Rattle.std.proofs.Common.{◌∷◌, ◌++◌, [], length, refl, ap, sym, ◌∙◌, arith}
 use Rattle.epx_types.proofs.Common.{take_all, slice_get_read}
-use Rattle.epx_committed.specs.inner.LineRows.{instances_at}
-use Rattle.epx_committed.proofs.MergedMapLemmas.{length_at}
-use Rattle.epx_committed.proofs.TakenEntryLemmas.{named_now, later_lines_stay, next_taken}
+use Rattle.epx_committed.specs.LineRows.{instances_at}
+use Rattle.epx_committed.proofs.MergedMapLemmas.{length-instances_at}
+use Rattle.epx_committed.proofs.TakenEntryLemmas.{NamesItsLine-now, LaterLinesStay-step}
+use Rattle.epx_committed.proofs.TakenEntryLemmas.{take-next_instance}
 use Rattle.epx_committed.proofs.merged.Merged.into_entries.Goals as goal
 
 pub take_entry-requires : goal.take_entry-requires
@@ -11,7 +12,8 @@ take_entry-requires c =
     let at = slice_get_read rows.items (length rows.items) c.loop-index.index c.index.result.now
     refl (omega (arith, c.loop-index-test.true, c.len-index-end.ensures, rows.ok.0))
     c.index.ensures in
-    named_now c.self.inside.lists.items c.loop-index.lists.items c.loop-index.lists.items rows.items
+    NamesItsLine-now c.self.inside.lists.items c.loop-index.lists.items c.loop-index.lists.items
+    rows.items
     c.self.invariant.0 c.loop-index.index c.index.result.now at c.loop-index.invariant.1
 
 pub loop-index-preserved : goal.loop-index-preserved
@@ -25,12 +27,12 @@ loop-index-preserved c =
     let stay = c.loop-index.invariant.1 in
     let at = slice_get_read rows.items (length rows.items) k row refl
     (omega (arith, c.loop-index-test.true, c.len-index-end.ensures, rows.ok.0)) c.index.ensures in
-    let named = named_now old now new rows.items c.self.invariant.0 k row at stay in
-    let taken = next_taken old now new rows.items c.self.invariant.0 k row at stay
+    let named = NamesItsLine-now old now new rows.items c.self.invariant.0 k row at stay in
+    let taken = take-next_instance old now new rows.items c.self.invariant.0 k row at stay
     c.take_entry.result (c.take_entry.ensures.entry named.0 named.1.0) in (
       c.in_ok-push.ensures.items
           ∙ ap (λ l. l ++ c.take_entry.result ∷ []) c.loop-index.invariant.0 ∙ sym taken,
-      later_lines_stay old now new rows.items c.self.invariant.0 k row at stay
+      LaterLinesStay-step old now new rows.items c.self.invariant.0 k row at stay
           c.take_entry.ensures.others,
     )
 
@@ -45,6 +47,6 @@ returns c =
       c.loop-index.auto.index-end,
       c.len-index-end.ensures,
       rows.ok.0,
-      length_at c.self.inside.lists.items rows.items c.self.invariant.0,
+      length-instances_at c.self.inside.lists.items rows.items c.self.invariant.0,
     ))
     ∙ c.self.view_is

@@ -1,5 +1,5 @@
 use Rattle.std.proofs.Common.{◌≡◌, take}
-use Rattle.epx_committed.specs.inner.LineRows.{instances_at}
+use Rattle.epx_committed.specs.LineRows.{instances_at}
 use Rattle.epx_committed.proofs.TakenEntryLemmas.{LaterLinesStay}
 use Rattle.epx_committed.proofs.merged.Merged.into_entries.Given as goal
 

@@ -1,10 +1,10 @@
 use Rattle.std.proofs.Common.{◌≡◌, ◌∙◌, ◌<◌, ◌↔◌, ℕ, List, length, map, All, Contains, Some, sym}
 use Rattle.std.proofs.Common.{ap, subst}
 use Rattle.epx_types.specs.declared.id.Id.{Id}
-use Rattle.epx_rows.specs.PositionGroups.{AreGroupsOf}
+use Rattle.epx_rows.specs.between.PositionGroups.{AreGroupsOf}
 use Rattle.epx_versions.specs.LineVersions.{versions_of}
 use Rattle.epx_compare.specs.inner.Catalogs.{version_ids}
-use Rattle.epx_compare.proofs.CatalogLemmas.{positions_within, rows_within}
+use Rattle.epx_compare.proofs.CatalogLemmas.{All-positions_within, All-versions_within}
 use Rattle.epx_compare.proofs.catalog.Catalog.of.Goals as goal
 
 pub positions-requires : goal.positions-requires
@@ -14,7 +14,7 @@ positions-requires c x h = (c.in_ok-ids.ensures x).1
 
 pub group_positions-requires : goal.group_positions-requires
 group_positions-requires c =
-    let held = positions_within c.in_ok-ids.ids c.in_ok-positions.positions.items
+    let held = All-positions_within c.in_ok-ids.ids c.in_ok-positions.positions.items
     c.deref-2.result.now c.in_ok-positions.ensures in
     let P : List ℕ → List Id → Type 0 = λ ks ids. All (λ j. j < length ids) ks in
     subst (λ ks. P ks c.ids-2.result.now) (sym c.deref-3.ensures.value)
@@ -24,7 +24,7 @@ pub group_positions-requires-2 : goal.group_positions-requires-2
 group_positions-requires-2 c =
     let noted = c.requires.2 in
     let lines = c.requires.0 in
-    let held = rows_within (versions_of lines) c.args.noted.rows.items lines noted.rows in
+    let held = All-versions_within (versions_of lines) c.args.noted.rows.items lines noted.rows in
     let numbers : c.deref-5.result.now ≡ map (λ r. r.version) c.args.noted.rows.items =
     c.deref-5.ensures.value ∙ (c.in_ok-numbers.ensures
     ∙ ap (map (λ r. r.version)) c.deref-4.ensures.value) in

@@ -2,7 +2,7 @@ use Rattle.std.proofs.Common.{◌≡◌, ◌-◌, ◌<◌, ◌++◌, length, tak
 use Rattle.std.proofs.Common.{◌∙◌, ap}
 use Rattle.epx_types.proofs.Common.{with_items_is, get_or_read}
 use Rattle.std.proofs.lemmas.List.{take_rest}
-use Rattle.epx_components.proofs.CloseLemmas.{closes_group}
+use Rattle.epx_components.proofs.CloseLemmas.{Closes-group}
 use Rattle.epx_components.proofs.search.Search.finish.Goals as goal
 
 pub returns : goal.returns
@@ -31,7 +31,7 @@ returns c =
         sym (get_or_read s.starts.items _ _ (omega (arith, last)) c.index-start.ensures 0
             ∙ ap (λ i. get_or s.starts.items i 0) last),
       );
-      closes = rw visits (closes_group s.visits.items c.close_nodes.new.visits s.opened.items start
+      closes = rw visits (Closes-group s.visits.items c.close_nodes.new.visits s.opened.items start
           s.count c.requires.row
           (rw group at c.close_nodes.ensures.closed)
           (rw (group, c.deref_mut.ensures.value) at c.close_nodes.ensures.others));

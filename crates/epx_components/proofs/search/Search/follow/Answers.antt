@@ -1,9 +1,10 @@
 use Rattle.std.proofs.Common.{◌<◌, length, arith}
 use Rattle.epx_types.proofs.Common.{get_or_read, on_ok_weaker}
 use Rattle.epx_graph.proofs.Common.{edges_of}
-use Rattle.epx_components.proofs.EdgeLemmas.{edge_to}
-use Rattle.epx_components.proofs.FollowLemmas.{follow_less, follow_keeps, if_both, stays_on_top}
-use Rattle.epx_components.proofs.PathEndLemmas.{open_below}
+use Rattle.epx_components.proofs.EdgeLemmas.{edges_of-target_within}
+use Rattle.epx_components.proofs.FollowLemmas.{work_left-follow, IsSearch-follow, IfOk-and}
+use Rattle.epx_components.proofs.FollowLemmas.{IsInTopGroup-stays}
+use Rattle.epx_components.proofs.PathEndLemmas.{visit_of-open_within}
 use Rattle.epx_components.specs.inner.SearchInvariants.{KeepsSearch}
 use Rattle.epx_components.specs.inner.SearchStates.{state}
 use Rattle.epx_components.specs.inner.SearchWork.{work_left}
@@ -13,7 +14,7 @@ pub arrive-requires-clause-node : goal.arrive-requires-clause-node
 arrive-requires-clause-node c =
     let s = c.args.self.now in
     let w = c.requires.search.1 in
-    let in' = open_below _ _ _ (state s) c.args.node c.requires.next.position w
+    let in' = visit_of-open_within _ _ _ (state s) c.args.node c.requires.next.position w
     c.requires.next.is_open in
     let next = get_or_read s.looked_at.items c.args.node _ (omega (arith, w.looks))
     c.index-next.ensures 0 in
@@ -22,7 +23,7 @@ arrive-requires-clause-node c =
       arith,
       w.all_visits,
       s.visits.ok.0,
-      edge_to c.args.graph.now c.requires.graph c.args.node _ c.requires.next.left,
+      edges_of-target_within c.args.graph.now c.requires.graph c.args.node _ c.requires.next.left,
     ))
 
 pub returns-clause-keeps : goal.returns-clause-keeps
@@ -30,15 +31,15 @@ returns-clause-keeps c =
     let s = c.args.self.now in
     let edges = edges_of c.args.graph.now in
     let w = c.requires.search.1 in
-    let in' = open_below edges _ _ (state s) c.args.node c.requires.next.position w
+    let in' = visit_of-open_within edges _ _ (state s) c.args.node c.requires.next.position w
     c.requires.next.is_open in
     let next = get_or_read s.looked_at.items c.args.node _ (omega (arith, w.looks))
     c.index-next.ensures 0 in
     on_ok_weaker {Q = KeepsSearch edges (length c.args.graph.now.ids) (state s)
     (state c.arrive.new.self)} c.arrive.result
-    (λ h seen w. follow_keeps edges (length c.args.graph.now.ids) seen (state s)
+    (λ h seen w. IsSearch-follow edges (length c.args.graph.now.ids) seen (state s)
     (state c.arrive.new.self) c.args.node w c.requires.next
-    (edge_to c.args.graph.now c.requires.graph c.args.node _ c.requires.next.left)
+    (edges_of-target_within c.args.graph.now c.requires.graph c.args.node _ c.requires.next.left)
     (rw (c.edges.ensures.edges, next) at h)) c.arrive.ensures.arrives
 
 pub returns-clause-less : goal.returns-clause-less
@@ -46,19 +47,20 @@ returns-clause-less c =
     let s = c.args.self.now in
     let edges = edges_of c.args.graph.now in
     let w = c.requires.search.1 in
-    let in' = open_below edges _ _ (state s) c.args.node c.requires.next.position w
+    let in' = visit_of-open_within edges _ _ (state s) c.args.node c.requires.next.position w
     c.requires.next.is_open in
     let next = get_or_read s.looked_at.items c.args.node _ (omega (arith, w.looks))
     c.index-next.ensures 0 in
     on_ok_weaker {Q = work_left c.args.graph.now.edges (state c.arrive.new.self)
     < work_left c.args.graph.now.edges (state s)} c.arrive.result
-    (λ h. follow_less c.args.graph.now.edges (state s) (state c.arrive.new.self) c.args.node _
+    (λ h. work_left-follow c.args.graph.now.edges (state s) (state c.arrive.new.self) c.args.node _
     (omega (arith, w.looks)) c.requires.next.left (rw (c.edges.ensures.edges, next) at h))
     c.arrive.ensures.arrives
 
 pub returns-clause-stays : goal.returns-clause-stays
 returns-clause-stays c =
     let next = c.requires.next in
-    if_both _ _ c.arrive.result (λ h opens seen stays. stays_on_top _ c.args.node _ next.position
+    IfOk-and _ _ c.arrive.result
+    (λ h opens seen stays. IsInTopGroup-stays _ c.args.node _ next.position
     _ (state c.arrive.new.self) (seen stays) next.is_open next.is_last h) c.arrive.ensures.arrives
     c.arrive.ensures.opens

@@ -1,6 +1,6 @@
 use Rattle.std.proofs.Common.{arith, rules, false, ◌≡◌}
 use Rattle.epx_graph.proofs.Common.{edges_of}
-use Rattle.epx_components.proofs.PathEndLemmas.{open_below}
+use Rattle.epx_components.proofs.PathEndLemmas.{visit_of-open_within}
 use Rattle.epx_components.specs.inner.SearchStates.{state}
 use Rattle.epx_components.proofs.search.Search.follow_edges.Goals as goal
 
@@ -12,7 +12,7 @@ index-requires c =
     let top = c.loop-opens.invariant.2 none in
     omega (
       arith,
-      open_below (edges_of c.args.graph.now) _ _ (state s) c.args.node top.0 w top.1,
+      visit_of-open_within (edges_of c.args.graph.now) _ _ (state s) c.args.node top.0 w top.1,
       w.looks,
       s.looked_at.ok.0,
     )

@@ -1,9 +1,9 @@
 use Rattle.std.proofs.Common.{◌≡◌, ℕ, ◌-◌, List, length, arith, sym, ◌∙◌, ap, take, subst}
 use Rattle.epx_types.proofs.Common.{get_or_read, on_ok_weaker}
 use Rattle.epx_graph.proofs.Common.{edges_of}
-use Rattle.epx_components.proofs.FinishLemmas.{finish_keeps}
-use Rattle.epx_components.proofs.LookLemmas.{pop_keeps}
-use Rattle.epx_components.proofs.PathEndLemmas.{open_below, top_open}
+use Rattle.epx_components.proofs.FinishLemmas.{IsSearch-finish}
+use Rattle.epx_components.proofs.LookLemmas.{IsSearch-pop}
+use Rattle.epx_components.proofs.PathEndLemmas.{visit_of-open_within, visit_of-top_node}
 use Rattle.epx_components.specs.inner.SearchInvariants.{IsSearch, KeepsSearch}
 use Rattle.epx_components.specs.inner.SearchStates.{state}
 use Rattle.epx_components.proofs.search.Search.step.Goals as goal
@@ -13,8 +13,8 @@ returns-in-Some-2-clause-keeps c seen w =
     let s = c.args.self.now in
     let edges = edges_of c.args.graph.now in
     let top = c.in-Some.ensures.found in
-    let in' = open_below edges _ seen (state s) c.in-Some.node top.position w
-    (top_open edges _ seen (state s) c.in-Some.node w top) in
+    let in' = visit_of-open_within edges _ seen (state s) c.in-Some.node top.position w
+    (visit_of-top_node edges _ seen (state s) c.in-Some.node w top) in
     let looked = get_or_read s.looked_at.items c.in-Some.node _ (omega (arith, w.looks))
     c.index.ensures 0 in
     let path : c.pop.new.self.items ≡ take (length s.path.items - 1) s.path.items =
@@ -22,7 +22,7 @@ returns-in-Some-2-clause-keeps c seen w =
     let Then : List ℕ → Type 0 = λ path. IsSearch edges (length c.args.graph.now.ids) seen
     (record (state s) { path = path }) in
     subst Then (sym path)
-    (pop_keeps edges (length c.args.graph.now.ids) seen (state s) c.in-Some.node w top
+    (IsSearch-pop edges (length c.args.graph.now.ids) seen (state s) c.in-Some.node w top
     (omega (arith, c.if-index-edges.false, looked, ap length c.edges.ensures.edges)))
 
 pub returns-in-None-clause-keeps : goal.returns-in-None-clause-keeps
@@ -31,6 +31,6 @@ returns-in-None-clause-keeps c =
     let edges = edges_of c.args.graph.now in
     on_ok_weaker {Q = KeepsSearch edges (length c.args.graph.now.ids) (state s)
     (state c.finish.new.self)} c.finish.result
-    (λ h seen w. finish_keeps edges (length c.args.graph.now.ids) seen (state s)
+    (λ h seen w. IsSearch-finish edges (length c.args.graph.now.ids) seen (state s)
     (state c.finish.new.self) w h (λ i l. omega (arith, c.in-None.ensures.none i l, h.last.1)))
     c.finish.ensures

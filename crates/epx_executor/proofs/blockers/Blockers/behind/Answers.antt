@@ -4,7 +4,7 @@ use Rattle.epx_types.specs.declared.id.Id.{Id}
 use Rattle.epx_executor.specs.inner.Filings.{AreAppended}
 use Rattle.epx_executor.proofs.FilingSearchLemmas.{AreAppended-under, IsSearched-first}
 use Rattle.epx_executor.proofs.FilingSearchLemmas.{IsSearched-more, length-le_from_found}
-use Rattle.epx_executor.proofs.FilingSearchLemmas.{whole_from_searched}
+use Rattle.epx_executor.proofs.FilingSearchLemmas.{Contains-behind_found}
 use Rattle.epx_executor.proofs.blockers.Blockers.behind.Goals as goal
 
 pub loop-id-preserved : goal.loop-id-preserved
@@ -45,6 +45,6 @@ loop-next-preserved c =
 
 pub returns-clause-whole : goal.returns-clause-whole
 returns-clause-whole c =
-    whole_from_searched c.args.self.now c.args.ids.now c.loop-next.found.items c.loop-next.next
+    Contains-behind_found c.args.self.now c.args.ids.now c.loop-next.found.items c.loop-next.next
     (omega (arith, c.loop-next-test.false, c.len.ensures, c.loop-next.found.ok.0))
     c.loop-next.invariant.1

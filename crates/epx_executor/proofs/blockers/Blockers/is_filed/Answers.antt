@@ -2,7 +2,7 @@ use Rattle.std.proofs.Common.{◌≡◌, ◌↔◌, ◌∙◌, Option, None, Som
 use Rattle.epx_types.proofs.Common.{BTreeMap, IsOrdered, get, id_cmp}
 use Rattle.epx_types.specs.declared.id.Id.{Id}
 use Rattle.epx_executor.specs.inner.Filings.{Filings, IsFiled}
-use Rattle.epx_executor.proofs.FilingLemmas.{IsFiled-under, filed_under}
+use Rattle.epx_executor.proofs.FilingLemmas.{IsFiled-under, Contains-filed_under}
 use Rattle.epx_executor.proofs.FilingMapLemmas.{Contains-from_get, get-from_Contains}
 use Rattle.epx_executor.proofs.blockers.Blockers.is_filed.Goals as goal
 
@@ -18,7 +18,7 @@ returns c =
     subst (λ (f : Filings). IsTrue c.contains_key.result ↔ IsFiled f x) c.self.view_is (
       λ t. found m c.self.invariant.1 x (get id_cmp m x) refl
           (subst IsTrue c.contains_key.ensures t),
-      λ h. let r = filed_under m.entries x h in
+      λ h. let r = Contains-filed_under m.entries x h in
           c.contains_key.ensures
           ∙ ap is_some (get-from_Contains m c.self.invariant.1 x r.0 r.1),
     )

@@ -11,10 +11,11 @@ use Rattle.epx_executor.specs.CallLines.{call_lines}
 use Rattle.epx_executor.specs.Commits.{ExecutorView, IsCommit, not_done}
 use Rattle.epx_executor.specs.inner.Choices.{AreFiledIn, IsRefiled}
 use Rattle.epx_executor.specs.inner.Filings.{Filings}
-use Rattle.epx_executor.proofs.CommitLemmas.{agree_with_pending, few_after_batch, few_in_batch}
-use Rattle.epx_executor.proofs.CommitLemmas.{IsCommit-batch, left_after, length_of_batch}
-use Rattle.epx_executor.proofs.CommitLemmas.{settled_after_batch}
-use Rattle.epx_executor.proofs.FiledAfterLemmas.{IsChoiceOf, filed_after}
+use Rattle.epx_executor.proofs.CommitLemmas.{id-agrees_with_pending, length-after_batch}
+use Rattle.epx_executor.proofs.CommitLemmas.{length-few_in_batch}
+use Rattle.epx_executor.proofs.CommitLemmas.{IsCommit-batch, not_done-after_batch, length-batch}
+use Rattle.epx_executor.proofs.CommitLemmas.{AllWait-after_batch}
+use Rattle.epx_executor.proofs.FiledAfterLemmas.{IsChoiceOf, AreFiledIn-after}
 use Rattle.epx_executor.proofs.RemainderLemmas.{remaining-not_done}
 use Rattle.epx_executor.proofs.executor.Executor.commit.Given as given
 use Rattle.epx_executor.proofs.executor.Executor.commit.Goals as goal
@@ -44,7 +45,7 @@ execute_all-requires-clause-few g c κs within =
     omega (
       arith,
       length-map c.deref-4.result.now (λ (k : Command). k.ops.now),
-      few_in_batch inside.done inside.store inside.pending c.args.came.items
+      length-few_in_batch inside.done inside.store inside.pending c.args.came.items
           c.in_ok-choice.choice b.entries.items b.order b.positions.items b.waiters.items b.done
           c.in_ok-batch.ensures (ops_of c.deref-4.result.now) at,
     )
@@ -57,7 +58,7 @@ execute_all-requires-clause-same g c κs within =
     ap ops_of c.deref-4.ensures.value ∙ c.in_ok-commands.ensures
     ∙ ap₂ ops_at c.deref-2.ensures.value c.deref-3.ensures.value in
     sym (length-map c.deref-4.result.now (λ (k : Command). k.ops.now))
-    ∙ length_of_batch inside.done inside.store inside.pending c.args.came.items
+    ∙ length-batch inside.done inside.store inside.pending c.args.came.items
     c.in_ok-choice.choice b.entries.items b.order b.positions.items b.waiters.items b.done
     c.in_ok-batch.ensures (ops_of c.deref-4.result.now) at
     ∙ ap length (sym c.ids.ensures)
@@ -66,7 +67,7 @@ pub update-requires-clause-alike : goal.update-requires-clause-alike
 update-requires-clause-alike g c p e h k same =
     let b = c.in_ok-batch.batch in
     let inside = c.self.inside in
-    agree_with_pending inside.done inside.store inside.pending c.args.came.items
+    id-agrees_with_pending inside.done inside.store inside.pending c.args.came.items
     c.in_ok-choice.choice b.entries.items b.order b.positions.items b.waiters.items b.done
     c.in_ok-batch.ensures p e h
     (subst (λ (es : List Instance). Contains es e) c.deref-5.ensures.value k) same
@@ -81,7 +82,7 @@ store_after-requires-after_bounds g c κs within =
     omega (
       arith,
       length-map c.deref-7.result.now (λ (k : Command). k.ops.now),
-      few_in_batch inside.done inside.store inside.pending c.args.came.items
+      length-few_in_batch inside.done inside.store inside.pending c.args.came.items
           c.in_ok-choice.choice b.entries.items b.order b.positions.items b.waiters.items b.done
           c.in_ok-batch.ensures (ops_of c.deref-7.result.now) at,
     )
@@ -96,7 +97,8 @@ left g c =
     let Left : List Instance → List Id → Type 0 = λ es ids. (e : Instance) → Contains after e
     ↔ ((Contains inside.pending e ⊎ (Contains es e × (¬ Contains b.done e.id)))
     × (¬ Contains ids e.id)) in
-    left_after inside.done inside.store inside.pending c.args.came.items c.in_ok-choice.choice
+    not_done-after_batch inside.done inside.store inside.pending c.args.came.items
+    c.in_ok-choice.choice
     b.entries.items b.order b.positions.items b.waiters.items b.done c.in_ok-batch.ensures
     c.self.invariant.0.not_done after c.in_ok-update.ensures.rising
     (subst (λ (ids : List Id). Left b.entries.items ids) c.ids-2.ensures
@@ -117,7 +119,7 @@ filed g c =
     IfSome_then c.refile.result c.refile.ensures (λ f refiled.
     subst (λ (l : List Instance). AreFiledIn l f)
     (sym (ap (remaining b.done) (left g c) ∙ remaining-not_done b.done m))
-    (filed_after inside.blockers choice inside.done inside.pending c.args.came.items
+    (AreFiledIn-after inside.blockers choice inside.done inside.pending c.args.came.items
     b.entries.items b.order b.positions.items b.waiters.items b.done c.in_ok-batch.ensures
     c.self.invariant.2 known f
     (subst (λ (ws : List Waiting). IsRefiled inside.blockers choice ws f) c.deref-6.ensures.value
@@ -169,12 +171,12 @@ invariant_of-self-2 g c =
     ∙ ap (λ (ks : List Command). (execute (ops_of ks) spare).final)
     (c.deref-7.ensures.value ∙ sym c.deref-4.ensures.value)
     ∙ sym (c.replace-before.ensures.after ∙ c.in_ok-store.ensures.store) in (
-      settled_after_batch inside.done inside.store inside.pending c.args.came.items
+      AllWait-after_batch inside.done inside.store inside.pending c.args.came.items
           c.in_ok-choice.choice b.entries.items b.order b.positions.items b.waiters.items b.done
           c.in_ok-batch.ensures _ refl (left g c),
       IfSome_then c.store_after.result c.store_after.ensures (λ s is. is ∙ alike),
       filed g c,
-      few_after_batch inside.done inside.store inside.pending c.args.came.items
+      length-after_batch inside.done inside.store inside.pending c.args.came.items
           c.in_ok-choice.choice b.entries.items b.order b.positions.items b.waiters.items b.done
           c.in_ok-batch.ensures c.update.new.self (left g c),
     )

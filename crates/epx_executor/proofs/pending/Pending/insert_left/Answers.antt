@@ -1,10 +1,13 @@
 use Rattle.std.proofs.Common.{◌≡◌, ◌⊎◌, ◌↔◌, ◌+◌, Bool, true, not, List, [], ◌∷◌, ◌++◌, take}
 use Rattle.std.proofs.Common.{Contains, sym, ap, ◌∙◌, subst, inl, inr, arith}
-use Rattle.epx_types.proofs.Common.{is_among, Instance, is_among_cases}
+use Rattle.epx_types.proofs.Common.{is_among, Instance, is_among-cases}
 use Rattle.epx_types.specs.declared.id.Id.{Id}
-use Rattle.epx_executor.proofs.PendingLemmas.{AreInserted, all_inserted, done_next, inserted_next}
-use Rattle.epx_executor.proofs.PendingLemmas.{none_found, noted, noted_push, one_found, there_next}
-use Rattle.epx_executor.proofs.RemainderLemmas.{from_among, was_done, was_left}
+use Rattle.epx_executor.proofs.PendingLemmas.{AreInserted, Contains-all_inserted, AreInserted-done}
+use Rattle.epx_executor.proofs.PendingLemmas.{AreInserted-next}
+use Rattle.epx_executor.proofs.PendingLemmas.{Contains-none_found, Contains-noted}
+use Rattle.epx_executor.proofs.PendingLemmas.{Contains-noted_push, Contains-one_found}
+use Rattle.epx_executor.proofs.PendingLemmas.{AreInserted-there}
+use Rattle.epx_executor.proofs.RemainderLemmas.{Contains-from_among, not-is_false, not-is_true}
 use Rattle.epx_executor.proofs.pending.Pending.insert_left.Goals as goal
 use Rattle.epx_executor.proofs.pending.Pending.insert_left.Goals.{then-is_left+then-is_none+in_ok-push+in_ok-copy+in_ok-insert}
 use Rattle.epx_executor.proofs.pending.Pending.insert_left.Goals.{else-is_left}
@@ -13,24 +16,26 @@ use Rattle.epx_executor.proofs.pending.Pending.insert_left.Goals.{else-is_left-v
 
 pub returns-in_err-push-clause-noted : goal.returns-in_err-push-clause-noted
 returns-in_err-push-clause-noted c =
-    noted c.args.done.now c.args.self.now _ c.loop-entry.self c.push.new.self.items
+    Contains-noted c.args.done.now c.args.self.now _ c.loop-entry.self c.push.new.self.items
     (subst (AreInserted c.args.done.now c.args.self.now _ c.loop-entry.self)
     (sym c.in_err-push.ensures.items) c.loop-entry.invariant)
 
 pub returns-in_err-copy-clause-noted : goal.returns-in_err-copy-clause-noted
 returns-in_err-copy-clause-noted c =
     let m = c.loop-entry.self in
-    noted_push c.args.done.now c.args.self.now _ m c.loop-entry.inserted.items
+    Contains-noted_push c.args.done.now c.args.self.now _ m c.loop-entry.inserted.items
     c.push.new.self.items c.id-then-is_none.result c.entry-item.result c.loop-entry.invariant
     c.in_ok-push.ensures.items c.id-then-is_none.ensures
-    (none_found m c.id-then-is_left.result c.entry-item.result c.get.result c.is_none.result
+    (Contains-none_found m c.id-then-is_left.result c.entry-item.result c.get.result
+    c.is_none.result
     c.id-then-is_left.ensures c.is_none.ensures c.if-is_none.true c.get.ensures.found)
 
 pub insert-requires : goal.insert-requires
 insert-requires c =
     let m = c.loop-entry.self in
     let copy : c.in_ok-copy.field-0 ≡ c.entry-item.result = c.in_ok-copy.ensures in
-    none_found m c.id-then-is_left.result c.in_ok-copy.field-0 c.get.result c.is_none.result
+    Contains-none_found m c.id-then-is_left.result c.in_ok-copy.field-0 c.get.result
+    c.is_none.result
     (c.id-then-is_left.ensures ∙ ap (λ (e : Instance). e.id) (sym copy)) c.is_none.ensures
     c.if-is_none.true c.get.ensures.found
 
@@ -40,17 +45,18 @@ returns-in_err-insert-clause-noted c =
     subst (λ (l : List Instance). (e : Instance) → Contains c.args.self.now e
     ↔ (Contains l e × (¬ Contains c.push.new.self.items e.id)))
     (sym c.in_err-insert.ensures.unchanged)
-    (noted_push c.args.done.now c.args.self.now _ m c.loop-entry.inserted.items
+    (Contains-noted_push c.args.done.now c.args.self.now _ m c.loop-entry.inserted.items
     c.push.new.self.items c.id-then-is_none.result c.entry-item.result c.loop-entry.invariant
     c.in_ok-push.ensures.items c.id-then-is_none.ensures
-    (none_found m c.id-then-is_left.result c.entry-item.result c.get.result c.is_none.result
+    (Contains-none_found m c.id-then-is_left.result c.entry-item.result c.get.result
+    c.is_none.result
     c.id-then-is_left.ensures c.is_none.ensures c.if-is_none.true c.get.ensures.found))
 
 not_done : (done : List Id) (r : Bool) (x y : Id) → r ≡ not (is_among done x) → r ≡ true → x ≡ y
     → ¬ Contains done y
 not_done done r x y is left same there =
-    elim (is_among_cases done x) [
-      | inl found ↦ absurd (cc (found.0, was_left r (is_among done x) is left))
+    elim (is_among-cases done x) [
+      | inl found ↦ absurd (cc (found.0, not-is_true r (is_among done x) is left))
       | inr none ↦ absurd (none.1 (subst (Contains done) (sym same) there))
     ]
 
@@ -66,14 +72,14 @@ loop-entry-preserved c =
     elim c.if-is_left.branch [
       | then-is_left+then-is_none+in_ok-push+in_ok-copy+in_ok-insert w ↦
           let copy : w.in_ok-copy.field-0 ≡ v = w.in_ok-copy.ensures in
-          let none = none_found m w.id-then-is_left.result v w.get.result w.is_none.result
+          let none = Contains-none_found m w.id-then-is_left.result v w.get.result w.is_none.result
           w.id-then-is_left.ensures w.is_none.ensures w.if-is_none.true w.get.ensures.found in
           subst (λ (l : List Instance). AreInserted done before (take (k + 1) es) l
           c.if-is_left.inserted.items) (sym w.self-is)
           (subst (AreInserted done before (take (k + 1) es) w.insert.new.self)
           (sym (ap (λ v. v.items) w.inserted-is ∙ w.in_ok-push.ensures.items
           ∙ ap (λ (x : Id). ids ++ x ∷ []) w.id-then-is_none.ensures))
-          (inserted_next done before es m ids k v (omega arith) (sym c.entry-item.is)
+          (AreInserted-next done before es m ids k v (omega arith) (sym c.entry-item.is)
           c.loop-entry.invariant w.insert.new.self
           (not_done done c.is_left.result c.id.result v.id c.is_left.ensures w.if-is_left.true
           c.id.ensures) none
@@ -85,25 +91,26 @@ loop-entry-preserved c =
           (subst (AreInserted done before (take (k + 1) es) m)
           (sym (ap (λ v. v.items) w.inserted-is)) (elim w.else-is_left.branch [
             | else-is_left-via-then-is_left+else-is_none w' ↦
-                let f = one_found m w'.id-then-is_left.result v w'.get.result w'.is_none.result
+                let f =
+                Contains-one_found m w'.id-then-is_left.result v w'.get.result w'.is_none.result
                 w'.id-then-is_left.ensures w'.is_none.ensures w'.if-is_none.false
                 w'.get.ensures.found in
-                there_next done before es m ids k v (omega arith) (sym c.entry-item.is)
+                AreInserted-there done before es m ids k v (omega arith) (sym c.entry-item.is)
                 c.loop-entry.invariant f.0 c.requires.rising c.requires.alike f.1 f.2
             | else-is_left-via-else-is_left w' ↦
-                done_next done before es m ids k v (omega arith) (sym c.entry-item.is)
+                AreInserted-done done before es m ids k v (omega arith) (sym c.entry-item.is)
                 c.loop-entry.invariant (subst (Contains done) c.id.ensures
-                (from_among done c.id.result (was_done c.is_left.result
+                (Contains-from_among done c.id.result (not-is_false c.is_left.result
                 (is_among done c.id.result) c.is_left.ensures w'.if-is_left.false)))
           ]))
     ]
 
 pub returns-clause-left : goal.returns-clause-left
 returns-clause-left c =
-    all_inserted c.args.done.now c.args.self.now c.args.entries.now c.loop-entry.self
+    Contains-all_inserted c.args.done.now c.args.self.now c.args.entries.now c.loop-entry.self
     c.loop-entry.inserted.items c.loop-entry.entry-index (omega arith) c.loop-entry.invariant
 
 pub returns-clause-noted : goal.returns-clause-noted
 returns-clause-noted c =
-    noted c.args.done.now c.args.self.now _ c.loop-entry.self c.loop-entry.inserted.items
+    Contains-noted c.args.done.now c.args.self.now _ c.loop-entry.self c.loop-entry.inserted.items
     c.loop-entry.invariant

@@ -1,6 +1,6 @@
 use Rattle.std.proofs.Common.{List, [], ◌∷◌, Bor, map, sym, ap, subst, ◌∙◌, arith}
 use Rattle.epx_types.proofs.Common.{map-append, Instance}
-use Rattle.epx_executor.proofs.PendingLemmas.{AreSome, some_found, some_missed, some_all}
+use Rattle.epx_executor.proofs.PendingLemmas.{AreSome, AreSome-found, AreSome-missed, AreSome-all}
 use Rattle.epx_executor.proofs.pending.Pending.some_entries.Goals as goal
 use Rattle.epx_executor.proofs.pending.Pending.some_entries.Goals.{in-Some+in_ok-push, in_default}
 
@@ -17,15 +17,15 @@ loop-id-preserved c =
           subst (AreSome c.args.self.now _) (sym (ap (λ v. entries_of v.items) w.found-is
           ∙ ap entries_of w.in_ok-push.ensures.items
           ∙ map-append (λ (b : Bor Instance). b.now) before (w.in-Some.entry ∷ [])))
-          (some_found c.args.self.now (entries_of before) ids k _ w.in-Some.entry.now
+          (AreSome-found c.args.self.now (entries_of before) ids k _ w.in-Some.entry.now
           (omega arith) c.loop-id.invariant w.in-Some.ensures.found.0 w.in-Some.ensures.only)
       | in_default w ↦
           subst (AreSome c.args.self.now _) (sym (ap (λ v. entries_of v.items) w.found-is))
-          (some_missed c.args.self.now (entries_of before) ids k _ (omega arith)
+          (AreSome-missed c.args.self.now (entries_of before) ids k _ (omega arith)
           c.loop-id.invariant w.in_default.ensures.found)
     ]
 
 pub returns-clause-whole : goal.returns-clause-whole
 returns-clause-whole c =
-    (some_all c.args.self.now _ c.args.ids.now c.loop-id.id-index (omega arith)
+    (AreSome-all c.args.self.now _ c.args.ids.now c.loop-id.id-index (omega arith)
     c.loop-id.invariant).1

@@ -1,7 +1,7 @@
 use Rattle.std.proofs.Common.{◌↔◌, List, Contains, sym, ap, ◌∙◌, subst}
 use Rattle.epx_types.proofs.Common.{ids_of, IsRising, Instance}
 use Rattle.epx_types.specs.declared.id.Id.{Id}
-use Rattle.epx_executor.proofs.RemainderLemmas.{same_instances}
+use Rattle.epx_executor.proofs.RemainderLemmas.{IsRising-same_instances}
 use Rattle.epx_executor.proofs.pending.Pending.update.Goals as goal
 
 pub returns-in-Err-clause-unchanged : goal.returns-in-Err-clause-unchanged
@@ -11,7 +11,7 @@ returns-in-Err-clause-unchanged c =
     subst (λ (ids : List Id). (e : Instance) → Contains c.args.self.now e
     ↔ (Contains c.insert_left.new.self e × (¬ Contains ids e.id))) (sym c.deref.ensures.value)
     c.insert_left.ensures.noted in
-    same_instances c.remove_all.new.self c.args.self.now c.remove_all.ensures.rising
+    IsRising-same_instances c.remove_all.new.self c.args.self.now c.remove_all.ensures.rising
     (subst IsRising (c.self.invariant.0 ∙ ap ids_of c.self.view_is) c.self.invariant.1)
     (λ e. (
       λ h. (noted e).1 ((c.remove_all.ensures.left e).0 h),

@@ -11,9 +11,10 @@ use Rattle.epx_follow.specs.Following.{FollowerView}
 use Rattle.epx_follow.specs.CallPlaces.{at_lines, held_places}
 use Rattle.epx_follow.specs.inner.FirstPlaces.{HasOtherPlaces, place_in}
 use Rattle.epx_follow.specs.inner.HeldLines.{batch_lines, pending_lines}
-use Rattle.epx_follow.proofs.BatchTextLemmas.{zip_parts}
-use Rattle.epx_follow.proofs.EndLemmas.{ends, few_wait, few_waited, held_now, refused}
-use Rattle.epx_follow.proofs.OpenBatchLemmas.{newly_held, newly_shown}
+use Rattle.epx_follow.proofs.BatchTextLemmas.{zip-parts}
+use Rattle.epx_follow.proofs.EndLemmas.{EndsBatch-now, pending-is_few, pending-within, AreHeld-left}
+use Rattle.epx_follow.proofs.EndLemmas.{RefusesBatch-from_fault}
+use Rattle.epx_follow.proofs.OpenBatchLemmas.{IsHeld-begun, view_of-begun}
 use Rattle.epx_follow.proofs.follower.Follower.end_batch.Given.{Over}
 use Rattle.epx_follow.proofs.follower.Follower.end_batch.Goals.{In_ok-places}
 use Rattle.epx_follow.proofs.follower.Follower.end_batch.Goals as goal
@@ -22,7 +23,8 @@ pub returns-in-Err : goal.returns-in-Err
 returns-in-Err g c =
     let f = c.self.inside in
     subst (λ (v : FollowerView). RefusesBatch v c.fault_at_lines.result) c.self.view_is
-    (refused f.executor.done f.executor.store (place_in f.held.places) f.executor.pending
+    (RefusesBatch-from_fault f.executor.done f.executor.store (place_in f.held.places)
+    f.executor.pending
     f.held.batch_places.items f.held.batch.items f.held.next f.held.is_open c.self.invariant.0
     c.self.invariant.1
     c.in-Err.fault c.fault_at_lines.result c.in-Err.ensures.refused
@@ -33,14 +35,14 @@ returns-in-Err g c =
 
 pub count_came-came-requires-clause-few : goal.count_came-came-requires-clause-few
 count_came-came-requires-clause-few g c =
-    let few = few_wait c.self.inside.executor c.commit.new.self c.self.inside.held.batch.items
+    let few = pending-is_few c.self.inside.executor c.commit.new.self c.self.inside.held.batch.items
     c.in-Ok.executed.items c.in-Ok.ensures.ok in
     omega (arith, few, c.pending_len-waiting.ensures, c.len.ensures, c.in_ok-ids.ids.small)
 
 pub count_came-came-requires-clause-some : goal.count_came-came-requires-clause-some
 count_came-came-requires-clause-some g c =
     let f = c.self.inside in
-    let some = few_waited f.executor.done f.executor.store (place_in f.held.places)
+    let some = pending-within f.executor.done f.executor.store (place_in f.held.places)
     f.executor.pending f.held.batch_places.items f.held.batch.items f.held.next f.held.is_open
     c.self.invariant.0 c.self.invariant.1 c.commit.new.self c.in-Ok.executed.items
     c.in_ok-ids.ids.items c.in_ok-ids.ensures.ids c.in-Ok.ensures.ok in
@@ -77,8 +79,8 @@ invariant_of-result g c =
     let left = place_in c.in_ok-places.places in
     let settled : AllWait now = c.commit_leaves_none_ready.ensures f.held.batch.items f.executor
     now c.in-Ok.executed.items c.in-Ok.ensures.ok in
-    newly_held now c.in_ok-places.places f.held.next c.new-held.result c.new-held.ensures
-    (held_now f.executor.done f.executor.store (place_in f.held.places) f.executor.pending
+    IsHeld-begun now c.in_ok-places.places f.held.next c.new-held.result c.new-held.ensures
+    (AreHeld-left f.executor.done f.executor.store (place_in f.held.places) f.executor.pending
     f.held.batch_places.items f.held.batch.items f.held.next f.held.is_open c.self.invariant.0
     c.self.invariant.1 now c.in-Ok.executed.items c.in_ok-ids.ids.items
     c.in_ok-ids.ensures.ids c.in-Ok.ensures.ok left settled
@@ -96,7 +98,7 @@ returns g c =
     let pairs : zip c.deref-5.result.now c.deref-6.result.now ≡ executed =
     ap₂ (λ (xs : List Id) (rs : List Reply). zip xs rs)
     (c.deref-5.ensures.value ∙ c.in_ok-ids.ensures.ids)
-    (c.deref-6.ensures.value ∙ c.in_ok-ids.ensures.replies) ∙ zip_parts executed in
+    (c.deref-6.ensures.value ∙ c.in_ok-ids.ensures.replies) ∙ zip-parts executed in
     let came = c.count_came-came.result in
     let count : came + length f.executor.pending
     ≡ length c.in_ok-ids.ids.items + length now.pending =
@@ -110,9 +112,9 @@ returns g c =
     let text : c.in_ok-text.text.items ≡ batch_text came (length now.pending) executed =
     c.in_ok-text.ensures ∙ ap₂ (batch_text came) c.pending_len-waiting.ensures pairs in
     subst₂ (λ (v w : FollowerView). EndsBatch v w c.in_ok-text.text.items) c.self.view_is
-    (sym (newly_shown now c.in_ok-places.places f.held.next c.new-held.result
+    (sym (view_of-begun now c.in_ok-places.places f.held.next c.new-held.result
     c.new-held.ensures))
-    (ends f.executor.done f.executor.store (place_in f.held.places) f.executor.pending
+    (EndsBatch-now f.executor.done f.executor.store (place_in f.held.places) f.executor.pending
     f.held.batch_places.items f.held.batch.items f.held.next f.held.is_open c.self.invariant.0
     c.self.invariant.1
     now executed c.in_ok-ids.ids.items c.in_ok-ids.ensures.ids c.in-Ok.ensures.ok left settled

@@ -1,8 +1,8 @@
 use Rattle.std.proofs.Common.{◌-◌, length, subst}
 use Rattle.epx_types.proofs.Common.{IfOk-weaker}
 use Rattle.epx_graph.specs.Graphs.{DependencyGraph}
-use Rattle.epx_rows.specs.Rows.{AreTransposed}
-use Rattle.epx_graph.proofs.BuildLemmas.{transpose_padded}
+use Rattle.epx_rows.specs.between.Rows.{AreTransposed}
+use Rattle.epx_graph.proofs.BuildLemmas.{AreTransposed-padded}
 use Rattle.epx_graph.proofs.graph.Graph.sources.Goals as goal
 
 pub returns-clause-transpose : goal.returns-clause-transpose
@@ -11,4 +11,4 @@ returns-clause-transpose c =
     let spare = length c.self.inside.ids.items - length rows in
     IfOk-weaker c.transpose.result (AreTransposed rows) (AreTransposed c.args.self.now.edges)
     (λ back h. subst (λ (g : DependencyGraph). AreTransposed g.edges back) c.self.view_is
-    (transpose_padded rows back spare h)) c.transpose.ensures.transpose
+    (AreTransposed-padded rows back spare h)) c.transpose.ensures.transpose

@@ -2,14 +2,16 @@ use Rattle.std.proofs.Common.{◌≡◌, List, Contains, get_or, length, sym, ap
 use Rattle.epx_types.proofs.Common.{nat_tests}
 use Rattle.epx_types.specs.declared.id.Id.{Id}
 use Rattle.epx_graph.specs.inner.Remainder.{RemainderView}
-use Rattle.epx_graph.proofs.RemainderLemmas.{all_rest, count_skip, count_more}
+use Rattle.epx_graph.proofs.RemainderLemmas.{remaining_ids-none_done, length-remaining_skip}
+use Rattle.epx_graph.proofs.RemainderLemmas.{length-remaining_push}
 use Rattle.epx_graph.proofs.remainder.Remainder.count_undone.Goals as goal
 
 pub returns-then-is_empty : goal.returns-then-is_empty
 returns-then-is_empty c =
     let none : length c.self.inside.done.now ≡ 0 =
     grind (arith, nat_tests, c.is_empty.ensures, c.if-is_empty.true) in
-    rw (sym c.self.view_is) (ap length (sym (all_rest c.self.inside.done.now c.args.ids.now none)))
+    rw (sym c.self.view_is)
+    (ap length (sym (remaining_ids-none_done c.self.inside.done.now c.args.ids.now none)))
 
 pub loop-id-preserved-then-is_done : goal.loop-id-preserved-then-is_done
 loop-id-preserved-then-is_done c =
@@ -18,7 +20,7 @@ loop-id-preserved-then-is_done c =
     let d : Id = record { replica = 0; number = 0 } in
     let is : c.self.inside.done.now ≡ c.args.self.now.done =
     ap (λ (r : RemainderView). r.done) c.self.view_is in
-    let same = count_skip c.args.self.now.done ids i d c.loop-id-test.true
+    let same = length-remaining_skip c.args.self.now.done ids i d c.loop-id-test.true
     (subst (λ (ds : List Id). Contains ds (get_or ids i d)) is
     (c.is_done.ensures.0 c.if-is_done.true)) in
     record {
@@ -39,7 +41,7 @@ loop-id-preserved c =
           (subst (λ (ds : List Id). Contains ds (get_or ids i d)) (sym is) h),
       c.if-is_done.false,
     ) in
-    let more = count_more c.args.self.now.done ids i d c.loop-id-test.true left in
+    let more = length-remaining_push c.args.self.now.done ids i d c.loop-id-test.true left in
     record {
       count = omega (arith, c.loop-id.invariant.count, more);
       within = omega (arith, c.loop-id.invariant.within);

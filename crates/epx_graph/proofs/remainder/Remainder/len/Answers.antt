@@ -1,6 +1,6 @@
 use Rattle.std.proofs.Common.{◌≡◌, ◌∙◌, length, sym, ap, arith}
 use Rattle.epx_types.proofs.Common.{nat_tests, IsRising-remaining}
-use Rattle.epx_graph.proofs.RemainderLemmas.{all_left}
+use Rattle.epx_graph.proofs.RemainderLemmas.{rest_of-none_done}
 use Rattle.epx_graph.proofs.remainder.Remainder.len.Goals as goal
 
 pub returns-then-is_empty-clause-len : goal.returns-then-is_empty-clause-len
@@ -10,7 +10,7 @@ returns-then-is_empty-clause-len c =
     rw (sym c.self.view_is)
     (c.len.ensures.len ∙ sym
     (ap length
-    (all_left (record { whole = c.self.inside.merged.now; done = c.self.inside.done.now })
+    (rest_of-none_done (record { whole = c.self.inside.merged.now; done = c.self.inside.done.now })
     none)))
 
 pub returns-then-is_empty-clause-rising : goal.returns-then-is_empty-clause-rising

@@ -2,7 +2,7 @@ use Rattle.std.proofs.Common.{◌≡◌, ◌++◌, ◌∷◌, [], Contains, Some
 use Rattle.std.proofs.Common.{arith}
 use Rattle.epx_types.proofs.Common.{Instance, slice_get-from_map}
 use Rattle.epx_graph.specs.inner.Remainder.{RemainderView}
-use Rattle.epx_graph.proofs.RemainderLemmas.{tables_skip, tables_more}
+use Rattle.epx_graph.proofs.RemainderLemmas.{ArePositionTables-skip, ArePositionTables-push}
 use Rattle.epx_graph.proofs.remainder.Remainder.new.Goals as goal
 
 pub loop-position-preserved-then-is_done_near : goal.loop-position-preserved-then-is_done_near
@@ -14,7 +14,8 @@ loop-position-preserved-then-is_done_near c =
     let among : Contains r.done e.0.id =
     subst (Contains r.done) (sym e.2) (c.is_done_near.ensures.0 c.if-is_done_near.true) in
     rw c.in_ok-push.ensures.items
-    (tables_skip r c.loop-position.positions.items c.loop-position.positions_left.items i e.0
+    (ArePositionTables-skip r c.loop-position.positions.items c.loop-position.positions_left.items i
+    e.0
     e.1 c.loop-position.invariant among)
 
 pub loop-position-preserved : goal.loop-position-preserved
@@ -34,4 +35,4 @@ loop-position-preserved c =
     ∷ [] = c.in_ok-push-2.ensures.items ∙ ap (λ n. positions_left ++ Some n ∷ [])
     (omega (arith, c.len.ensures, c.loop-position.positions.ok.0)) in
     rw (c.in_ok-push-3.ensures.items, placed)
-    (tables_more r positions positions_left i e.0 e.1 c.loop-position.invariant left)
+    (ArePositionTables-push r positions positions_left i e.0 e.1 c.loop-position.invariant left)

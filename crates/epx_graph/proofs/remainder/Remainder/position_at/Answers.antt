@@ -1,7 +1,7 @@
 use Rattle.std.proofs.Common.{◌≡◌, ◌<◌, length, sym, subst, arith}
 use Rattle.epx_types.proofs.Common.{nat_tests}
 use Rattle.epx_graph.specs.inner.Remainder.{RemainderView, rest_of}
-use Rattle.epx_graph.proofs.RemainderLemmas.{position_as_in_map, position_from_table}
+use Rattle.epx_graph.proofs.RemainderLemmas.{IsAtPosition-same, IsAtPosition-from_table}
 use Rattle.epx_graph.proofs.remainder.Remainder.position_at.Goals as goal
 
 pub returns-then-is_empty : goal.returns-then-is_empty
@@ -11,7 +11,7 @@ returns-then-is_empty c =
     let within = subst (λ (r : RemainderView). c.args.index < length (rest_of r))
     (sym c.self.view_is) c.requires in
     rw (sym c.self.view_is)
-    (position_as_in_map
+    (IsAtPosition-same
     (record { whole = c.self.inside.merged.now; done = c.self.inside.done.now }) none
     c.args.index within)
 
@@ -22,5 +22,5 @@ returns c =
     let within = subst (λ (r : RemainderView). c.args.index < length (rest_of r))
     (sym c.self.view_is) c.requires in
     rw (sym c.self.view_is)
-    (position_from_table _ c.self.inside.positions.items c.self.inside.positions_left.items
+    (IsAtPosition-from_table _ c.self.inside.positions.items c.self.inside.positions_left.items
     (c.self.invariant.2 some) c.args.index c.index.result.now within c.index.ensures)

@@ -2,7 +2,7 @@ use Rattle.std.proofs.Common.{◌≡◌, ◌++◌, ◌∙◌, flat_map, length, 
 use Rattle.std.proofs.Common.{ap, sym, rules}
 use Rattle.epx_types.proofs.Common.{length-map, map-append}
 use Rattle.epx_claims.specs.inner.PieceItems.{items_of_piece}
-use Rattle.epx_claims.proofs.JoinedPieceLemmas.{parts_joined}
+use Rattle.epx_claims.proofs.JoinedPieceLemmas.{flat_map-parts}
 use Rattle.epx_linear.specs.ClientCalls.{call_of, calls_at, calls_in}
 use Rattle.epx_linear.proofs.HistoryPartLemmas.{map-flat_map}
 use Rattle.epx_linear.proofs.calls.History.places.Goals as goal
@@ -19,7 +19,7 @@ returns-clause-calls g c =
     c.in_ok-places.ensures.items in
     ap (calls_at h) joined
     ∙ map-flat_map (option_and_then (slice_get h)) (λ part. part.items) c.in_ok-parts.parts.items
-    ∙ parts_joined cut c.pieces-pieces.ensures.fits.some_item (calls_in h) refl
+    ∙ flat_map-parts cut c.pieces-pieces.ensures.fits.some_item (calls_in h) refl
     (map-append (call_of h)) ids (λ part. calls_at h part.items) c.in_ok-parts.parts.items
     (done.len ∙ count)
     (λ i inside.

@@ -2,7 +2,7 @@ use Rattle.std.proofs.Common.{◌<◌, ◌∙◌, ap, arith, length, Some, sym}
 use Rattle.std.proofs.lemmas.Option.{slice_get_past}
 use Rattle.epx_types.proofs.Common.{slice_get-get_or}
 use Rattle.epx_linear.specs.inner.Spans.{number_or_zero, rank_at}
-use Rattle.epx_linear.proofs.SpanRankLemmas.{rank_within}
+use Rattle.epx_linear.proofs.SpanRankLemmas.{AreRanksOf-within}
 use Rattle.epx_linear.proofs.spans.Spans.rank_at.Goals as goal
 
 pub returns-in-Some-clause-within : goal.returns-in-Some-clause-within
@@ -11,7 +11,7 @@ returns-in-Some-clause-within c =
     let at = c.in-Some.at in
     let within : at < length ranks.items =
     omega (arith, c.if-at-len.true, c.len.ensures, ranks.ok) in
-    rank_within c.args.self.now.spans.items ranks.items c.requires at c.index.result.now
+    AreRanksOf-within c.args.self.now.spans.items ranks.items c.requires at c.index.result.now
     (slice_get-get_or ranks.items at c.index.result.now within ∙ ap Some (sym c.index.ensures))
 
 pub returns-in_default-clause-rank : goal.returns-in_default-clause-rank

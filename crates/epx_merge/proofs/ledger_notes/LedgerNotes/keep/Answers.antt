@@ -1,7 +1,7 @@
-use Rattle.epx_merge.proofs.LedgerNoteLemmas.{batch_is_read}
+use Rattle.epx_merge.proofs.LedgerNoteLemmas.{AreReadUpTo-batch}
 use Rattle.epx_merge.proofs.ledger_notes.LedgerNotes.keep.Goals as goal
 
 pub returns : goal.returns
 returns c = λ lines cut read drops beside.
-    batch_is_read lines c.args.self.now c.args.cache.now read cut c.args.batch.now
+    AreReadUpTo-batch lines c.args.self.now c.args.cache.now read cut c.args.batch.now
     c.cache_batch_copy.new.cache c.args.pieces.now.items drops beside c.cache_batch_copy.ensures

@@ -1,5 +1,5 @@
 use Rattle.epx_types.proofs.Common.{MatchResult-weaker}
-use Rattle.epx_merge.proofs.LedgerNoteLemmas.{bad_pending, pending_noted}
+use Rattle.epx_merge.proofs.LedgerNoteLemmas.{IsReadFault-pending, AreReadUpTo-noted}
 use Rattle.epx_merge.proofs.ledger_notes.LedgerNotes.note.Goals as goal
 
 pub returns : goal.returns
@@ -8,6 +8,6 @@ returns c = record {
       let ledger = c.args.self.now in
       let pieces = c.args.pieces.items in
       MatchResult-weaker c.note_pieces.result (c.note_pieces.ensures h.pending h.given)
-      (λ _ did. pending_noted lines ledger cache pieces h c.note_pieces.new.ledger did.0 did.1)
-      (bad_pending lines ledger cache pieces h);
+      (λ _ did. AreReadUpTo-noted lines ledger cache pieces h c.note_pieces.new.ledger did.0 did.1)
+      (IsReadFault-pending lines ledger cache pieces h);
 }

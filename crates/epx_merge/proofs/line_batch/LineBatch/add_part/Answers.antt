@@ -4,12 +4,12 @@ use Rattle.epx_types.proofs.Common.{length-append, length-map, drop_at, max_log_
 use Rattle.epx_lines.specs.Lines.{lines_of}
 use Rattle.epx_lines.specs.Meaning.{meaning_of}
 use Rattle.epx_merge.specs.LogLines.{meaning_at, meanings_in}
-use Rattle.epx_merge.specs.RedundantLines.{DropsCached, IsRedundantIn}
+use Rattle.epx_merge.specs.between.RedundantLines.{DropsCached, IsRedundantIn}
 use Rattle.epx_merge.specs.declared.line_batch.Span.{Span}
-use Rattle.epx_merge.proofs.DropsCachedLemmas.{batch_more, batch_blank}
+use Rattle.epx_merge.proofs.DropsCachedLemmas.{IsNextBatch-push, IsNextBatch-blank}
 use Rattle.epx_merge.proofs.LineBatchLemmas.{line_at, within-append, lines_at-append}
 use Rattle.epx_merge.proofs.LineBatchLemmas.{within-push, lines_at-push}
-use Rattle.epx_merge.proofs.LogPartLemmas.{line_and_rest, one_more}
+use Rattle.epx_merge.proofs.LogPartLemmas.{meanings_in-cons, suc-no_wrap}
 use Rattle.epx_merge.proofs.line_batch.LineBatch.add_part.Goals as goal
 use Rattle.epx_merge.proofs.line_batch.LineBatch.add_part.Goals.{then-not-is_blank_line+in_ok-push}
 use Rattle.epx_merge.proofs.line_batch.LineBatch.add_part.Goals.{else-not-is_blank_line}
@@ -63,9 +63,10 @@ loop-done-preserved c =
     let next = meaning_at span.place here in
     let Short : Type 0 = c.args.before + length part ≤ max_log_bytes in
     let one : Short → line ≡ suc c.loop-done.line =
-    λ short. one_more c.loop-done.line (omega (arith, (h.lines short).2, short, test)) in
+    λ short. suc-no_wrap c.loop-done.line (omega (arith, (h.lines short).2, short, test)) in
     let is = λ (short : Short).
-    line_and_rest c.args.log c.loop-done.line line (drop done part) here more first (one short) in
+    meanings_in-cons c.args.log c.loop-done.line line (drop done part) here more first
+    (one short) in
     let counts : Short → (line + length (lines_of more) ≡ c.args.before + length (lines_of part))
     × (line + (length part - (end + 1)) ≤ c.args.before + length part) = λ short. (
       omega (arith, ap length first, one short, (h.lines short).1),
@@ -82,7 +83,7 @@ loop-done-preserved c =
             within = within;
             few = omega (arith, h.few, bounds, test, length-append spans (span ∷ []));
             lines = λ short. (
-              λ old drops. batch_more _ _ left (map (line_at bytes) spans) next (is short)
+              λ old drops. IsNextBatch-push _ _ left (map (line_at bytes) spans) next (is short)
                   ((h.lines short).0 old drops) _ pushed,
               (counts short).0,
               (counts short).1,
@@ -96,7 +97,7 @@ loop-done-preserved c =
             within = h.within;
             few = omega (arith, h.few, bounds, test);
             lines = λ short. (
-              λ old drops. batch_blank _ _ left (map (line_at bytes) spans) next (is short)
+              λ old drops. IsNextBatch-blank _ _ left (map (line_at bytes) spans) next (is short)
                   ((h.lines short).0 old drops) blank,
               (counts short).0,
               (counts short).1,

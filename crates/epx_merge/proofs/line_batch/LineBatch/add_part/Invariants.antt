@@ -2,7 +2,7 @@ use Rattle.std.proofs.Common.{◌≡◌, ◌≤◌, ◌+◌, ◌-◌, ◌++◌, 
 use Rattle.epx_types.proofs.Common.{All, max_log_bytes}
 use Rattle.epx_lines.specs.Lines.{lines_of}
 use Rattle.epx_merge.specs.LogLines.{MeaningAt, meanings_in}
-use Rattle.epx_merge.specs.RedundantLines.{DropsCached, IsNextBatch}
+use Rattle.epx_merge.specs.between.RedundantLines.{DropsCached, IsNextBatch}
 use Rattle.epx_merge.proofs.LineBatchLemmas.{IsWithin, line_at}
 use Rattle.epx_merge.proofs.line_batch.LineBatch.add_part.Given as goal
 

@@ -1,13 +1,13 @@
 use Rattle.std.proofs.Common.{rules}
-use Rattle.epx_merge.specs.ReadFaults.{IsReadFault, refused_among}
-use Rattle.epx_merge.proofs.ReadFaultLemmas.{refused_stays}
+use Rattle.epx_merge.specs.between.ReadFaults.{IsReadFault, refused_among}
+use Rattle.epx_merge.proofs.ReadFaultLemmas.{IsReadFault-append}
 use Rattle.epx_merge.proofs.log_reader.LogReader.read_during.Goals as goal
 
 pub returns-in-Err-clause-lines : goal.returns-in-Err-clause-lines
 returns-in-Err-clause-lines g c = λ lines cut read drops.
     let refuses = g.N.Notes.refuses_bad_lines in
     let bad : IsReadFault (refused_among refuses lines) c.in-Err.fault = search (rules, read) in
-    refused_stays refuses lines cut c.in-Err.fault bad
+    IsReadFault-append refuses lines cut c.in-Err.fault bad
 
 pub returns-clause-lines : goal.returns-clause-lines
 returns-clause-lines g c = λ lines cut read drops.

@@ -1,5 +1,5 @@
 use Rattle.epx_ranking.specs.inner.Ends.{AreEnds}
-use Rattle.epx_components.specs.Partitions.{parts}
+use Rattle.epx_components.specs.between.Partitions.{parts}
 use Rattle.epx_ranking.proofs.check.ends.find_ends.Given as goal
 
 abbrev pub invariant-loop-position : goal.invariant-loop-position

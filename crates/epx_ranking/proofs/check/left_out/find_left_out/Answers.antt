@@ -1,9 +1,9 @@
 use Rattle.std.proofs.Common.{◌≡◌, ◌<◌, None, length, get_or, sym, ap, ◌∙◌, subst₂, arith, subst}
 use Rattle.std.proofs.Common.{IsTrue}
 use Rattle.epx_types.proofs.Common.{false≢true, get_or_read, All-get_or}
-use Rattle.epx_components.specs.Partitions.{parts, component_of}
-use Rattle.epx_components.specs.ReadyMarks.{is_marked}
-use Rattle.epx_ranking.proofs.LeftOutLemmas.{left_out_kept, left_out_step}
+use Rattle.epx_components.specs.between.Partitions.{parts, component_of}
+use Rattle.epx_components.specs.between.ReadyMarks.{is_marked}
+use Rattle.epx_ranking.proofs.LeftOutLemmas.{AreLeftOut-kept, AreLeftOut-step}
 use Rattle.epx_ranking.specs.inner.SequenceKeys.{AreLeftOut, ComesAfter, key_for, sequence_key_of}
 use Rattle.epx_ranking.proofs.check.left_out.find_left_out.Goals.{then-not-comes_after}
 use Rattle.epx_ranking.proofs.check.left_out.find_left_out.Goals.{else-not-comes_after}
@@ -39,12 +39,12 @@ loop-node-preserved c =
           λ h. false≢true (sym w.if-not-comes_after.true ∙ c.comes_after.ensures.1
           (subst₂ ComesAfter (sym c.of-key_of_node.ensures) (sym first) h)) in
           rw (w.left_out-is, own, c.of-key_of_node.ensures)
-          (left_out_step m p marks n left_out old e c.entry_at.ensures own_in unmarked none)
+          (AreLeftOut-step m p marks n left_out old e c.entry_at.ensures own_in unmarked none)
       | else-not-comes_after w ↦
           let after = subst₂ ComesAfter c.of-key_of_node.ensures first
           (c.comes_after.ensures.0 w.if-not-comes_after.false) in
           rw w.left_out-is
-          (left_out_kept m p marks n left_out old e c.entry_at.ensures after)
+          (AreLeftOut-kept m p marks n left_out old e c.entry_at.ensures after)
     ]
 
 pub returns : goal.returns

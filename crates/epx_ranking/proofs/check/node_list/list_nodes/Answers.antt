@@ -1,8 +1,8 @@
 use Rattle.std.proofs.Common.{◌+◌, sym, ◌∙◌, subst₂, arith, false, IsTrue}
 use Rattle.epx_types.proofs.Common.{false≢true, get_or_read, slice_get_within, slice_get-get_or}
-use Rattle.epx_ranking.proofs.NodeListLemmas.{earlier_from_mark, listed_step, ready_once_step}
+use Rattle.epx_ranking.proofs.NodeListLemmas.{slice_get-from_mark, AreListed-step, ReadyOnce-step}
 use Rattle.epx_ranking.specs.inner.NodeLists.{AreListed}
-use Rattle.epx_components.specs.ReadyMarks.{is_marked}
+use Rattle.epx_components.specs.between.ReadyMarks.{is_marked}
 use Rattle.epx_ranking.proofs.check.node_list.list_nodes.Goals as goal
 
 pub returns-in_default-clause-sound : goal.returns-in_default-clause-sound
@@ -32,7 +32,7 @@ returns-then-index-clause-sound c m is =
     sym (get_or_read marks c.in-Some.node _
     (omega (arith, within, c.loop-place.invariant.listed.marks_whole)) c.index.ensures false)
     ∙ c.if-index.true in
-    let earlier = earlier_from_mark c.args.graph.now is.graph ids n
+    let earlier = slice_get-from_mark c.args.graph.now is.graph ids n
     c.loop-place.node_list.nodes.items marks c.loop-place.invariant.listed _ at c.in-Some.node
     node marked in (
       record {
@@ -70,7 +70,7 @@ loop-place-preserved c =
     record {
       listed = subst₂ (AreListed g ids (n + 1)) (sym c.in_ok-add.ensures.nodes)
           (sym c.in_ok-add.ensures.marks)
-          (listed_step g c.len.ensures.fits ids n nodes marks old.listed _ at k node);
-      sound = λ m is. ready_once_step g c.len.ensures.fits ids n nodes marks old.listed _ at k node
+          (AreListed-step g c.len.ensures.fits ids n nodes marks old.listed _ at k node);
+      sound = λ m is. ReadyOnce-step g c.len.ensures.fits ids n nodes marks old.listed _ at k node
           m (c.in-Some.ensures.ready m is) unmarked (old.sound m is);
     }

@@ -2,8 +2,8 @@ use Rattle.std.proofs.Common.{◌≡◌, ◌∙◌, ◌++◌, false, length, sym
 use Rattle.std.specs.FinMap as contents
 use Rattle.epx_types.proofs.Common.{list_any, IsPermutation, is_among, IsRising}
 use Rattle.epx_report.specs.Bases.{BaseParts}
-use Rattle.epx_report.specs.inner.BaseReadings.{put_pairs}
-use Rattle.epx_report.proofs.LinesByKindLemmas.{parts_of_base}
+use Rattle.epx_report.specs.between.PutPairs.{put_pairs}
+use Rattle.epx_report.proofs.LinesByKindLemmas.{IsBaseOf-if_counted}
 use Rattle.epx_report.proofs.parts.Parts.into_base.Goals as goal
 
 pub returns : goal.returns
@@ -24,7 +24,7 @@ returns g c =
     ∙ sym c.is_any_done.ensures ∙ any in
     let is = c.self.view_is in
     λ rise. rw (c.new.ensures.done, c.new.ensures.stored)
-    (parts_of_base p ids c.in_ok-store.field-0 replies waits sorted.0
+    (IsBaseOf-if_counted p ids c.in_ok-store.field-0 replies waits sorted.0
     (subst (λ (q : BaseParts). IsPermutation (q.done ++ q.replied) ids) is sorted.1)
     (subst (λ (q : BaseParts). list_any (λ x. is_among ids x) q.waiting ≡ false) is none)
     (subst (λ (q : BaseParts). c.in_ok-store.field-0 ≡ put_pairs q.stored contents.empty) is

@@ -1,7 +1,7 @@
 use Rattle.std.proofs.Common.{◌≡◌, ◌+◌, ◌≤◌, ◌<◌, ◌++◌, length, map, All, ℕ, sym, ap, subst, ◌∙◌}
 use Rattle.std.proofs.Common.{arith}
 use Rattle.epx_types.proofs.Common.{length-append, All-weaker}
-use Rattle.epx_rows.proofs.RowAppendLemmas.{ends_within, both_ends, both_rows}
+use Rattle.epx_rows.proofs.RowAppendLemmas.{All-ends_within, AreRowEnds-append, rows_from-append}
 use Rattle.epx_rows.proofs.rows.Rows.append.Goals as goal
 
 pub push_ends-requires : goal.push_ends-requires
@@ -18,7 +18,7 @@ push_ends-requires c =
     (sym c.deref-2.ensures.value)
     (All-weaker (λ end. end ≤ length ys) (λ end. c.len-before.result + end < 18446744073709551616)
     fits c.later.inside.ends.items
-    (ends_within 0 c.later.inside.ends.items (length ys) c.later.invariant))
+    (All-ends_within 0 c.later.inside.ends.items (length ys) c.later.invariant))
 
 pub invariant_of-result : goal.invariant_of-result
 invariant_of-result c =
@@ -28,7 +28,7 @@ invariant_of-result c =
     ∙ ap (λ es. ends ++ map (λ end. c.len-before.result + end) es) c.deref-2.ensures.value in
     let numbers_are = c.in_ok-extend_from_slice.ensures.items
     ∙ ap (λ l. xs ++ l) c.deref.ensures.value in
-    both_ends ends xs c.later.inside.ends.items c.later.inside.numbers.items
+    AreRowEnds-append ends xs c.later.inside.ends.items c.later.inside.numbers.items
     c.push_ends.new.ends.items c.extend_from_slice.new.self.items c.len-before.result
     (omega (arith, c.len-before.ensures, c.self.inside.numbers.ok.0)) ends_are numbers_are
     c.self.invariant c.later.invariant
@@ -41,7 +41,7 @@ returns c =
     ∙ ap (λ es. ends ++ map (λ end. c.len-before.result + end) es) c.deref-2.ensures.value in
     let numbers_are = c.in_ok-extend_from_slice.ensures.items
     ∙ ap (λ l. xs ++ l) c.deref.ensures.value in
-    both_rows ends xs c.later.inside.ends.items c.later.inside.numbers.items
+    rows_from-append ends xs c.later.inside.ends.items c.later.inside.numbers.items
     c.push_ends.new.ends.items c.extend_from_slice.new.self.items c.len-before.result
     (omega (arith, c.len-before.ensures, c.self.inside.numbers.ok.0)) ends_are numbers_are
     c.self.invariant c.later.invariant

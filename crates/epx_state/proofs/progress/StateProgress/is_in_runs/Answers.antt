@@ -4,7 +4,7 @@ use Rattle.epx_types.specs.Done.{is_among}
 use Rattle.epx_executor.specs.Runs.{IsInRuns, ids_in}
 use Rattle.epx_executor.specs.declared.done_runs.Run.{Run}
 use Rattle.epx_state.specs.inner.StateProgress.{StateProgress}
-use Rattle.epx_state.proofs.RunIdLemmas.{among_ids_in}
+use Rattle.epx_state.proofs.RunIdLemmas.{is_among-ids_in}
 use Rattle.epx_state.proofs.progress.StateProgress.is_in_runs.Goals as goal
 
 pub ids_in_runs-requires-clause-known : goal.ids_in_runs-requires-clause-known
@@ -24,6 +24,6 @@ invariant_of-self-2 c = (
 
 pub returns-clause-found : goal.returns-clause-found
 returns-clause-found c =
-    among_ids_in _ _ c.in_ok-done.ensures _ _ c.contains-found.ensures
+    is_among-ids_in _ _ c.in_ok-done.ensures _ _ c.contains-found.ensures
     ∙ ap (λ (runs : List Run). is_among (ids_in runs) c.args.id)
     (c.deref.ensures.value ∙ ap (λ (s : StateProgress). s.runs) c.self.view_is)

@@ -1,10 +1,10 @@
 use Rattle.std.proofs.Common.{map, []}
-use Rattle.epx_store.proofs.MapLoopLemmas.{listed_all}
+use Rattle.epx_store.proofs.MapLoopLemmas.{entries-listed_after}
 use Rattle.epx_store.proofs.key_map.KeyMap.list.Goals as goal
 
 pub returns : goal.returns
 returns g c =
     let read = c.into_iter-key-iterator.ensures.into_iter_gives in
-    listed_all c.self.inside.map c.args.self.now c.self.view_is read.5 []
+    entries-listed_after c.self.inside.map c.args.self.now c.self.view_is read.5 []
     (map (λ p. (p.0.now, p.1)) c.loop-key.pairs.items) c.loop-key.key-iterator
     c.into_iter-key-iterator.result c.in-None.ensures.steps.0 c.loop-key.invariant read.0

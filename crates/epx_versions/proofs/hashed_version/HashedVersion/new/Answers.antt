@@ -1,5 +1,5 @@
 use Rattle.std.proofs.Common.{◌∙◌, ap}
-use Rattle.epx_versions.specs.VersionLists.{hash_by}
+use Rattle.epx_versions.specs.between.VersionLists.{hash_by}
 use Rattle.epx_versions.proofs.hashed_version.HashedVersion.new.Goals as goal
 
 pub returns-clause-hash : goal.returns-clause-hash

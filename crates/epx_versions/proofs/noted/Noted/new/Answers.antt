@@ -1,5 +1,5 @@
 use Rattle.std.proofs.Common.{◌∙◌, map, sym, ap}
-use Rattle.epx_versions.specs.VersionLists.{hash_by}
+use Rattle.epx_versions.specs.between.VersionLists.{hash_by}
 use Rattle.epx_versions.proofs.noted.Noted.new.Goals as goal
 
 pub returns-clause-hashed : goal.returns-clause-hashed

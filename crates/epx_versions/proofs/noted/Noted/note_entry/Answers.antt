@@ -4,7 +4,7 @@ use Rattle.indexmap.specs.IndexSet.{insert_key}
 use Rattle.epx_versions.specs.declared.noted.NotedLine.{NotedLine}
 use Rattle.epx_versions.specs.LineVersions.{versions_of}
 use Rattle.epx_versions.specs.SameInstances.{same_instance}
-use Rattle.epx_versions.specs.NotedRows.{IsRowOf}
+use Rattle.epx_versions.specs.between.NotedRows.{IsRowOf}
 use Rattle.epx_versions.proofs.VersionLemmas.{versions_of-snoc, rows-snoc}
 use Rattle.epx_versions.proofs.noted.Noted.note_entry.Goals as goal
 

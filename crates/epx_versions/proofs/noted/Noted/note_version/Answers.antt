@@ -1,7 +1,7 @@
 use Rattle.std.proofs.Common.{◌≡◌, ◌∙◌, ◌∷◌, ◌++◌, [], Some, slice_get, refl, sym, ap, subst}
 use Rattle.epx_types.proofs.Common.{AllZip, Contains-slice_get, Placed}
 use Rattle.epx_versions.specs.declared.noted.NotedLine.{NotedLine}
-use Rattle.epx_versions.specs.NotedRows.{IsRowOf}
+use Rattle.epx_versions.specs.between.NotedRows.{IsRowOf}
 use Rattle.epx_versions.specs.LineVersions.{versions_of}
 use Rattle.epx_versions.proofs.VersionLemmas.{versions_of-repeat, rows-snoc}
 use Rattle.epx_versions.proofs.noted.Noted.note_version.Goals as goal

@@ -2,7 +2,8 @@ use Rattle.std.proofs.Common.{◌≡◌, ◌∙◌, [], List, Vec, refl, sym, su
 use Rattle.epx_types.proofs.Common.{nil_from_length, Global}
 use Rattle.epx_versions.specs.declared.read_line.ReadLine.{ReadLine}
 use Rattle.epx_versions.specs.inner.BatchNotes.{IsNotedUpTo}
-use Rattle.epx_versions.proofs.NotedBatchLemmas.{noting_none, noting_piece, noting_all}
+use Rattle.epx_versions.proofs.NotedBatchLemmas.{IsNotedUpTo-none, IsNotedUpTo-piece}
+use Rattle.epx_versions.proofs.NotedBatchLemmas.{AreNotedLines-all}
 use Rattle.epx_versions.proofs.version_notes.VersionNotes.note_batch.Goals as goal
 
 pub loop-piece-init : goal.loop-piece-init
@@ -12,7 +13,7 @@ loop-piece-init c = λ lines noted given.
     let batch = c.args.batch.now in
     subst (λ (r : List (Vec ReadLine Global)). IsNotedUpTo self.seed cache lines batch 0 [] r self
     cache) (sym c.into_iter-piece-iterator.ensures.into_iter_gives.0)
-    (noting_none self.seed cache lines batch c.args.pieces.items self refl noted given)
+    (IsNotedUpTo-none self.seed cache lines batch c.args.pieces.items self refl noted given)
 
 pub loop-piece-preserved : goal.loop-piece-preserved
 loop-piece-preserved c = λ lines noted given.
@@ -26,7 +27,7 @@ loop-piece-preserved c = λ lines noted given.
     let begun = subst (λ (r : List (Vec ReadLine Global)). IsNotedUpTo seed known lines batch at []
     r self cache) c.in-Some.ensures.steps.0 (c.loop-piece.invariant lines noted given) in
     c.in_ok-at.ensures seed known lines rest
-    (noting_piece seed known lines batch at c.in-Some.piece rest self cache begun)
+    (IsNotedUpTo-piece seed known lines batch at c.in-Some.piece rest self cache begun)
 
 pub returns : goal.returns
 returns c = λ lines noted given.
@@ -37,6 +38,6 @@ returns c = λ lines noted given.
     let known = c.args.cache.now in
     let batch = c.args.batch.now in
     let self = c.loop-piece.self in
-    noting_all seed known lines batch c.loop-piece.at self c.loop-piece.cache
+    AreNotedLines-all seed known lines batch c.loop-piece.at self c.loop-piece.cache
     (subst (λ (r : List (Vec ReadLine Global)). IsNotedUpTo seed known lines batch c.loop-piece.at
     [] r self c.loop-piece.cache) none (c.loop-piece.invariant lines noted given))

@@ -1,10 +1,10 @@
 use Rattle.std.proofs.Common.{◌≡◌, ◌∙◌, ◌++◌, ◌∷◌, [], Some, slice_get, sym, ap, option_map}
 use Rattle.epx_types.proofs.Common.{IfOk-weaker, Instance, Placed}
 use Rattle.epx_merge.specs.LogLines.{bad_lines_among, placed_among}
-use Rattle.epx_versions.specs.KnownLines.{meaning_of_version}
+use Rattle.epx_versions.specs.between.KnownLines.{meaning_of_version}
 use Rattle.epx_versions.specs.LineVersions.{versions_of}
-use Rattle.epx_versions.proofs.KnownLineLemmas.{known_grown, line_of}
-use Rattle.epx_versions.proofs.NotedLineLemmas.{noted_entry}
+use Rattle.epx_versions.proofs.KnownLineLemmas.{AreKnown-grown, line_of}
+use Rattle.epx_versions.proofs.NotedLineLemmas.{AreNotedLines-entry}
 use Rattle.epx_versions.proofs.VersionLemmas.{versions_of-grows}
 use Rattle.epx_versions.proofs.version_notes.VersionNotes.note_fresh.Goals as goal
 
@@ -21,10 +21,10 @@ returns-clause-noted c = IfOk-weaker c.cache_line.result _ _ (λ _ known lines n
     ap (λ ks. slice_get ks n) (sym after.0.versions) ∙ c.in_ok-number.ensures.number in
     let says : meaning_of_version (versions_of all) n ≡ Some c.args.line.now.meaning =
     ap (option_map line_of) number ∙ ap (λ m. Some m) (sym means) in
-    noted_entry _ _ lines c.args.line.now e c.place.result c.place.ensures means (
+    AreNotedLines-entry _ _ lines c.args.line.now e c.place.result c.place.ensures means (
       after.0,
       after.1,
-      known (versions_of all) says (known_grown (versions_of placed) (versions_of all)
+      known (versions_of all) says (AreKnown-grown (versions_of placed) (versions_of all)
           (versions_of-grows placed (p ∷ [])) c.args.self.now.numbers.items c.args.cache.now
           noted.texts),
     )) c.cache_line.ensures.known

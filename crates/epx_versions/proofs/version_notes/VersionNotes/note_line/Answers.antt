@@ -6,10 +6,11 @@ use Rattle.epx_lines.specs.declared.Line.{Line}
 use Rattle.epx_merge.specs.LogLines.{bad_lines_among, placed_among}
 use Rattle.epx_versions.specs.declared.read_line.ReadLine.{ReadLine}
 use Rattle.epx_versions.specs.LineVersions.{versions_of}
-use Rattle.epx_versions.specs.ReadMeanings.{meaning_in}
-use Rattle.epx_versions.specs.VersionLists.{AreHashed}
-use Rattle.epx_versions.proofs.KnownLineLemmas.{known_at, known_grown, number_within, version_known}
-use Rattle.epx_versions.proofs.NotedLineLemmas.{noted_entry, noted_fault}
+use Rattle.epx_versions.specs.between.ReadMeanings.{meaning_in}
+use Rattle.epx_versions.specs.between.VersionLists.{AreHashed}
+use Rattle.epx_versions.proofs.KnownLineLemmas.{meaning_of_version-at, AreKnown-grown}
+use Rattle.epx_versions.proofs.KnownLineLemmas.{AreKnown-within, meaning_of_version-known}
+use Rattle.epx_versions.proofs.NotedLineLemmas.{AreNotedLines-entry, AreNotedLines-fault}
 use Rattle.epx_versions.proofs.VersionLemmas.{versions_of-grows}
 use Rattle.epx_versions.proofs.version_notes.VersionNotes.note_line.Goals as goal
 
@@ -30,15 +31,16 @@ returns-in_ok-note_version-in-Repeat-clause-noted c = λ lines noted said.
     ∙ ap (λ x. Some x) (sym found.1)) in
     let read : slice_get cache number ≡ Some meaning =
     subst (λ (r : ReadLine). meaning_in seed cache r ≡ Some meaning) c.in-Repeat.is said in
-    let commits = version_known (versions_of placed) version meaning
-    (known_at (versions_of placed) cache numbers noted.texts number version meaning read at) in
+    let commits = meaning_of_version-known (versions_of placed) version meaning
+    (meaning_of_version-at (versions_of placed) cache numbers noted.texts number version meaning
+    read at) in
     let e : Instance = commits.0 in
     let p : Placed = record { place = c.place.result; instance = e } in
-    noted_entry _ _ lines c.args.line.now e c.place.result c.place.ensures commits.2 (
+    AreNotedLines-entry _ _ lines c.args.line.now e c.place.result c.place.ensures commits.2 (
       c.in_ok-note_version-in-Repeat.ensures.noted placed (bad_lines_among lines) e
           (ap (λ ks. slice_get ks version) noted.rows.versions ∙ commits.1) noted.rows,
       subst (AreHashed seed) (sym c.in_ok-note_version-in-Repeat.ensures.versions) noted.hashed,
-      known_grown (versions_of placed) (versions_of (placed ++ p ∷ []))
+      AreKnown-grown (versions_of placed) (versions_of (placed ++ p ∷ []))
           (versions_of-grows placed (p ∷ [])) numbers cache noted.texts,
     )
 
@@ -51,7 +53,7 @@ returns-in_default-clause-noted c = λ lines noted said.
     let number = c.in-Repeat.number in
     let read : slice_get cache number ≡ Some meaning =
     subst (λ (r : ReadLine). meaning_in seed cache r ≡ Some meaning) c.in-Repeat.is said in
-    let within = number_within (versions_of (placed_among lines)) cache numbers noted.texts number
+    let within = AreKnown-within (versions_of (placed_among lines)) cache numbers noted.texts number
     meaning read in
     let beyond : length c.deref.result.now ≤ number = grind (arith, nat_tests, c.in_default.ensures)
     in
@@ -66,7 +68,8 @@ returns-in_ok-note_bad-in-Bad-clause-noted c = λ lines noted said.
     let read : Some (Err why) ≡ Some meaning =
     subst (λ (r : ReadLine). meaning_in seed cache r ≡ Some meaning) c.in-Bad.is said in
     let means : meaning ≡ Err why = cc read in
-    noted_fault _ _ lines c.args.line.now why c.place-in-Bad.result c.place-in-Bad.ensures means (
+    AreNotedLines-fault _ _ lines c.args.line.now why c.place-in-Bad.result c.place-in-Bad.ensures
+    means (
       c.in_ok-note_bad-in-Bad.ensures.noted (placed_among lines) (bad_lines_among lines) noted.rows,
       subst (AreHashed seed) (sym c.in_ok-note_bad-in-Bad.ensures.versions) noted.hashed,
       noted.texts,

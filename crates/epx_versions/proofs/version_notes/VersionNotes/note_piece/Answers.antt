@@ -3,7 +3,8 @@ use Rattle.epx_types.proofs.Common.{nil_from_length}
 use Rattle.epx_merge.specs.LogLines.{MeaningAt}
 use Rattle.epx_versions.specs.declared.read_line.ReadLine.{ReadLine}
 use Rattle.epx_versions.specs.inner.BatchNotes.{IsNotedUpTo}
-use Rattle.epx_versions.proofs.NotedBatchLemmas.{line_is_there, noting_line, said_line}
+use Rattle.epx_versions.proofs.NotedBatchLemmas.{slice_get-batch_line, IsNotedUpTo-line}
+use Rattle.epx_versions.proofs.NotedBatchLemmas.{meaning_in-line}
 use Rattle.epx_versions.proofs.version_notes.VersionNotes.note_piece.Goals as goal
 
 pub loop-read-init : goal.loop-read-init
@@ -17,7 +18,7 @@ returns-in_default c = λ seed known lines pieces h.
     let before = c.loop-read.invariant seed known lines pieces h in
     let here = subst (λ (r : List ReadLine). IsNotedUpTo seed known lines c.args.batch.now
     c.loop-read.at r pieces c.loop-read.self c.loop-read.cache) c.in-Some.ensures.steps.0 before in
-    absurd (line_is_there seed known lines c.args.batch.now c.loop-read.at c.in-Some.read
+    absurd (slice_get-batch_line seed known lines c.args.batch.now c.loop-read.at c.in-Some.read
     c.next.new.self.rest.items pieces c.loop-read.self c.loop-read.cache here c.in_default.ensures)
 
 pub loop-read-preserved : goal.loop-read-preserved
@@ -33,10 +34,11 @@ loop-read-preserved c = λ seed known lines pieces h.
     cache) c.in-Some.ensures.steps.0 before in
     let line : MeaningAt = c.in-Some-line_at.line in
     let found = c.in-Some-line_at.ensures in
-    let said = said_line seed known lines batch at read reads pieces self cache here line found.0
+    let said =
+    meaning_in-line seed known lines batch at read reads pieces self cache here line found.0
     in
     let did = c.in_ok-note_line.ensures in
-    noting_line seed known lines batch at read reads pieces self cache here line found.0
+    IsNotedUpTo-line seed known lines batch at read reads pieces self cache here line found.0
     c.in-Some-line_at.next found.1 c.note_line.new.self c.note_line.new.cache
     (did.noted (lines ++ here.done) here.noted said) did.seed did.grows
 

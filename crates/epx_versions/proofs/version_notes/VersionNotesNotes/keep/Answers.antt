@@ -1,10 +1,10 @@
 use Rattle.std.proofs.Common.{◌≡◌, ◌∙◌, ◌++◌, [], List, Vec, ap, sym, subst}
 use Rattle.epx_types.proofs.Common.{Global}
-use Rattle.epx_merge.specs.LinePieces.{ArePiecesOf}
+use Rattle.epx_merge.specs.between.LinePieces.{ArePiecesOf}
 use Rattle.epx_versions.specs.declared.read_line.ReadLine.{ReadLine}
-use Rattle.epx_versions.specs.NotedLines.{AreNotedLines}
-use Rattle.epx_versions.specs.ReadMeanings.{AreReadSo}
-use Rattle.epx_versions.proofs.NotedLineLemmas.{noted_batch}
+use Rattle.epx_versions.specs.between.NotedLines.{AreNotedLines}
+use Rattle.epx_versions.specs.between.ReadMeanings.{AreReadSo}
+use Rattle.epx_versions.proofs.NotedLineLemmas.{AreNotedLines-batch}
 use Rattle.epx_versions.proofs.version_notes.VersionNotesNotes.keep.Goals as goal
 
 pub returns : goal.returns
@@ -23,5 +23,5 @@ returns c = λ lines cut noted drops given.
     ap (λ (v : Vec (Vec ReadLine Global) Global). v.items) c.replace-read.ensures.after
     ∙ c.new-none.ensures.items in
     subst (λ (ps : List (Vec ReadLine Global)). AreNotedLines (lines ++ cut) self cache ps)
-    (sym none) (noted_batch self cache lines cut batch drops
+    (sym none) (AreNotedLines-batch self cache lines cut batch drops
     (c.in_ok-note_batch.ensures lines noted taken))

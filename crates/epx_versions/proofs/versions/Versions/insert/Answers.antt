@@ -4,7 +4,7 @@ use Rattle.epx_types.proofs.lists.ListPositionLemmas.{slice_get-map}
 use Rattle.epx_versions.specs.declared.hashed_version.HashedVersion.{HashedVersion}
 use Rattle.epx_versions.specs.SameInstances.{same_instance}
 use Rattle.epx_versions.specs.inner.HashedVersions.{hashed_decide}
-use Rattle.epx_versions.specs.VersionLists.{AreHashed}
+use Rattle.epx_versions.specs.between.VersionLists.{AreHashed}
 use Rattle.epx_versions.proofs.HashedVersionLemmas.{EachHashed, instances_of}
 use Rattle.epx_versions.proofs.HashedVersionLemmas.{hashed-insert_key, instances-insert_key}
 use Rattle.epx_versions.proofs.versions.Versions.insert.Goals as goal

@@ -1,0 +1,20 @@
+-- What the components of a partition have, each with what the components below it give.
+use Rattle.std.specs.Prelude.{◌≡◌, ◌≢◌, ◌↔◌, ◌⊎◌, ℕ, ◌<◌, List, length, slice_index}
+use Rattle.epx_components.specs.between.Partitions.{ComponentParts, component_of, node_at}
+
+-- one of the first n targets is in another component, and the fact holds for that one
+abbrev pub LeadsOut : List ℕ → ℕ → List ℕ → ℕ → (ℕ → Type 0) → Type 0
+LeadsOut component own targets n P = (i : ℕ) × (i < n)
+    × (slice_index component (slice_index targets i) ≢ own)
+    × P (slice_index component (slice_index targets i))
+
+-- an edge of one of the first n nodes of the order leads out of component c in this way
+abbrev pub LeadsDown : (ℕ → List ℕ) → ComponentParts → ℕ → (ℕ → Type 0) → ℕ → Type 0
+LeadsDown edges p n P c = (q : ℕ) × (q < n) × (component_of p (node_at p q) ≡ c)
+    × LeadsOut p.component c (edges (node_at p q)) (length (edges (node_at p q))) P
+
+-- a component has what it had at first, and what is given to it over these edges
+abbrev pub AreCollected : (ℕ → List ℕ) → ComponentParts → ℕ → (ℕ → Type 0) → (ℕ → Type 0)
+    → (ℕ → Type 0) → Type 0
+AreCollected edges p n First Gives Has = (c : ℕ)
+    → Has c ↔ (First c ⊎ LeadsDown edges p n Gives c)

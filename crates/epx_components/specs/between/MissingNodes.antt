@@ -1,0 +1,7 @@
+-- Missing nodes: those from some number on.
+use Rattle.std.specs.Prelude.{ℕ, ◌≤◌, List}
+use Rattle.epx_graph.specs.between.NodePaths.{NodeReaches}
+
+-- k reaches a node from this number on
+abbrev pub ReachesMissing : (ℕ → List ℕ) → ℕ → ℕ → Type 0
+ReachesMissing edges committed k = (j : ℕ) × (committed ≤ j) × NodeReaches edges k j

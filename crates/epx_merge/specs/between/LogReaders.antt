@@ -1,0 +1,36 @@
+-- What a reader of logs has read, whatever notes their lines.
+use Rattle.std.specs.Prelude.{[], Bool, List, Result, MatchResult}
+use Rattle.epx_types.specs.declared.fault.Fault.{Fault}
+use Rattle.epx_types.specs.declared.fault.Why.{Why}
+use Rattle.epx_lines.specs.declared.Line.{Line}
+use Rattle.epx_merge.specs.declared.log_reader.LogReader.{LogReader}
+use Rattle.epx_merge.specs.declared.log_reader.ReadLines.{ReadLines}
+use Rattle.epx_merge.specs.LogLines.{MeaningAt}
+use Rattle.epx_merge.specs.between.ReadFaults.{IsReadFault, refused_among}
+
+-- these lines are read: they are noted, except for those of the pieces, and the cache recognizes
+-- no others
+abbrev pub NoteRelation : Type 0 → Type 0 → Type 1
+NoteRelation N P = List MeaningAt → N → List (Result Line Why) → List P → Type 0
+
+-- the result of reading the lines: they are read, or the first that is refused
+abbrev pub IsReading : {N P S : Type 0} → NoteRelation N P → Bool → List MeaningAt
+    → Result (ReadLines N P S) Fault → Type 0
+IsReading has_read refuses lines result = MatchResult result
+    (λ r. has_read lines r.notes r.cache r.pending.items)
+    (IsReadFault (refused_among refuses lines))
+
+-- the reader has read these lines
+abbrev pub HasRead : {N P S : Type 0} → NoteRelation N P → Bool → List MeaningAt
+    → LogReader N P S → Type 0
+HasRead has_read refuses lines reader = IsReading has_read refuses lines reader.read
+
+-- all lines are noted, whatever the cache recognizes
+abbrev pub HasNoted : {N P : Type 0} → NoteRelation N P → List MeaningAt → N → Type 0
+HasNoted has_read lines notes = (cache : List (Result Line Why)) × has_read lines notes cache []
+
+-- the result of noting the lines: all are noted, or the first that is refused
+abbrev pub IsNoting : {N P : Type 0} → NoteRelation N P → Bool → List MeaningAt → Result N Fault
+    → Type 0
+IsNoting has_read refuses lines result = MatchResult result (HasNoted has_read lines)
+    (IsReadFault (refused_among refuses lines))
