@@ -3,6 +3,7 @@ use crate::list_nodes::ListNodes;
 use crate::listed::Listed;
 use crate::path::show_path;
 use crate::search::path_to_late_node;
+use epx_bad_lines::{found, made};
 use epx_committed::Merged;
 use epx_graph::build;
 use epx_types::{Memory, Plan};
@@ -21,8 +22,8 @@ fn explain_place(
         None => None,
     };
     match listed {
-        Some(listed) => Ok(format!(in alloc; "which LIST has later, at {listed}")?),
-        None => Ok(String::from_str(alloc, "which LIST does not have")?),
+        Some(listed) => made(format!(in alloc; "which LIST has later, at {listed}")),
+        None => made(String::from_str(alloc, "which LIST does not have")),
     }
 }
 
@@ -43,10 +44,10 @@ fn explain_path(
     let begin = listed.show(alloc)?;
     let place = explain_place(alloc, nodes, list, last)?;
     if path.len() <= 2 {
-        return Ok(Some(format!(in alloc; "{begin}; it depends on {late}, {place}")?));
+        return found(format!(in alloc; "{begin}; it depends on {late}, {place}"));
     }
     let shown = show_path(alloc, nodes, path)?;
-    Ok(Some(format!(in alloc; "{begin}; it reaches {late} by {shown}, {place}")?))
+    found(format!(in alloc; "{begin}; it reaches {late} by {shown}, {place}"))
 }
 
 /// Names what a listed instance reaches outside its component and the list has later or not at

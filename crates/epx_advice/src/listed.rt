@@ -1,4 +1,5 @@
 //! The instances of a list, each with its position and its line.
+use epx_bad_lines::made;
 use epx_lines::{cut_lines, is_blank_line};
 use epx_report::{BaseFault, read_list};
 use epx_types::{Id, Memory};
@@ -27,7 +28,7 @@ impl Listed {
     /// Says what the list has where. It is the beginning of an explanation.
     pub fn show(&self, alloc: Global) -> Result<String, Memory> {
         let Listed { id, position, line } = *self;
-        Ok(format!(in alloc; "LIST has {id} at position {position} (from 0), line {line}")?)
+        made(format!(in alloc; "LIST has {id} at position {position} (from 0), line {line}"))
     }
 }
 

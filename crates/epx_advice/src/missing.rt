@@ -1,5 +1,6 @@
 //! Explains that a list lacks ready instances.
 use crate::listed::Listed;
+use epx_bad_lines::found;
 use epx_committed::Merged;
 use epx_graph::{build, waiting};
 use epx_types::{Id, Memory, Plan};
@@ -19,8 +20,8 @@ pub(crate) fn explain_missing<R: Threads + Sync>(
     let waiters = waiting(alloc, &graph)?;
     let ready = merged.len().saturating_sub(waiters.len());
     let lacking = ready.saturating_sub(list.len());
-    Ok(Some(format!(in alloc;
+    found(format!(in alloc;
         "LIST lacks {lacking} of {ready} ready instances, {least} is the least of them; is its \
 replica still executing? --prefix allows that"
-    )?))
+    ))
 }

@@ -1,5 +1,6 @@
 //! Explains which instances a resumed run does not know.
 use crate::base_waiters::read_waiters;
+use epx_bad_lines::found;
 use epx_committed::Merged;
 use epx_types::{Id, Memory};
 use std::alloc::Global;
@@ -36,13 +37,13 @@ pub fn explain_resume(
         return Ok(None);
     };
     if count == 1 {
-        return Ok(Some(format!(in alloc;
+        return found(format!(in alloc;
             "{first} waits in BASE and is in no LOG, so the report has nothing of it: \
 name a LOG with its line"
-        )?));
+        ));
     }
-    Ok(Some(format!(in alloc;
+    found(format!(in alloc;
         "{count} instances wait in BASE and are in no LOG, {first} first, so the report has \
 nothing of them: name a LOG with their lines"
-    )?))
+    ))
 }

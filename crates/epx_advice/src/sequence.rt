@@ -2,6 +2,7 @@
 use crate::left_out::least_left_out;
 use crate::list_nodes::ListNodes;
 use crate::listed::Listed;
+use epx_bad_lines::found;
 use epx_committed::Merged;
 use epx_graph::build;
 use epx_types::{Id, Memory, Plan};
@@ -55,10 +56,10 @@ fn explain_left_out(
         return Ok(None);
     };
     let begin = listed.show(alloc)?;
-    Ok(Some(format!(in alloc;
+    found(format!(in alloc;
         "{begin}, with seq {seq}; {other} of its component comes before it, with seq \
 {other_seq}, and LIST does not have it"
-    )?))
+    ))
 }
 
 /// Explains that a member that belongs after an instance is listed before it.
@@ -71,10 +72,10 @@ fn explain_order(
 ) -> Result<Option<String>, Memory> {
     let begin = listed.show(alloc)?;
     let other_id = other.id;
-    Ok(Some(format!(in alloc;
+    found(format!(in alloc;
         "{begin}, with seq {seq}; {other_id} of its component comes after it, with seq \
 {other_seq}, and LIST has it earlier, at {other}"
-    )?))
+    ))
 }
 
 /// Names the member of the component that belongs after a listed instance and is listed before it,

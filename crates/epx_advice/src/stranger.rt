@@ -1,5 +1,6 @@
 //! Explains that a listed instance is not ready.
 use crate::listed::Listed;
+use epx_bad_lines::found;
 use epx_committed::Merged;
 use epx_graph::{Waiter, build, waiting};
 use epx_types::{Id, Memory, Plan};
@@ -28,14 +29,14 @@ pub(crate) fn explain_stranger<R: Threads + Sync>(
     let id = listed.id;
     let begin = listed.show(alloc)?;
     if merged.get(id).is_none() {
-        return Ok(Some(format!(in alloc; "{begin}; no log commits it: is a LOG missing?")?));
+        return found(format!(in alloc; "{begin}; no log commits it: is a LOG missing?"));
     }
     let graph = build(rt, alloc, merged, plan)?;
     let waiters = waiting(alloc, &graph)?;
     match missing_of(&waiters, id) {
-        Some(missing) => Ok(Some(format!(in alloc;
+        Some(missing) => found(format!(in alloc;
             "{begin}; it waits for {missing}, which no log commits: is a LOG missing?"
-        )?)),
+        )),
         None => Ok(None),
     }
 }

@@ -2,6 +2,7 @@
 ghost use Rattle.std.specs.Prelude.{◌≡◌, ◌≢◌, [], IfOk, IfNone, IfSome};
 
 use crate::key_users::{KeyUsers, count_key_users};
+use epx_bad_lines::made;
 use epx_committed::Merged;
 use epx_types::{Memory, Plan};
 use std::alloc::Global;
@@ -20,12 +21,12 @@ fn is_file<R: Files>(rt: &R, path: &str) -> bool {
 /// Explains that no command has the key.
 fn explain_unknown<R: Files>(rt: &R, alloc: Global, key: &str) -> Result<String, Memory> {
     if is_file(rt, key) {
-        return Ok(format!(in alloc;
+        return made(format!(in alloc;
             "no command has the key {key:?}, which is the name of a file: was KEY forgotten? \
 epx trace KEY LOG.."
-        )?);
+        ));
     }
-    Ok(format!(in alloc; "no command has the key {key:?}")?)
+    made(format!(in alloc; "no command has the key {key:?}"))
 }
 
 /// Explains that no command with the key writes it, or that all of them wait.
@@ -36,14 +37,14 @@ fn explain_users(alloc: Global, key: &str, users: KeyUsers) -> Result<String, Me
         first_waiting,
     } = users;
     match first_waiting {
-        Some(id) if executed == 0 => Ok(format!(in alloc;
+        Some(id) if executed == 0 => made(format!(in alloc;
             "no executed command has the key {key:?}; commands that have it and wait: {waiting}, \
 {id} first"
-        )?),
-        _ => Ok(format!(in alloc;
+        )),
+        _ => made(format!(in alloc;
             "no executed command writes the key {key:?}; commands that read it: {executed}, \
 which --reads lists"
-        )?),
+        )),
     }
 }
 

@@ -5,6 +5,7 @@ use crate::missing::explain_missing;
 use crate::sequence::explain_sequence;
 use crate::stranger::explain_stranger;
 use crate::verdict_line::read_verdict;
+use epx_bad_lines::found;
 use epx_committed::Merged;
 use epx_ranking::OrderFault;
 use epx_types::{Memory, Plan};
@@ -22,7 +23,7 @@ fn explain_repeat(
         return Ok(None);
     };
     let begin = listed.show(alloc)?;
-    Ok(Some(format!(in alloc; "{begin}, and before that at {first}")?))
+    found(format!(in alloc; "{begin}, and before that at {first}"))
 }
 
 /// The position that a fault names, if it names one.

@@ -9,7 +9,7 @@ use Rattle.epx_types.proofs.Common.{Contains-cons_cases}
 use Rattle.epx_types.specs.declared.op.Op.{Op}
 use Rattle.epx_apply.specs.declared.key_table.KeyLevels.{KeyLevels}
 use Rattle.epx_apply.specs.declared.key_table.TableAccess.{TableAccess}
-use Rattle.epx_apply.specs.between.KeyTables.{no_levels, key_levels_at, IsLevelAbove}
+use Rattle.epx_apply.specs.between.KeyTables.{untouched_levels, key_levels_at, IsLevelAbove}
 use Rattle.epx_apply.specs.inner.LevelTables.{level_for, raise}
 
 -- ---- one more command
@@ -135,7 +135,7 @@ module _ (n : ℕ) where
             subst (λ y. (key_levels_at (raise n key_levels a) y).touchers
             ≡ max (key_levels_at key_levels y).touchers n) (sym same)
             (ap (λ (b : KeyLevels). b.touchers)
-            (get_or-set_same key_levels a.key _ no_levels
+            (get_or-set_same key_levels a.key _ untouched_levels
             (subst (λ y. y < length key_levels) same low))) in
             let here : Contains (a ∷ accesses) (record { key = x; writes = a.writes }) =
             subst (λ y. Contains (a ∷ accesses) (record { key = y; writes = a.writes }))
@@ -148,7 +148,7 @@ module _ (n : ℕ) where
             let kept : (key_levels_at (raise n key_levels a) x).touchers
             ≡ (key_levels_at key_levels x).touchers =
             ap (λ (b : KeyLevels). b.touchers)
-            (get_or-set_other key_levels a.key x _ no_levels other) in
+            (get_or-set_other key_levels a.key x _ untouched_levels other) in
             elim rest [
               | inl (later, e) ↦ inl (
                 (
@@ -198,7 +198,7 @@ module _ (n : ℕ) where
             ≡ (if a.writes then max (key_levels_at key_levels y).writers n else
             (key_levels_at key_levels y).writers)) (sym same)
             (ap (λ (b : KeyLevels). b.writers)
-            (get_or-set_same key_levels a.key _ no_levels
+            (get_or-set_same key_levels a.key _ untouched_levels
             (subst (λ y. y < length key_levels) same low))) in
             let here : Contains (a ∷ accesses) (record { key = x; writes = a.writes }) =
             subst (λ y. Contains (a ∷ accesses) (record { key = y; writes = a.writes }))
@@ -241,7 +241,7 @@ module _ (n : ℕ) where
             let kept : (key_levels_at (raise n key_levels a) x).writers
             ≡ (key_levels_at key_levels x).writers =
             ap (λ (b : KeyLevels). b.writers)
-            (get_or-set_other key_levels a.key x _ no_levels other) in
+            (get_or-set_other key_levels a.key x _ untouched_levels other) in
             elim rest [
               | inl (later, e) ↦ inl (
                 Contains-cons a accesses (record { key = x; writes = true })

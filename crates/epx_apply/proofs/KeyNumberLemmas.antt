@@ -9,7 +9,7 @@ use Rattle.epx_types.specs.declared.op.Op.{Op}
 use Rattle.epx_types.proofs.lists.ListPositionLemmas.{slice_get-map}
 use Rattle.epx_apply.specs.declared.key_table.TableAccess.{TableAccess}
 use Rattle.epx_apply.specs.declared.key_table.KeyLevels.{KeyLevels}
-use Rattle.epx_apply.specs.between.KeyTables.{key_at, no_levels, IsKeyTableOf}
+use Rattle.epx_apply.specs.between.KeyTables.{key_at, untouched_levels, IsKeyTableOf}
 use Rattle.epx_apply.proofs.KeyTableLemmas.{IsKeyTableOf-add_key, IsKeyTableOf-access}
 
 abbrev pub texts_of : List (Bor (List ℕ)) → List (List ℕ)
@@ -60,7 +60,7 @@ module _ (done : List (List Op × ℕ)) (current : List (List ℕ × Bool))
       → IsKeyTableOf done (current ++ (key, w) ∷ [])
       (record {
         keys = texts_of ks';
-        key_levels = key_levels ++ no_levels ∷ [];
+        key_levels = key_levels ++ untouched_levels ∷ [];
         accesses = accesses ++ record { key = number; writes = w } ∷ [];
       })
   IsKeyTableOf-new_key none =
@@ -73,11 +73,15 @@ module _ (done : List (List Op × ℕ)) (current : List (List ℕ × Bool))
       IsKeyTableOf-access done current
       (record {
         keys = texts_of ks';
-        key_levels = key_levels ++ no_levels ∷ [];
+        key_levels = key_levels ++ untouched_levels ∷ [];
         accesses = accesses;
       })
       (subst (λ qs. IsKeyTableOf done current
-      (record { keys = qs; key_levels = key_levels ++ no_levels ∷ []; accesses = accesses }))
+      (record {
+        keys = qs;
+        key_levels = key_levels ++ untouched_levels ∷ [];
+        accesses = accesses;
+      }))
       (sym pushed) grown) number key w at.0 at.1
 
   pub IsKeyTableOf-known_key : list_any (same_text k) ks ≡ true

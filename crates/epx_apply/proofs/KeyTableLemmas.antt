@@ -12,7 +12,7 @@ use Rattle.epx_types.proofs.Common.{Contains-from_rising_keys, accesses_of, touc
 use Rattle.epx_types.specs.declared.op.Op.{Op}
 use Rattle.epx_apply.specs.declared.key_table.KeyLevels.{KeyLevels}
 use Rattle.epx_apply.specs.declared.key_table.TableAccess.{TableAccess}
-use Rattle.epx_apply.specs.between.KeyTables.{KeyTableView, no_levels, key_levels_at, key_at}
+use Rattle.epx_apply.specs.between.KeyTables.{KeyTableView, untouched_levels, key_levels_at, key_at}
 use Rattle.epx_apply.specs.between.KeyTables.{touched_in}
 use Rattle.epx_apply.specs.between.KeyTables.{written_in, IsLevelAbove, IsKeyTableOf, IsLeastAbove}
 use Rattle.epx_apply.specs.between.KeyTables.{CollectsCommand, NotesCommand}
@@ -72,13 +72,13 @@ module _ (done : List (List Op × ℕ)) (current : List (List ℕ × Bool)) (t :
       → IsKeyTableOf done current
       (record {
         keys = t.keys ++ k ∷ [];
-        key_levels = t.key_levels ++ no_levels ∷ [];
+        key_levels = t.key_levels ++ untouched_levels ∷ [];
         accesses = t.accesses;
       })
   IsKeyTableOf-add_key k fresh = record {
     known = λ ops l q c h. Contains-append_left t.keys (k ∷ []) q (is.known ops l q c h);
     no_repeats = no_repeats;
-    key_levels = length_push t.key_levels no_levels ∙ ap (λ n. n + 1) is.key_levels
+    key_levels = length_push t.key_levels untouched_levels ∙ ap (λ n. n + 1) is.key_levels
         ∙ sym (length_push t.keys k);
     touchers = λ x low. elim (position x low) [
       | inl (old, key, at_key) ↦ at touched_in x key at_key (λ (b : KeyLevels). b.touchers)
@@ -99,47 +99,50 @@ module _ (done : List (List Op × ℕ)) (current : List (List ℕ × Bool)) (t :
   } where
     position : (x : ℕ) → x < length (t.keys ++ k ∷ [])
         → ((x < length t.keys) × (key_at (t.keys ++ k ∷ []) x ≡ key_at t.keys x)
-        × (key_levels_at (t.key_levels ++ no_levels ∷ []) x ≡ key_levels_at t.key_levels x))
+        × (key_levels_at (t.key_levels ++ untouched_levels ∷ []) x
+        ≡ key_levels_at t.key_levels x))
         ⊎ ((key_at (t.keys ++ k ∷ []) x ≡ k)
-        × (key_levels_at (t.key_levels ++ no_levels ∷ []) x ≡ no_levels))
+        × (key_levels_at (t.key_levels ++ untouched_levels ∷ []) x ≡ untouched_levels))
     position x low =
         elim (cases_lt x (length t.keys)) [
           | inl old ↦ inl (
             old,
             get_or_append_left t.keys (k ∷ []) [] x old,
-            get_or_append_left t.key_levels (no_levels ∷ []) no_levels x
+            get_or_append_left t.key_levels (untouched_levels ∷ []) untouched_levels x
                 (omega (arith, is.key_levels)),
           )
           | inr new ↦
               let same : length t.keys ≡ x = omega (arith, length_push t.keys k) in
               inr (
                 get_or_push t.keys k [] x same,
-                get_or_push t.key_levels no_levels no_levels x (is.key_levels ∙ same),
+                get_or_push t.key_levels untouched_levels untouched_levels x
+                    (is.key_levels ∙ same),
               )
         ]
 
     at : (keys_of : List Op → List (List ℕ)) (x : ℕ)
         → key_at (t.keys ++ k ∷ []) x ≡ key_at t.keys x
-        → key_levels_at (t.key_levels ++ no_levels ∷ []) x ≡ key_levels_at t.key_levels x
+        → key_levels_at (t.key_levels ++ untouched_levels ∷ []) x
+        ≡ key_levels_at t.key_levels x
         → (side : KeyLevels → ℕ) → IsLevelAbove keys_of done (key_at t.keys x)
         (side (key_levels_at t.key_levels x))
         → IsLevelAbove keys_of done (key_at (t.keys ++ k ∷ []) x)
-        (side (key_levels_at (t.key_levels ++ no_levels ∷ []) x))
+        (side (key_levels_at (t.key_levels ++ untouched_levels ∷ []) x))
     at keys_of x key at_key side h =
         subst (λ q. IsLevelAbove keys_of done q
-        (side (key_levels_at (t.key_levels ++ no_levels ∷ []) x))) (sym key)
+        (side (key_levels_at (t.key_levels ++ untouched_levels ∷ []) x))) (sym key)
         (subst (λ b. IsLevelAbove keys_of done (key_at t.keys x) (side b)) (sym at_key) h)
 
     -- no command has the key
     none : (keys_of : List Op → List (List ℕ)) (x : ℕ) → key_at (t.keys ++ k ∷ []) x ≡ k
-        → (side : KeyLevels → ℕ) → side no_levels ≡ 0
-        → key_levels_at (t.key_levels ++ no_levels ∷ []) x ≡ no_levels
+        → (side : KeyLevels → ℕ) → side untouched_levels ≡ 0
+        → key_levels_at (t.key_levels ++ untouched_levels ∷ []) x ≡ untouched_levels
         → ((ops : List Op) → Contains (keys_of ops) k → Contains (touched_in ops) k)
         → IsLevelAbove keys_of done (key_at (t.keys ++ k ∷ []) x)
-        (side (key_levels_at (t.key_levels ++ no_levels ∷ []) x))
+        (side (key_levels_at (t.key_levels ++ untouched_levels ∷ []) x))
     none keys_of x key side low at_key touch =
         subst (λ q. IsLevelAbove keys_of done q
-        (side (key_levels_at (t.key_levels ++ no_levels ∷ []) x))) (sym key) (record {
+        (side (key_levels_at (t.key_levels ++ untouched_levels ∷ []) x))) (sym key) (record {
           above = λ ops l c h. absurd (fresh (is.known ops l k c (touch ops h)));
           reached = inl (ap side at_key ∙ low);
         })

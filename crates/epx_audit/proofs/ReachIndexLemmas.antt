@@ -44,7 +44,7 @@ NodeReaches-chain edges nodes n chain step is q low below =
 -- what is after the first n positions
 pub record AreChains (g : DependencyGraph) (nodes starts positions chain_start : List ℕ)
     (n : ℕ) : Type 0 where
-  pub each_place : length starts ≡ n
+  pub one_start_each : length starts ≡ n
   pub each_node : (length positions ≡ length g.ids) × (length chain_start ≡ length g.ids)
   pub start : (p : ℕ) → p < n → (get_or starts p 0 < n)
       × NodeReaches (edges_of g) (get_or nodes (get_or starts p 0) 0) (get_or nodes p 0)
@@ -58,19 +58,19 @@ pub AreChains-next : (g : DependencyGraph) (nodes starts positions chain_start :
     → AreChains g nodes (starts ++ chain.start ∷ []) (set positions (get_or nodes n 0) n)
     (set chain_start (get_or nodes n 0) chain.low) (n + 1)
 AreChains-next g nodes starts positions chain_start n chain node_in is old = record {
-  each_place = omega (arith, length_push starts chain.start, old.each_place);
+  one_start_each = omega (arith, length_push starts chain.start, old.one_start_each);
   each_node =
       (length-set positions _ _ ∙ old.each_node.0, length-set chain_start _ _ ∙ old.each_node.1);
   start = λ p below. elim (cases_lt p n) [
     | inl past ↦
         let s = old.start p past in
         let same : get_or (starts ++ chain.start ∷ []) p 0 ≡ get_or starts p 0 =
-        get_or_append_left starts (chain.start ∷ []) 0 p (omega (arith, old.each_place)) in
+        get_or_append_left starts (chain.start ∷ []) 0 p (omega (arith, old.one_start_each)) in
         rw same (omega (arith, s.0), s.1)
     | inr here ↦
         let s = is.start (omega arith) in
         let same : get_or (starts ++ chain.start ∷ []) p 0 ≡ chain.start =
-        get_or_push starts chain.start 0 p (omega (arith, old.each_place)) in
+        get_or_push starts chain.start 0 p (omega (arith, old.one_start_each)) in
         let own : n + 1 - 1 ≡ p = omega arith in
         rw same (
           s.0,
@@ -117,7 +117,7 @@ pub IsReachIndex-from_chains : (g : DependencyGraph) (w : ReachIndex) (n : ℕ)
     → IfSome w.cover (IsPathCover g w.nodes.items) → IsReachIndex g w
 IsReachIndex-from_chains g w n in_range end chains cover = record {
   in_range = in_range;
-  each_place = chains.each_place ∙ end;
+  one_start_each = chains.one_start_each ∙ end;
   each_node = chains.each_node;
   start = λ p below. let s = chains.start p (omega (arith, end)) in (omega (arith, s.0, end), s.1);
   down = λ k q k_in low up. let d = chains.down k q k_in low up in (omega (arith, d.0, end), d.1);

@@ -25,17 +25,25 @@ module _ (m : List Instance) (g : DependencyGraph) (is : IsGraphOf m g) (ready :
       f.1 ∙ ap Some (IsRising-same m rising f.0 d (Contains-slice_get m k f.0 f.1) in_d
       (f.2 ∙ sym same))
 
+  -- node k is the ready instance d, which has the Id x
+  record IsReadyNode (k : ℕ) (x : Id) (d : Instance) : Type 0 where
+    at : slice_get g.ids k ≡ Some x
+    committed : k < g.committed
+    among : Contains m d
+    same : d.id ≡ x
+    ready_x : IsReady m x
+
   -- if the nodes of two instances that conflict are settled, one instance reaches the other
-  related : (k j : ℕ) (x y : Id) (d e : Instance) → slice_get g.ids k ≡ Some x
-      → slice_get g.ids j ≡ Some y → k < g.committed → j < g.committed → Contains m d
-      → Contains m e → d.id ≡ x → e.id ≡ y → IsReady m x → IsReady m y → Conflict d.ops e.ops
-      → IsSettled m (edges_of g) ready k j → Reaches m x y ⊎ Reaches m y x
-  related k j x y d e at to l n in_d in_e is_x is_y x_ready y_ready conflict settled =
-      elim (settled d e (instance_at k x d at l in_d is_x) (instance_at j y e to n in_e is_y)
-      (is_marked-from_ready m g is ready marked k x at x_ready)
-      (is_marked-from_ready m g is ready marked j y to y_ready) conflict) [
-        | inl there ↦ inl ((NodeReaches-iff m g is k j x y at to).0 there)
-        | inr back ↦ inr ((NodeReaches-iff m g is j k y x to at).0 back)
+  Reaches-if_settled : (k j : ℕ) (x y : Id) (d e : Instance) → IsReadyNode k x d
+      → IsReadyNode j y e → Conflict d.ops e.ops → IsSettled m (edges_of g) ready k j
+      → Reaches m x y ⊎ Reaches m y x
+  Reaches-if_settled k j x y d e one other conflict settled =
+      elim (settled d e (instance_at k x d one.at one.committed one.among one.same)
+      (instance_at j y e other.at other.committed other.among other.same)
+      (is_marked-from_ready m g is ready marked k x one.at one.ready_x)
+      (is_marked-from_ready m g is ready marked j y other.at other.ready_x) conflict) [
+        | inl there ↦ inl ((NodeReaches-iff m g is k j x y one.at other.at).0 there)
+        | inr back ↦ inr ((NodeReaches-iff m g is j k y x other.at one.at).0 back)
       ]
 
   pub IsCovered-from_settled : ((k j : ℕ) → k < length m → k < j
@@ -44,19 +52,23 @@ module _ (m : List Instance) (g : DependencyGraph) (is : IsGraphOf m g) (ready :
       let k = slice_get-if_committed m g is d.id d_ready.committed in
       let j = slice_get-if_committed m g is e.id e_ready.committed in
       let count = committed-count m g is in
+      let one : IsReadyNode k.0 d.id d =
+      record { at = k.2; committed = k.1; among = in_d; same = refl; ready_x = d_ready } in
+      let two : IsReadyNode j.0 e.id e =
+      record { at = j.2; committed = j.1; among = in_e; same = refl; ready_x = e_ready } in
       elim (cases_lt k.0 j.0) [
-        | inl lower ↦ related k.0 j.0 d.id e.id d e k.2 j.2 k.1 j.1 in_d in_e refl refl d_ready
-            e_ready conflict (settled k.0 j.0 (omega (arith, count, k.1)) lower)
+        | inl lower ↦ Reaches-if_settled k.0 j.0 d.id e.id d e one two conflict
+            (settled k.0 j.0 (omega (arith, count, k.1)) lower)
         | inr upto ↦ elim (cases_lt j.0 k.0) [
-          | inl lower ↦ elim (related j.0 k.0 e.id d.id e d j.2 k.2 j.1 k.1 in_e in_d refl refl
-              e_ready d_ready (Conflict-symm d.ops e.ops conflict)
+          | inl lower ↦ elim (Reaches-if_settled j.0 k.0 e.id d.id e d two one
+              (Conflict-symm d.ops e.ops conflict)
               (settled j.0 k.0 (omega (arith, count, j.1)) lower)) [
                 | inl there ↦ inr there
                 | inr back ↦ inl back
               ]
           | inr other ↦
-              let one : k.0 ≡ j.0 = omega arith in
-              let same : Some d.id ≡ Some e.id = sym k.2 ∙ ap (slice_get g.ids) one ∙ j.2 in
+              let equal : k.0 ≡ j.0 = omega arith in
+              let same : Some d.id ≡ Some e.id = sym k.2 ∙ ap (slice_get g.ids) equal ∙ j.2 in
               absurd (differ (cc same))
         ]
       ]
@@ -67,8 +79,11 @@ module _ (m : List Instance) (g : DependencyGraph) (is : IsGraphOf m g) (ready :
       → ¬ IsUncovered m x y
   not_uncovered k j x y at to l n settled bad =
       let (d, e, in_d, in_e, is_x, is_y, conflict) = bad.conflict in
-      elim (related k j x y d e at to l n in_d in_e is_x is_y bad.ready.0 bad.ready.1 conflict
-      settled) [
+      let one : IsReadyNode k x d =
+      record { at = at; committed = l; among = in_d; same = is_x; ready_x = bad.ready.0 } in
+      let two : IsReadyNode j y e =
+      record { at = to; committed = n; among = in_e; same = is_y; ready_x = bad.ready.1 } in
+      elim (Reaches-if_settled k j x y d e one two conflict settled) [
         | inl there ↦ bad.apart.0 there
         | inr back ↦ bad.apart.1 back
       ]

@@ -5,7 +5,7 @@ ghost use Rattle.std.specs.Prelude.{None};
 ghost use Rattle.epx_types.specs.ExecutionOrder.{IsExecutionOrder};
 ghost use Rattle.epx_graph.specs.GraphOf.{IsGraphOf};
 ghost use Rattle.epx_graph.specs.Graphs.{DependencyGraph, edges_of};
-ghost use Rattle.epx_graph.specs.between.NodePaths.{NodeReaches};
+ghost use Rattle.epx_graph.specs.NodePaths.{NodeReaches};
 ghost use Rattle.epx_audit.specs.inner.ReachIndexes.{AreOrderNodes, LeadersJoin};
 ghost use Rattle.epx_audit.specs.inner.PathCovers.{AddsTo, AreCovered, AreJoined, AreNotedPaths};
 ghost use Rattle.epx_audit.specs.inner.PathCovers.{ArePositions, IsEntryAt, IsMemberEntry};

@@ -4,7 +4,7 @@ ghost use Rattle.std.specs.Prelude.{IsTrue};
 ghost use Rattle.epx_types.specs.ExecutionOrder.{IsExecutionOrder};
 ghost use Rattle.epx_graph.specs.Graphs.{DependencyGraph, edges_of};
 ghost use Rattle.epx_graph.specs.GraphOf.{IsGraphOf};
-ghost use Rattle.epx_graph.specs.between.NodePaths.{NodeReaches};
+ghost use Rattle.epx_graph.specs.NodePaths.{NodeReaches};
 ghost use Rattle.epx_audit.specs.inner.ReachIndexes.{AreOrderNodes, IsChain, IsReachIndex};
 ghost use Rattle.epx_audit.specs.inner.ReachIndexes.{LeadersJoin};
 

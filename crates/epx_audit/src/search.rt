@@ -2,7 +2,7 @@
 ghost use Rattle.std.specs.Prelude.{◌≡◌, ℕ, ◌<◌, ◌⊎◌, length, slice_index, Contains, IfOk};
 ghost use Rattle.std.specs.Prelude.{OnOk, IsTrue};
 ghost use Rattle.epx_graph.specs.Graphs.{edges_of};
-ghost use Rattle.epx_graph.specs.between.NodePaths.{NodeReaches};
+ghost use Rattle.epx_graph.specs.NodePaths.{NodeReaches};
 ghost use Rattle.epx_audit.specs.inner.ReachIndexes.{IsReachIndex};
 
 use crate::reach_index::{ReachIndex, has_edge};

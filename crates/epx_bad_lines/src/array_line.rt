@@ -3,6 +3,7 @@ use crate::lines::LogLine;
 use crate::members::is_whole_number;
 use crate::not_json::explain_text;
 use crate::shown::show_value;
+use crate::texts::{found, made};
 use epx_lines::{MAX_LINE_BYTES, read_json};
 use epx_types::Memory;
 use serde_json::Value;
@@ -25,11 +26,11 @@ pub fn is_array_begun(bytes: &[u8]) -> bool {
 /// Why a line that is no JSON text is no array.
 fn explain_no_json(alloc: Global, line: LogLine<'_>) -> Result<String, Memory> {
     if !is_array_begun(line.bytes) {
-        return Ok(String::from_str(alloc, "it does not begin with [")?);
+        return made(String::from_str(alloc, "it does not begin with ["));
     }
     match explain_text(alloc, line)? {
         Some(text) => Ok(text),
-        None => Ok(String::from_str(alloc, "it is no JSON text")?),
+        None => made(String::from_str(alloc, "it is no JSON text")),
     }
 }
 
@@ -60,7 +61,7 @@ pub(crate) fn explain_element(
         return Ok(None);
     }
     let shown = show_value(alloc, value)?;
-    Ok(Some(format!(in alloc;
+    found(format!(in alloc;
         "its element {index}, the {name}, is {shown}, and must be a whole number from 0 to {most}"
-    )?))
+    ))
 }

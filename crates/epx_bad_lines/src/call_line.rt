@@ -6,6 +6,7 @@ use crate::lines::LogLine;
 use crate::members::{MAX_REPLICA, is_whole_number};
 use crate::reply::is_reply;
 use crate::shown::{show_bytes, show_value};
+use crate::texts::{found, made};
 use epx_types::Memory;
 use serde_json::Value;
 use std::alloc::Global;
@@ -24,7 +25,7 @@ fn explain_span(
 ) -> Result<Option<String>, Memory> {
     match (invoked.as_u64(), returned.as_u64()) {
         (Some(start), Some(end)) if end < start => {
-            Ok(Some(format!(in alloc; "it returned at {end}, before it was invoked at {start}")?))
+            found(format!(in alloc; "it returned at {end}, before it was invoked at {start}"))
         }
         _ => Ok(None),
     }
@@ -43,10 +44,10 @@ fn explain_times(
         return explain_span(alloc, invoked, returned);
     }
     let shown = show_value(alloc, returned)?;
-    Ok(Some(format!(in alloc;
+    found(format!(in alloc;
         "its element 4, the time it returned, is {shown}, and must be a whole number from 0 to \
 {MAX_TIME}, or null where no answer came"
-    )?))
+    ))
 }
 
 /// Explains the reply of a call, if it has one.
@@ -62,18 +63,18 @@ fn explain_reply(
         [_, _] => "its reply must be \"ok\",[value,..] or \"abort\",operation",
         _ => "it has more or less than 5 elements, or 7 with its reply",
     };
-    Ok(Some(String::from_str(alloc, text)?))
+    found(String::from_str(alloc, text))
 }
 
 /// Explains which element keeps an array from being a call.
 fn explain_elements(alloc: Global, elements: &[Value]) -> Result<Option<String>, Memory> {
     let [name, replica, number, invoked, returned, reply @ ..] = elements else {
         let count = elements.len();
-        return Ok(Some(format!(in alloc; "it has {count} elements, and at least 5 are needed")?));
+        return found(format!(in alloc; "it has {count} elements, and at least 5 are needed"));
     };
     if name.as_str() != Some("call") {
         let shown = show_value(alloc, name)?;
-        return Ok(Some(format!(in alloc; "its element 0 is {shown}, and must be \"call\"")?));
+        return found(format!(in alloc; "its element 0 is {shown}, and must be \"call\""));
     }
     if let Some(text) = explain_element(alloc, 1, "replica", replica, MAX_REPLICA)? {
         return Ok(Some(text));
@@ -99,11 +100,11 @@ fn explain_form(alloc: Global, line: LogLine<'_>) -> Result<Option<String>, Memo
 fn explain_call(alloc: Global, line: LogLine<'_>, number: usize) -> Result<String, Memory> {
     match find_earlier_call(alloc, line, number)? {
         Some(earlier) => {
-            Ok(format!(in alloc;
+            made(format!(in alloc;
                 "line {earlier} calls this instance too, and an instance has one call"
-            )?)
+            ))
         }
-        None => Ok(String::from_str(alloc, "has the file changed?")?),
+        None => made(String::from_str(alloc, "has the file changed?")),
     }
 }
 
@@ -118,8 +119,8 @@ pub fn explain_call_line(
     }
     let shown = show_bytes(alloc, line.bytes)?;
     if let Some(text) = explain_form(alloc, line)? {
-        return Ok(format!(in alloc; "line {number} is {shown}, and must be {FORM}: {text}")?);
+        return made(format!(in alloc; "line {number} is {shown}, and must be {FORM}: {text}"));
     }
     let text = explain_call(alloc, line, number)?;
-    Ok(format!(in alloc; "line {number} is {shown}: {text}")?)
+    made(format!(in alloc; "line {number} is {shown}: {text}"))
 }

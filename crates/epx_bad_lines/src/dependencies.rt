@@ -1,5 +1,6 @@
 //! Explains a bad list of dependencies.
 use crate::shown::show_value;
+use crate::texts::found;
 use epx_lines::read_id;
 use epx_types::Memory;
 use epx_types::entry::MAX_DEPS;
@@ -21,10 +22,10 @@ fn explain_element(alloc: Global, deps: &[Value]) -> Result<Option<String>, Memo
     for (index, dep) in deps.iter().enumerate() {
         if read_id(dep).is_none() {
             let shown = show_value(alloc, dep)?;
-            return Ok(Some(format!(in alloc;
+            return found(format!(in alloc;
                 "deps[{index}] is {shown}, and must be [replica,number]: whole numbers up to 255 \
 and up to 18446744073709551615"
-            )?));
+            ));
         }
     }
     Ok(None)
@@ -34,17 +35,17 @@ and up to 18446744073709551615"
 /// is good.
 fn explain_list(alloc: Global, deps: &[Value]) -> Result<Option<String>, Memory> {
     if has_number_a_replica(deps) {
-        return Ok(Some(String::from_str(
+        return found(String::from_str(
             alloc,
             "deps has no pairs: one number or null a replica? contrib/expand writes pairs, as \
 docs/INPUT.md says",
-        )?));
+        ));
     }
     let count = deps.len();
     if count > MAX_DEPS {
-        return Ok(Some(format!(in alloc;
+        return found(format!(in alloc;
             "deps has {count} elements, and at most {MAX_DEPS} are allowed"
-        )?));
+        ));
     }
     explain_element(alloc, deps)
 }
@@ -52,16 +53,16 @@ docs/INPUT.md says",
 /// Explains the member `deps`.
 pub fn explain_deps(alloc: Global, object: &Value) -> Result<Option<String>, Memory> {
     let Some(value) = object.get("deps") else {
-        return Ok(Some(String::from_str(
+        return found(String::from_str(
             alloc,
             "\"deps\" is missing: it must be a list of [replica,number]",
-        )?));
+        ));
     };
     match value.as_array() {
         Some(deps) => explain_list(alloc, deps),
         None => {
             let shown = show_value(alloc, value)?;
-            Ok(Some(format!(in alloc; "deps is {shown}, and must be a list of [replica,number]")?))
+            found(format!(in alloc; "deps is {shown}, and must be a list of [replica,number]"))
         }
     }
 }

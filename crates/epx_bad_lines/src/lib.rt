@@ -16,6 +16,7 @@ mod not_json;
 mod operations;
 mod reply;
 mod shown;
+mod texts;
 
 pub use array_line::is_array_begun;
 pub use call_line::explain_call_line;
@@ -28,3 +29,4 @@ pub use members::{MAX_REPLICA, explain_kind, explain_number, explain_status};
 pub use not_json::explain_text;
 pub use operations::explain_ops;
 pub use shown::{show_bytes, show_text, show_value};
+pub use texts::{found, made};

@@ -4,6 +4,7 @@ use crate::file_kind::explain_file_kind;
 use crate::lines::LogLine;
 use crate::members::MAX_REPLICA;
 use crate::shown::show_bytes;
+use crate::texts::{found, made};
 use epx_types::Memory;
 use serde_json::Value;
 use std::alloc::Global;
@@ -12,7 +13,7 @@ use std::alloc::Global;
 fn explain_elements(alloc: Global, elements: &[Value]) -> Result<Option<String>, Memory> {
     let [replica, number] = elements else {
         let count = elements.len();
-        return Ok(Some(format!(in alloc; "it has {count} in place of 2 elements")?));
+        return found(format!(in alloc; "it has {count} in place of 2 elements"));
     };
     if let Some(text) = explain_element(alloc, 0, "replica", replica, MAX_REPLICA)? {
         return Ok(Some(text));
@@ -40,8 +41,10 @@ pub fn explain_list_line(
     let shown = show_bytes(alloc, line.bytes)?;
     match explain_form(alloc, line)? {
         Some(text) => {
-            Ok(format!(in alloc; "line {number} is {shown}, and must be [replica,number]: {text}")?)
+            made(format!(in alloc;
+                "line {number} is {shown}, and must be [replica,number]: {text}"
+            ))
         }
-        None => Ok(format!(in alloc; "line {number} is {shown}: has the file changed?")?),
+        None => made(format!(in alloc; "line {number} is {shown}: has the file changed?")),
     }
 }

@@ -1,5 +1,6 @@
 //! Explains a line that is no object, and members that hold a number or the status.
 use crate::shown::show_value;
+use crate::texts::found;
 use epx_types::Memory;
 use serde_json::Value;
 use std::alloc::Global;
@@ -25,7 +26,7 @@ pub fn explain_kind(alloc: Global, value: &Value) -> Result<Option<String>, Memo
         return Ok(None);
     }
     let kind = kind_of(value);
-    Ok(Some(format!(in alloc; "the line is {kind}, and must be an object: one instance a line")?))
+    found(format!(in alloc; "the line is {kind}, and must be an object: one instance a line"))
 }
 
 /// Whether a value is a whole number of at most `most`.
@@ -44,17 +45,15 @@ pub fn explain_number(
     most: u64,
 ) -> Result<Option<String>, Memory> {
     let Some(value) = object.get(name) else {
-        return Ok(Some(format!(in alloc;
+        return found(format!(in alloc;
             "\"{name}\" is missing: it must be a whole number from 0 to {most}"
-        )?));
+        ));
     };
     if is_whole_number(value, most) {
         return Ok(None);
     }
     let shown = show_value(alloc, value)?;
-    Ok(Some(format!(in alloc;
-        "\"{name}\" is {shown}, and must be a whole number from 0 to {most}"
-    )?))
+    found(format!(in alloc; "\"{name}\" is {shown}, and must be a whole number from 0 to {most}"))
 }
 
 /// Explains the status.
@@ -63,7 +62,7 @@ pub fn explain_status(alloc: Global, object: &Value) -> Result<Option<String>, M
         return Ok(None);
     };
     let shown = show_value(alloc, value)?;
-    Ok(Some(format!(in alloc;
+    found(format!(in alloc;
         "status is none of committed, executed, accepted, pre-accepted: it is {shown}"
-    )?))
+    ))
 }

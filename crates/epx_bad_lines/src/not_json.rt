@@ -2,6 +2,7 @@
 use crate::file_kind::explain_file_kind;
 use crate::lines::LogLine;
 use crate::shown::show_bytes;
+use crate::texts::made;
 use epx_types::Memory;
 use serde_json::{Error, Value};
 use std::alloc::Global;
@@ -72,29 +73,50 @@ fn show_before(alloc: Global, before: &[u8]) -> Result<String, Memory> {
     show_bytes(alloc, &before[start..])
 }
 
-/// Explains bytes that do not belong after others.
-fn explain_place(alloc: Global, before: &[u8], after: &[u8]) -> Result<String, Memory> {
-    if let Err(bad) = str::from_utf8(after) {
-        if bad.valid_up_to() == 0 {
-            return Ok(String::from_str(alloc, "the byte is not UTF-8")?);
-        }
-    }
-    if nesting_of(before) >= MAX_NESTING {
-        return Ok(String::from_str(alloc, "JSON may be nested 127 deep")?);
-    }
-    let shown = show_bytes(alloc, after)?;
-    if before.is_empty() {
-        return Ok(format!(in alloc; "the line must begin with {{, not `{shown}`")?);
-    }
-    if is_json(alloc, before)? {
-        return Ok(format!(in alloc; "after the value comes `{shown}`: one instance a line")?);
-    }
-    if is_begun(before) && after.starts_with(b"\"") {
-        return Ok(format!(in alloc; "a text with a control byte or a bad escape: `{shown}`")?);
-    }
+/// Explains bytes that do not belong after others, which are begun JSON.
+fn explain_next(alloc: Global, before: &[u8], shown: &str) -> Result<String, Memory> {
     let expected = expected_after(before);
     let front = show_before(alloc, before)?;
-    Ok(format!(in alloc; "{expected} must follow `{front}`, not `{shown}`")?)
+    made(format!(in alloc; "{expected} must follow `{front}`, not `{shown}`"))
+}
+
+/// Explains characters that do not belong after bytes.
+fn explain_shown(
+    alloc: Global,
+    before: &[u8],
+    after: &[u8],
+    shown: &str,
+) -> Result<String, Memory> {
+    if before.is_empty() {
+        return made(format!(in alloc; "the line must begin with {{, not `{shown}`"));
+    }
+    if is_json(alloc, before)? {
+        return made(format!(in alloc; "after the value comes `{shown}`: one instance a line"));
+    }
+    if is_begun(before) && after.starts_with(b"\"") {
+        return made(format!(in alloc; "a text with a control byte or a bad escape: `{shown}`"));
+    }
+    explain_next(alloc, before, shown)
+}
+
+/// Whether bytes do not begin with a character.
+fn begins_badly(bytes: &[u8]) -> bool {
+    match str::from_utf8(bytes) {
+        Ok(_) => false,
+        Err(bad) => bad.valid_up_to() == 0,
+    }
+}
+
+/// Explains bytes that do not belong after others.
+fn explain_place(alloc: Global, before: &[u8], after: &[u8]) -> Result<String, Memory> {
+    if begins_badly(after) {
+        return made(String::from_str(alloc, "the byte is not UTF-8"));
+    }
+    if nesting_of(before) >= MAX_NESTING {
+        return made(String::from_str(alloc, "JSON may be nested 127 deep"));
+    }
+    let shown = show_bytes(alloc, after)?;
+    explain_shown(alloc, before, after, shown.as_str())
 }
 
 /// Whether a number is too large for a float.
@@ -109,7 +131,7 @@ fn explain_syntax(alloc: Global, line: LogLine<'_>, error: &Error) -> Result<Str
     let (before, after) = line.bytes.split_at(offset);
     if is_number_out_of_range(alloc, error)? {
         let front = show_before(alloc, before)?;
-        return Ok(format!(in alloc; "the number is too large at the end of `{front}`")?);
+        return made(format!(in alloc; "the number is too large at the end of `{front}`"));
     }
     explain_place(alloc, before, after)
 }
@@ -119,14 +141,14 @@ fn explain_error(alloc: Global, line: LogLine<'_>, error: &Error) -> Result<Stri
     let end = explain_end(line);
     if error.is_eof() {
         let length = line.bytes.len();
-        return Ok(format!(in alloc; "byte {length}: the line ends within its JSON value; {end}")?);
+        return made(format!(in alloc; "byte {length}: the line ends within its JSON value; {end}"));
     }
     let column = error.column();
     let text = explain_syntax(alloc, line, error)?;
     if line.has_line_feed {
-        return Ok(format!(in alloc; "byte {column}: {text}")?);
+        return made(format!(in alloc; "byte {column}: {text}"));
     }
-    Ok(format!(in alloc; "byte {column}: {text}; {end}")?)
+    made(format!(in alloc; "byte {column}: {text}; {end}"))
 }
 
 /// Explains a line that is no JSON text.

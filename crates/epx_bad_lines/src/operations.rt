@@ -1,5 +1,6 @@
 //! Explains a bad list of operations.
 use crate::shown::{show_bytes, show_value};
+use crate::texts::found;
 use epx_types::Memory;
 use epx_types::entry::MAX_OPS;
 use epx_types::key::MAX_KEY_BYTES;
@@ -42,16 +43,16 @@ fn argument_of(name: &str) -> Option<Argument> {
 fn explain_key(alloc: Global, key: &Value) -> Result<Option<String>, Memory> {
     let Some(text) = key.as_str() else {
         let shown = show_value(alloc, key)?;
-        return Ok(Some(format!(in alloc; "the key is {shown}, and must be a text")?));
+        return found(format!(in alloc; "the key is {shown}, and must be a text"));
     };
     let length = text.len();
     if length == 0 {
-        return Ok(Some(String::from_str(alloc, "the key is empty")?));
+        return found(String::from_str(alloc, "the key is empty"));
     }
     if length > MAX_KEY_BYTES {
-        return Ok(Some(format!(in alloc;
+        return found(format!(in alloc;
             "the key has {length} bytes, and at most {MAX_KEY_BYTES} are allowed"
-        )?));
+        ));
     }
     Ok(None)
 }
@@ -63,9 +64,9 @@ fn explain_number(alloc: Global, value: &Value, or_null: bool) -> Result<Option<
     }
     let shown = show_value(alloc, value)?;
     let null = if or_null { ", or null" } else { "" };
-    Ok(Some(format!(in alloc;
+    found(format!(in alloc;
         "the value is {shown}, and must be a whole number of 64 bits with sign{null}"
-    )?))
+    ))
 }
 
 /// Explains what follows the key.
@@ -83,9 +84,7 @@ fn explain_argument(
         _ => {
             let count = rest.len().saturating_add(2);
             let form = argument.form();
-            Ok(Some(format!(in alloc;
-                "it has {count} elements, and must be [\"{name}\",key{form}]"
-            )?))
+            found(format!(in alloc; "it has {count} elements, and must be [\"{name}\",key{form}]"))
         }
     }
 }
@@ -99,7 +98,7 @@ fn explain_named(
 ) -> Result<Option<String>, Memory> {
     let Some(argument) = argument_of(name) else {
         let shown = show_bytes(alloc, name.as_bytes())?;
-        return Ok(Some(format!(in alloc; "no operation \"{shown}\"")?));
+        return found(format!(in alloc; "no operation \"{shown}\""));
     };
     if let Some(text) = explain_key(alloc, key)? {
         return Ok(Some(text));
@@ -111,20 +110,20 @@ fn explain_named(
 fn explain_op(alloc: Global, op: &Value) -> Result<Option<String>, Memory> {
     let Some(parts) = op.as_array() else {
         let shown = show_value(alloc, op)?;
-        return Ok(Some(format!(in alloc; "it is {shown}, and must be a list")?));
+        return found(format!(in alloc; "it is {shown}, and must be a list"));
     };
     let [name, rest @ ..] = parts.as_slice() else {
-        return Ok(Some(String::from_str(alloc, "it is an empty list")?));
+        return found(String::from_str(alloc, "it is an empty list"));
     };
     let Some(name) = name.as_str() else {
         let shown = show_value(alloc, name)?;
-        return Ok(Some(format!(in alloc; "the name is {shown}, and must be a text")?));
+        return found(format!(in alloc; "the name is {shown}, and must be a text"));
     };
     match rest {
         [key, rest @ ..] => explain_named(alloc, name, key, rest),
         [] => {
             let shown = show_bytes(alloc, name.as_bytes())?;
-            Ok(Some(format!(in alloc; "\"{shown}\" has no key")?))
+            found(format!(in alloc; "\"{shown}\" has no key"))
         }
     }
 }
@@ -133,13 +132,13 @@ fn explain_op(alloc: Global, op: &Value) -> Result<Option<String>, Memory> {
 fn explain_list(alloc: Global, ops: &[Value]) -> Result<Option<String>, Memory> {
     let count = ops.len();
     if count > MAX_OPS {
-        return Ok(Some(format!(in alloc;
+        return found(format!(in alloc;
             "ops has {count} operations, and at most {MAX_OPS} are allowed"
-        )?));
+        ));
     }
     for (index, op) in ops.iter().enumerate() {
         if let Some(text) = explain_op(alloc, op)? {
-            return Ok(Some(format!(in alloc; "ops[{index}]: {text}")?));
+            return found(format!(in alloc; "ops[{index}]: {text}"));
         }
     }
     Ok(None)
@@ -148,16 +147,16 @@ fn explain_list(alloc: Global, ops: &[Value]) -> Result<Option<String>, Memory> 
 /// Explains the member `ops`.
 pub fn explain_ops(alloc: Global, object: &Value) -> Result<Option<String>, Memory> {
     let Some(value) = object.get("ops") else {
-        return Ok(Some(String::from_str(
+        return found(String::from_str(
             alloc,
             "\"ops\" is missing: it must be a list of operations, and [] is one",
-        )?));
+        ));
     };
     match value.as_array() {
         Some(ops) => explain_list(alloc, ops),
         None => {
             let shown = show_value(alloc, value)?;
-            Ok(Some(format!(in alloc; "ops is {shown}, and must be a list of operations")?))
+            found(format!(in alloc; "ops is {shown}, and must be a list of operations"))
         }
     }
 }

@@ -10,7 +10,7 @@ use crate::gate::Gate;
 use crate::seat::ClaimSeat;
 use crate::seats::split_off;
 use crate::values_by_number::values_by_number;
-use crate::work::{WorkResult, work};
+use crate::work::{WorkResult, draw_with_seats};
 use epx_types::{Memory, Plan};
 use std::alloc::Global;
 use std::thread::Threads;
@@ -74,7 +74,9 @@ pub fn claimed_map_after<
     match seats_of(alloc, n, workers) {
         Ok((claims, seat, others)) => {
             let task = LentClosure { f: first };
-            let ((first, given), worked) = work(rt, alloc, &claims, seat, others, gate, &f, task);
+            let ((first, given), worked) = draw_with_seats(
+                rt, alloc, &claims, seat, others, gate, &f, task,
+            );
             tie_loan(first);
             (given, values_of(alloc, claims, worked, &f))
         }

@@ -101,7 +101,7 @@ fn join_results<T: Drop>(
 /// with each of the others a thread of its own, if one can be started. Joins the seats and the
 /// answers.
 #[cycle(workers)]
-pub(crate) fn work<
+pub(crate) fn draw_with_seats<
     R: Threads + Sync,
     T: Send + Drop,
     E: From<Memory> + Send + Drop,
@@ -158,7 +158,7 @@ pub(crate) fn work<
         ensures err { IfErr result.1
             (IsMapFault (λ i e. F.post f.entry.now i (Err e))
             (λ e. (m : Memory) × E.from_gives m e) claims.entry.now.pieces) }
-    { work(rt, alloc, claims, seat, others, gate, f, task) };
+    { draw_with_seats(rt, alloc, claims, seat, others, gate, f, task) };
     let (left, (given, right)) = join(rt, theirs, mine);
     let left = match left {
         Ok(left) => left,

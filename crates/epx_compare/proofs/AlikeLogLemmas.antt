@@ -25,7 +25,7 @@ use Rattle.epx_compare.proofs.NoDifferenceLemmas.{append-both_nil, line_of-not_n
 use Rattle.epx_compare.proofs.NoDifferenceLemmas.{SaysNothingDiffers-iff}
 use Rattle.epx_compare.proofs.OwnLineLemmas.{Contains-own_to_all, Contains-all_to_own}
 use Rattle.epx_versions.specs.SameInstances.{same_id}
-use Rattle.epx_versions.specs.inner.EqualVersions.{ids_decide}
+use Rattle.epx_versions.specs.inner.EqualVersions.{same_id-decides}
 
 -- ---- texts of logs that are empty
 
@@ -78,14 +78,14 @@ module _ (lines : List Placed) (log : ℕ) where
         p.0,
         p.1,
         (Decides-eqb p.0.place.log log).0 both.0,
-        (ids_decide p.0.instance.id x).0 both.1,
+        (same_id-decides p.0.instance.id x).0 both.1,
       )
 
   line_has : (p : Placed) → Contains lines p → p.place.log ≡ log
       → has_line lines log p.instance.id ≡ true
   line_has p among numbered =
       let first = (Decides-eqb p.place.log log).1 numbered in
-      let second = (ids_decide p.instance.id p.instance.id).1 refl in
+      let second = (same_id-decides p.instance.id p.instance.id).1 refl in
       let test : ((p.place.log == log) && same_id p.instance.id p.instance.id) ≡ true =
       λ i. first i && second i in
       list_any-from

@@ -10,16 +10,16 @@ use Rattle.epx_merge.specs.LogLines.{placed_of, bad_lines_of}
 use Rattle.epx_compare.specs.Comparisons.{IsComparison, comparison_text}
 use Rattle.epx_versions.specs.SameInstances.{same_id}
 use Rattle.epx_compare.specs.MissingDeps.{AreMissingDeps}
-use Rattle.epx_versions.specs.inner.EqualVersions.{ids_decide}
+use Rattle.epx_versions.specs.inner.EqualVersions.{same_id-decides}
 use Rattle.epx_committed.proofs.InstanceCountLemmas.{AreNamedBy-exists}
 
 same_id_equiv : IsEquivalence same_id
-same_id_equiv = decided same_id ids_decide
+same_id_equiv = decided same_id same_id-decides
 
 lacks_or_has : (ids : List Id) (x : Id) → (¬ Contains ids x) ⊎ (¬ (¬ Contains ids x))
 lacks_or_has ids x = elim (cases_Bool (list_any (same_id x) ids)) [
   | inl found ↦ inr (λ lacks.
-      lacks (Contains-from_any (λ y z. (ids_decide y z).0) x ids found))
+      lacks (Contains-from_any (λ y z. (same_id-decides y z).0) x ids found))
   | inr none ↦ inl (λ h. let found = list_any-from_Contains same_id_equiv x ids h in
       absurd (cc (found, none)))
 ]

@@ -19,7 +19,7 @@ use Rattle.epx_versions.specs.LineVersions.{versions_of}
 use Rattle.epx_versions.specs.SameInstances.{same_id, same_instance}
 use Rattle.epx_compare.specs.MissingDeps.{depends_on}
 use Rattle.epx_compare.specs.inner.Catalogs.{IsCatalogOf, version_ids}
-use Rattle.epx_versions.specs.inner.EqualVersions.{ids_decide, same_by_test}
+use Rattle.epx_versions.specs.inner.EqualVersions.{same_id-decides, same_instance-equal}
 use Rattle.epx_compare.specs.inner.MissingCounts.{is_missing, deps_at, deps_at_numbers}
 
 -- ---- tests
@@ -50,22 +50,22 @@ list_any-if_one_passes p xs x h passes = list_any_at p xs h.0 x h.1 (ap p h.2 �
 pub list_any-same_id_flipped : (x : Id) (ids : List Id) → Contains ids x
     → list_any (λ d. same_id d x) ids ≡ true
 list_any-same_id_flipped x ids h =
-    list_any-if_one_passes (λ d. same_id d x) ids x h ((ids_decide x x).1 refl)
+    list_any-if_one_passes (λ d. same_id d x) ids x h ((same_id-decides x x).1 refl)
 
 pub Contains-from_same_id_flipped : (x : Id) (ids : List Id)
     → list_any (λ d. same_id d x) ids ≡ true → Contains ids x
 Contains-from_same_id_flipped x ids h =
     let found = Contains-from_list_any (λ d. same_id d x) ids h in
-    subst (Contains ids) ((ids_decide found.0 x).0 found.2) found.1
+    subst (Contains ids) ((same_id-decides found.0 x).0 found.2) found.1
 
 pub list_any-same_id : (x : Id) (ids : List Id) → Contains ids x → list_any (same_id x) ids ≡ true
-list_any-same_id x ids h = list_any-if_one_passes (same_id x) ids x h ((ids_decide x x).1 refl)
+list_any-same_id x ids h = list_any-if_one_passes (same_id x) ids x h ((same_id-decides x x).1 refl)
 
 pub Contains-from_same_id : (x : Id) (ids : List Id) → list_any (same_id x) ids ≡ true
     → Contains ids x
 Contains-from_same_id x ids h =
     let found = Contains-from_list_any (same_id x) ids h in
-    subst (Contains ids) (sym ((ids_decide x found.0).0 found.2)) found.1
+    subst (Contains ids) (sym ((same_id-decides x found.0).0 found.2)) found.1
 
 pub and-from_both : (a b : Bool) → a ≡ true → b ≡ true → (a && b) ≡ true
 and-from_both a b p q = cc
@@ -108,7 +108,7 @@ Contains-versions_of (q ∷ lines) p h =
     elim (Contains-cons_cases q lines p h) [
       | inl is ↦ subst (Contains all) (ap (λ (l : Placed). l.instance) is) first
       | inr rest ↦ elim (cases_Bool (same_instance q.instance p.instance)) [
-        | inl same ↦ subst (Contains all) (same_by_test q.instance p.instance same) first
+        | inl same ↦ subst (Contains all) (same_instance-equal q.instance p.instance same) first
         | inr other ↦ Contains-cons q.instance (filter others (versions_of lines)) p.instance
             (Contains-filter others (versions_of lines) p.instance
             (Contains-versions_of lines p rest)
@@ -177,7 +177,7 @@ module _ (lines : List Placed) (bad : List BadLineAt) (c : Catalog)
         && list_any (λ d. same_id d x) p.instance.deps in
         let found = Contains-from_list_any test lines h in
         let e = found.0.instance in
-        let id : e.id ≡ y = (ids_decide e.id y).0 (first_so (same_id e.id y) _ found.2) in
+        let id : e.id ≡ y = (same_id-decides e.id y).0 (first_so (same_id e.id y) _ found.2) in
         let dep : Contains e.deps x =
         Contains-from_same_id_flipped x e.deps (second_so (same_id e.id y) _ found.2) in
         let at = slice_get-from_Contains (versions_of lines) e
@@ -214,7 +214,7 @@ module _ (lines : List Placed) (bad : List BadLineAt) (c : Catalog)
         list_any-if_one_passes
         (λ p. same_id p.instance.id y && list_any (λ d. same_id d x) p.instance.deps)
         lines line.0 line.1 (and-from_both (same_id e.id y) (list_any (λ d. same_id d x) e.deps)
-        ((ids_decide e.id y).1 own_id) (list_any-same_id_flipped x e.deps dep))
+        ((same_id-decides e.id y).1 own_id) (list_any-same_id_flipped x e.deps dep))
 
     -- an instance depends on x exactly where its versions do
     pub depends_on-by_numbers : depends_on lines x y

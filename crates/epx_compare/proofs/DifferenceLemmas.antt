@@ -11,7 +11,7 @@ use Rattle.epx_compare.specs.Differences.{lines_of_id, places_of}
 use Rattle.epx_versions.specs.LineVersions.{versions_of}
 use Rattle.epx_versions.specs.SameInstances.{same_id, same_instance}
 use Rattle.epx_versions.specs.declared.noted.NotedLine.{NotedLine}
-use Rattle.epx_versions.specs.inner.EqualVersions.{same_by_test, instances_decide}
+use Rattle.epx_versions.specs.inner.EqualVersions.{same_instance-equal, same_instance-decides}
 use Rattle.epx_versions.specs.between.NotedRows.{IsRowOf}
 
 -- ---- filters
@@ -56,7 +56,7 @@ not_same : (a e : Instance) (x : Id) → same_id a.id x ≡ false → same_id e.
 not_same a e x other own = by (same_instance a e) refl where
   by : (b : Bool) → same_instance a e ≡ b → not b ≡ true
   by true same =
-      let equal = same_by_test a e same in
+      let equal = same_instance-equal a e same in
       let moved : same_id a.id x ≡ true = ap (λ d. same_id d.id x) equal ∙ own in
       absurd (cc)
   by false same = refl
@@ -100,7 +100,7 @@ versions_differ (p ∷ lines) =
 pub versions_of-number_is_unique : (lines : List Placed) (i j : ℕ) (e : Instance)
     → slice_get (versions_of lines) i ≡ Some e → slice_get (versions_of lines) j ≡ Some e → i ≡ j
 versions_of-number_is_unique lines i j e at_i at_j =
-    let same = (instances_decide e e).1 refl in
+    let same = (same_instance-decides e e).1 refl in
     elim (cases_lt i j) [
       | inl less ↦
           let no = AllPairs-slice_get (λ d e. same_instance d e ≡ false) (versions_of lines)
@@ -145,10 +145,10 @@ places_of-by_number lines v e at (row ∷ rows) (p ∷ some) rel =
           let here = ap (slice_get (versions_of lines)) n in
           let found = rel.version in
           let equal : e ≡ p.instance = cc in
-          let yes = (instances_decide e p.instance).1 equal in
+          let yes = (same_instance-decides e p.instance).1 equal in
           absurd (cc)
       by lines v e at row rows p some rel rest false true number same =
-          let equal = same_by_test e p.instance same in
+          let equal = same_instance-equal e p.instance same in
           let n = versions_of-number_is_unique lines row.version v e
           (rel.version ∙ ap Some (sym equal)) at in
           let yes = eq-eqb row.version v n in
@@ -160,4 +160,5 @@ pub places_of-own : (lines : List Placed) (x : Id) (e : Instance) → same_id e.
 places_of-own lines x e own =
     ap (map (λ p. p.place)) (filter-within (λ p. same_id p.instance.id x)
     (λ p. same_instance e p.instance)
-    (λ p same. ap (λ d. same_id d.id x) (sym (same_by_test e p.instance same)) ∙ own) lines)
+    (λ p same. ap (λ d. same_id d.id x) (sym (same_instance-equal e p.instance same)) ∙ own)
+    lines)

@@ -10,7 +10,7 @@ use Rattle.epx_types.proofs.Common.{AllPairs-from_IsRising, Below-parts}
 use Rattle.epx_types.specs.declared.id.Id.{Id}
 use Rattle.epx_compare.specs.Gaps.{Gap, gaps_of, goes_on, widened}
 use Rattle.epx_compare.specs.GapLaws.{AreGaps, HasLackedEnds, IsBetween, IsInGap, IsLacked}
-use Rattle.epx_compare.specs.GapLaws.{first_lacked, last_of}
+use Rattle.epx_compare.specs.GapLaws.{first_lacked, last_lacked}
 
 -- of one replica, a lower Id has a lower number
 Below-number : (x y : Id) → Below x y → x.replica ≡ y.replica → x.number < y.number
@@ -47,7 +47,7 @@ module _ (has : Id → Bool) where
   more_ends x ids g h = record {
     upward = h.upward;
     first = more_lacked x ids (first_lacked g) h.first;
-    last = more_lacked x ids (last_of g) h.last;
+    last = more_lacked x ids (last_lacked g) h.last;
   }
 
   module _ (x : Id) (ids : List Id) (above : (z : Id) → Contains ids z → Below x z) where
@@ -169,7 +169,7 @@ module _ (has : Id → Bool) where
                 upward = omega (arith, less, whole.upward);
                 first = subst (IsLacked has (x ∷ ids)) is_first
                     (record { among = Contains-head x ids; lacks = lack });
-                last = more_lacked x ids (last_of g) whole.last;
+                last = more_lacked x ids (last_lacked g) whole.last;
               })
           | inr old ↦ more_ends x ids k (rest.ends k (Contains-cons g gaps k old))
         ];

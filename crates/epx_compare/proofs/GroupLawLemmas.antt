@@ -14,7 +14,8 @@ use Rattle.epx_compare.proofs.DifferenceLemmas.{versions_of-number_is_unique}
 use Rattle.epx_compare.proofs.MemberLemmas.{list_any-found, list_any-from}
 use Rattle.epx_versions.specs.LineVersions.{versions_of}
 use Rattle.epx_versions.specs.SameInstances.{same_id, same_instance}
-use Rattle.epx_versions.specs.inner.EqualVersions.{ids_decide, same_by_test, instances_decide}
+use Rattle.epx_versions.specs.inner.EqualVersions.{same_id-decides, same_instance-decides}
+use Rattle.epx_versions.specs.inner.EqualVersions.{same_instance-equal}
 
 module _ (lines : List Placed) (distinct : HaveDistinctPlaces lines) where
   -- a place of an instance is that of a line that commits it
@@ -26,14 +27,14 @@ module _ (lines : List Placed) (distinct : HaveDistinctPlaces lines) where
         p.0,
         Contains-from_filter own lines p.0 p.1,
         p.2,
-        same_by_test e p.0.instance (passes-from_filter own lines p.0 p.1),
+        same_instance-equal e p.0.instance (passes-from_filter own lines p.0 p.1),
       )
 
   in_places : (p : Placed) → Contains lines p → Contains (places_of lines p.instance) p.place
   in_places p h =
       let own = λ (q : Placed). same_instance p.instance q.instance in
       Contains-map (λ (q : Placed). q.place) (filter own lines) p
-      (Contains-filter own lines p h ((instances_decide p.instance p.instance).1 refl))
+      (Contains-filter own lines p h ((same_instance-decides p.instance p.instance).1 refl))
 
   -- the instance of a group that has the place of a line is that of the line
   instance_at : (e : Instance) (p : Placed) → Contains lines p
@@ -104,17 +105,17 @@ DependentsHaveLines-holds lines x y = (there, back) where
       let d = list_any-found (λ (d : Id). same_id d x) p.0.instance.deps both.1 in (
         p.0,
         p.1,
-        (ids_decide p.0.instance.id y).0 both.0,
-        subst (Contains p.0.instance.deps) ((ids_decide d.0 x).0 d.2) d.1,
+        (same_id-decides p.0.instance.id y).0 both.0,
+        subst (Contains p.0.instance.deps) ((same_id-decides d.0 x).0 d.2) d.1,
       )
 
   back : (p : Placed) × Contains lines p × (p.instance.id ≡ y) × Contains p.instance.deps x
       → list_any (λ p. same_id p.instance.id y && list_any (λ d. same_id d x) p.instance.deps)
       lines ≡ true
   back (p, among, is, listed) =
-      let first = (ids_decide p.instance.id y).1 is in
+      let first = (same_id-decides p.instance.id y).1 is in
       let second = list_any-from (λ (d : Id). same_id d x) p.instance.deps x listed
-      ((ids_decide x x).1 refl) in
+      ((same_id-decides x x).1 refl) in
       list_any-from
       (λ (p : Placed). same_id p.instance.id y && list_any (λ d. same_id d x) p.instance.deps)
       lines p among (λ i. first i && second i)

@@ -19,7 +19,7 @@ use Rattle.epx_compare.specs.Differences.{lines_of_id, places_of, groups_of}
 use Rattle.epx_versions.specs.LineVersions.{versions_of}
 use Rattle.epx_versions.specs.SameInstances.{same_id}
 use Rattle.epx_compare.specs.inner.Catalogs.{IsCatalogOf, version_ids}
-use Rattle.epx_versions.specs.inner.EqualVersions.{ids_decide}
+use Rattle.epx_versions.specs.inner.EqualVersions.{same_id-decides}
 use Rattle.epx_compare.specs.inner.NumberedVersions.{version_at, place_at}
 use Rattle.epx_compare.proofs.DifferenceLemmas.{versions_of-own, places_of-by_number, places_of-own}
 use Rattle.epx_compare.proofs.PositionLemmas.{map-passing}
@@ -111,13 +111,13 @@ module _ (lines : List Placed) (bad : List BadLineAt) (c : Catalog)
       let id = slice_get-from_map Some (version_ids lines) p (Some x) some in
       let found = slice_get-from_map (λ e. e.id) (versions_of lines) p id.0 id.1 in
       let inner : id.0 ≡ x = (let e = id.2 in cc) in
-      (found.0, found.1, (ids_decide found.0.id x).1 (found.2 ∙ inner))
+      (found.0, found.1, (same_id-decides found.0.id x).1 (found.2 ∙ inner))
 
   is_listed : IsRising c.ids → (k : ℕ) (x : Id) → slice_get c.ids k ≡ Some x → (p : ℕ)
       (e : Instance) → slice_get (versions_of lines) p ≡ Some e → same_id e.id x ≡ true
       → slice_get c.positions.items p ≡ Some k
   is_listed rising k x at p e here own =
-      let id : e.id ≡ x = (ids_decide e.id x).0 own in
+      let id : e.id ≡ x = (same_id-decides e.id x).0 own in
       let listed = slice_get-map (λ d. d.id) (versions_of lines) p e here ∙ ap Some id in
       let some : slice_get (map (slice_get c.ids) c.positions.items) p ≡ Some (Some x) =
       at_version p ∙ slice_get-map Some (version_ids lines) p x listed in

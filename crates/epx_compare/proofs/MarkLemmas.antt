@@ -10,7 +10,7 @@ use Rattle.std.specs.Bool.{one_answer}
 use Rattle.epx_versions.specs.declared.noted.NotedLine.{NotedLine}
 use Rattle.epx_compare.specs.Gaps.{has_line}
 use Rattle.epx_versions.specs.SameInstances.{same_id}
-use Rattle.epx_versions.specs.inner.EqualVersions.{ids_decide}
+use Rattle.epx_versions.specs.inner.EqualVersions.{same_id-decides}
 use Rattle.epx_compare.specs.inner.LogMarks.{is_line_in}
 use Rattle.epx_versions.specs.between.NotedRows.{IsRowOf}
 
@@ -52,7 +52,7 @@ module _ (ids : List Id) (rising : IsRising ids) where
         ≡ ((p.place.log == log) && same_id p.instance.id x)
     row_test row p rel =
         let decides = position_decides row.version p.instance rel.version in
-        let second = one_answer _ _ decides (ids_decide p.instance.id x) in
+        let second = one_answer _ _ decides (same_id-decides p.instance.id x) in
         let first : (row.place.log == log) ≡ (p.place.log == log) =
         ap (λ (at' : Place). at'.log == log) rel.place in
         λ i. first i && second i

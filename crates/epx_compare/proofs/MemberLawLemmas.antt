@@ -2,7 +2,8 @@
 use Rattle.std.proofs.Common.{◌≡◌, ◌≢◌, ◌∙◌, Bool, true, false, not, List, refl, sym, ap}
 use Rattle.epx_types.proofs.Common.{Decides, list_any, Instance, Placed}
 use Rattle.epx_versions.specs.SameInstances.{same_seq, same_deps, same_ops}
-use Rattle.epx_versions.specs.inner.EqualVersions.{seqs_decide, deps_decide, commands_decide}
+use Rattle.epx_versions.specs.inner.EqualVersions.{same_seq-decides, same_deps-decides}
+use Rattle.epx_versions.specs.inner.EqualVersions.{same_ops-decides}
 use Rattle.epx_compare.specs.Differences.{some_differ}
 use Rattle.epx_compare.specs.GroupLaws.{MembersAreOfTheDifferent, TwoDiffer}
 use Rattle.epx_compare.proofs.MemberLemmas.{list_any-found, list_any-from}
@@ -37,15 +38,15 @@ module _ {A : Type 0} (same : Instance → Instance → Bool) (part : Instance �
 pub MembersAreOfTheDifferent-holds : MembersAreOfTheDifferent
 MembersAreOfTheDifferent-holds = record {
   seq = λ lines. (
-    two_differ same_seq (λ e. e.seq) seqs_decide lines,
-    some_differs same_seq (λ e. e.seq) seqs_decide lines,
+    two_differ same_seq (λ e. e.seq) same_seq-decides lines,
+    some_differs same_seq (λ e. e.seq) same_seq-decides lines,
   );
   deps = λ lines. (
-    two_differ same_deps (λ e. e.deps) deps_decide lines,
-    some_differs same_deps (λ e. e.deps) deps_decide lines,
+    two_differ same_deps (λ e. e.deps) same_deps-decides lines,
+    some_differs same_deps (λ e. e.deps) same_deps-decides lines,
   );
   ops = λ lines. (
-    two_differ same_ops (λ e. e.ops) commands_decide lines,
-    some_differs same_ops (λ e. e.ops) commands_decide lines,
+    two_differ same_ops (λ e. e.ops) same_ops-decides lines,
+    some_differs same_ops (λ e. e.ops) same_ops-decides lines,
   );
 }

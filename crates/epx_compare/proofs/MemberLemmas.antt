@@ -9,8 +9,9 @@ use Rattle.epx_compare.specs.Differences.{some_differ, differing_members, named_
 use Rattle.epx_versions.specs.LineVersions.{versions_of}
 use Rattle.epx_compare.specs.declared.members.Members.{Members}
 use Rattle.epx_versions.specs.SameInstances.{same_seq, same_deps, same_ops, same_instance}
-use Rattle.epx_versions.specs.inner.EqualVersions.{seqs_decide, deps_decide, commands_decide}
-use Rattle.epx_versions.specs.inner.EqualVersions.{same_by_test}
+use Rattle.epx_versions.specs.inner.EqualVersions.{same_seq-decides, same_deps-decides}
+use Rattle.epx_versions.specs.inner.EqualVersions.{same_ops-decides}
+use Rattle.epx_versions.specs.inner.EqualVersions.{same_instance-equal}
 use Rattle.epx_compare.specs.inner.NumberedVersions.{version_at, later_differs, differs_from}
 use Rattle.epx_compare.specs.inner.NumberedVersions.{AreDiffering, names_of}
 
@@ -66,7 +67,7 @@ version-from_line (q ∷ lines) p among =
           (versions_of lines)) e
       by q lines e among true same =
           let rest = filter (λ d. not (same_instance q.instance d)) (versions_of lines) in
-          subst (Contains (q.instance ∷ rest)) (same_by_test q.instance e same)
+          subst (Contains (q.instance ∷ rest)) (same_instance-equal q.instance e same)
           (Contains-head q.instance rest)
       by q lines e among false other =
           let test = λ (d : Instance). not (same_instance q.instance d) in
@@ -172,11 +173,11 @@ module _ {A : Type 0} (same : Instance → Instance → Bool) (of : Instance →
 pub differing_members-are : (lines : List Placed) (m : Members)
     → AreDiffering (versions_of lines) m → differing_members lines ≡ names_of m
 differing_members-are lines m differing =
-    let seq = some_differ-from_later same_seq (λ e. e.seq) seqs_decide lines
+    let seq = some_differ-from_later same_seq (λ e. e.seq) same_seq-decides lines
     ∙ sym differing.seq in
-    let deps = some_differ-from_later same_deps (λ e. e.deps) deps_decide lines
+    let deps = some_differ-from_later same_deps (λ e. e.deps) same_deps-decides lines
     ∙ sym differing.deps in
-    let ops = some_differ-from_later same_ops (λ e. e.ops) commands_decide lines
+    let ops = some_differ-from_later same_ops (λ e. e.ops) same_ops-decides lines
     ∙ sym differing.ops in
     λ i. named_if (seq i) (codes "seq") ++ (named_if (deps i) (codes "deps")
     ++ named_if (ops i) (codes "ops"))

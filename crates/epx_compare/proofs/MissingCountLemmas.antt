@@ -12,7 +12,7 @@ use Rattle.std.specs.Cmp.{decided}
 use Rattle.std.proofs.lemmas.List.Folds.{list_any_more}
 use Rattle.epx_types.specs.contracts.id.IdPartialEq.TheImpl as id_eq
 use Rattle.epx_versions.specs.SameInstances.{same_id}
-use Rattle.epx_versions.specs.inner.EqualVersions.{ids_decide}
+use Rattle.epx_versions.specs.inner.EqualVersions.{same_id-decides}
 use Rattle.epx_compare.specs.inner.MissingCounts.{stored, AreCounts, with_one, is_missing}
 use Rattle.epx_compare.proofs.DependencyLemmas.{list_any-same_id, Contains-from_same_id}
 
@@ -90,7 +90,7 @@ module _ (ids deps : List Id) (i : ℕ) (d : Id) (here : slice_get deps i ≡ So
       ap (λ b. if b then counted x + 1 else counted x)
       (skip_test (list_any (same_id x) ids) (list_any (λ e. same_id e x) (take i deps))
       (same_id d x) (λ same. list_any-same_id x ids
-      (subst (Contains ids) ((ids_decide d x).0 same) among))
+      (subst (Contains ids) ((same_id-decides d x).0 same) among))
       ∙ ap (λ b. not (list_any (same_id x) ids) && b) (sym (with_next x)))
 
   -- one that is not committed is counted once more
@@ -100,9 +100,9 @@ module _ (ids deps : List Id) (i : ℕ) (d : Id) (here : slice_get deps i ≡ So
   with_one-missing rising missing counted x =
       count_test (list_any (same_id x) ids) (list_any (λ e. same_id e x) (take i deps))
       (same_id d x) (counted x) (λ same. not_listed x (λ h. missing
-      (subst (Contains ids) (sym ((ids_decide d x).0 same)) h)))
+      (subst (Contains ids) (sym ((same_id-decides d x).0 same)) h)))
       (λ same. subst (λ (y : Id). list_any (λ e. same_id e y) (take i deps) ≡ false)
-      ((ids_decide d x).0 same) (not_before deps rising i d here))
+      ((same_id-decides d x).0 same) (not_before deps rising i d here))
       ∙ ap (λ b. if not (list_any (same_id x) ids) && b then counted x + 1 else counted x)
       (sym (with_next x))
     where

@@ -24,7 +24,7 @@ use Rattle.epx_versions.specs.LineVersions.{versions_of}
 use Rattle.epx_versions.specs.SameInstances.{same_id}
 use Rattle.epx_compare.specs.MissingDeps.{depends_on, dependents_of, AreMissingDeps}
 use Rattle.epx_compare.specs.inner.Catalogs.{IsCatalogOf}
-use Rattle.epx_versions.specs.inner.EqualVersions.{ids_decide}
+use Rattle.epx_versions.specs.inner.EqualVersions.{same_id-decides}
 use Rattle.epx_compare.specs.inner.MissingCounts.{stored, AreCounts, missing_count}
 use Rattle.epx_compare.proofs.DependencyLemmas.{Contains-from_list_any, list_any-if_one_passes}
 use Rattle.epx_compare.proofs.DependencyLemmas.{Contains-from_same_id_flipped}
@@ -154,7 +154,7 @@ module _ (lines : List Placed) (bad : List BadLineAt) (c : Catalog)
       list_any-if_one_passes (λ q. same_id q.instance.id y
       && list_any (λ d. same_id d x) q.instance.deps) lines p line
       (and-from_both (same_id y y) (list_any (λ d. same_id d x) p.instance.deps)
-      ((ids_decide y y).1 refl) (list_any-same_id_flipped x p.instance.deps dep)) in
+      ((same_id-decides y y).1 refl) (list_any-same_id_flipped x p.instance.deps dep)) in
       let missing : list_any (same_id x) c.ids ≡ false =
       elim (cases_Bool (list_any (same_id x) c.ids)) [
         | inl has ↦ absurd (none (Contains-from_same_id x c.ids has))

@@ -25,8 +25,9 @@ use Rattle.epx_compare.specs.Comparisons.{bad_text, difference_in, difference_te
 use Rattle.epx_compare.specs.Differences.{lines_of_id, some_differ, named_if, differing_members}
 use Rattle.epx_compare.specs.Differences.{groups_of}
 use Rattle.epx_versions.specs.SameInstances.{same_id, same_seq, same_deps, same_ops}
-use Rattle.epx_versions.specs.inner.EqualVersions.{ids_decide, seqs_decide, deps_decide}
-use Rattle.epx_versions.specs.inner.EqualVersions.{commands_decide}
+use Rattle.epx_versions.specs.inner.EqualVersions.{same_id-decides, same_seq-decides}
+use Rattle.epx_versions.specs.inner.EqualVersions.{same_deps-decides}
+use Rattle.epx_versions.specs.inner.EqualVersions.{same_ops-decides}
 
 -- ---- texts that are empty
 
@@ -122,22 +123,23 @@ same_instances lines none p q first second ids =
     (append-left_nil deps_name ops_name rest) in
     let no_ops = not_named (some_differ same_ops lines) (codes "ops")
     (append-right_nil deps_name ops_name rest) in
-    let seqs = same_where_none_differ same_seq (λ e. e.seq) seqs_decide lines no_seq p q first
+    let seqs = same_where_none_differ same_seq (λ e. e.seq) same_seq-decides lines no_seq p q first
     second in
-    let deps = same_where_none_differ same_deps (λ e. e.deps) deps_decide lines no_deps p q first
+    let deps =
+    same_where_none_differ same_deps (λ e. e.deps) same_deps-decides lines no_deps p q first
     second in
-    let ops = same_where_none_differ same_ops (λ e. e.ops) commands_decide lines no_ops p q first
+    let ops = same_where_none_differ same_ops (λ e. e.ops) same_ops-decides lines no_ops p q first
     second in
     λ i. record { id = ids i; seq = seqs i; deps = deps i; ops = ops i }
 
 no_differing : (lines : List Placed) → ((p q : Placed) → Contains lines p → Contains lines q
     → p.instance ≡ q.instance) → differing_members lines ≡ []
 no_differing lines agree =
-    let seq = none_differ same_seq (λ e. e.seq) seqs_decide lines agree
+    let seq = none_differ same_seq (λ e. e.seq) same_seq-decides lines agree
     (some_differ same_seq lines) refl in
-    let deps = none_differ same_deps (λ e. e.deps) deps_decide lines agree
+    let deps = none_differ same_deps (λ e. e.deps) same_deps-decides lines agree
     (some_differ same_deps lines) refl in
-    let ops = none_differ same_ops (λ e. e.ops) commands_decide lines agree
+    let ops = none_differ same_ops (λ e. e.ops) same_ops-decides lines agree
     (some_differ same_ops lines) refl in
     λ i. named_if (seq i) (codes "seq") ++ (named_if (deps i) (codes "deps")
     ++ named_if (ops i) (codes "ops"))
@@ -156,7 +158,7 @@ agree_where_nothing_differs lines ids named none p q first second same =
     own_line : (r : Placed) → Contains lines r → r.instance.id ≡ p.instance.id
         → Contains (lines_of_id lines p.instance.id) r
     own_line r among is = Contains-filter (λ (s : Placed). same_id s.instance.id p.instance.id)
-        lines r among ((ids_decide r.instance.id p.instance.id).1 is)
+        lines r among ((same_id-decides r.instance.id p.instance.id).1 is)
 
 nothing_differs_where_agree : (lines : List Placed) (ids : List Id) → Agree lines
     → flat_map (difference_text lines) ids ≡ []
@@ -167,8 +169,8 @@ nothing_differs_where_agree lines ids agree = all_nil (difference_text lines) id
           → Contains (lines_of_id lines x) q → p.instance ≡ q.instance
       together x p q first second =
           let own = λ (s : Placed). same_id s.instance.id x in
-          let here = (ids_decide p.instance.id x).0 (passes-from_filter own lines p first) in
-          let there = (ids_decide q.instance.id x).0 (passes-from_filter own lines q second) in
+          let here = (same_id-decides p.instance.id x).0 (passes-from_filter own lines p first) in
+          let there = (same_id-decides q.instance.id x).0 (passes-from_filter own lines q second) in
           agree p q (Contains-from_filter own lines p first)
           (Contains-from_filter own lines q second) (here ∙ sym there)
 

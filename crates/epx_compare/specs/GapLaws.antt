@@ -9,8 +9,8 @@ abbrev pub first_lacked : Gap → Id
 first_lacked gap = record { replica = gap.replica; number = gap.from }
 
 -- the last instance of a gap
-abbrev pub last_of : Gap → Id
-last_of gap = record { replica = gap.replica; number = gap.to }
+abbrev pub last_lacked : Gap → Id
+last_lacked gap = record { replica = gap.replica; number = gap.to }
 
 -- x is an instance of the gap's replica, from its first number to its last, both included
 abbrev pub IsInGap : Gap → Id → Type 0
@@ -25,7 +25,7 @@ pub record IsLacked (has : Id → Bool) (ids : List Id) (x : Id) : Type 0 where
 pub record HasLackedEnds (has : Id → Bool) (ids : List Id) (gap : Gap) : Type 0 where
   pub upward : gap.from ≤ gap.to
   pub first : IsLacked has ids (first_lacked gap)
-  pub last : IsLacked has ids (last_of gap)
+  pub last : IsLacked has ids (last_lacked gap)
 
 -- between two gaps of one replica this Id is not lacked
 pub record IsBetween (has : Id → Bool) (ids : List Id) (g h : Gap) (x : Id) : Type 0 where

@@ -8,7 +8,7 @@ use Rattle.epx_graph.proofs.Common.{IsNodePath-within}
 use Rattle.epx_graph.proofs.Common.{ids-is_unique, IsCommitted-iff_node, NodeReaches-iff}
 use Rattle.epx_graph.proofs.Common.{Below-iff_node}
 use Rattle.epx_graph.proofs.Common.{NodeReaches-exists}
-use Rattle.epx_components.specs.between.NodeComponents.{IsNodeLeader}
+use Rattle.epx_components.specs.NodeComponents.{IsNodeLeader}
 
 -- a leader is a node
 pub IsNodeLeader-within : (g : DependencyGraph) → IsGraph g → (k l : ℕ) → k < length g.ids

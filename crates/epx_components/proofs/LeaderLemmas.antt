@@ -1,6 +1,6 @@
 -- The least node of each component, from the last node down.
 use Rattle.std.proofs.Common.{◌≡◌, ℕ, ◌<◌, ◌≤◌, List, length, get_or, sym, ap, arith}
-use Rattle.epx_components.specs.between.NodeComponents.{IsNodeLeader}
+use Rattle.epx_components.specs.NodeComponents.{IsNodeLeader}
 use Rattle.epx_components.specs.between.Partitions.{ComponentParts, IsPartition, component_of}
 use Rattle.epx_components.specs.between.Partitions.{number_for}
 use Rattle.epx_components.proofs.NodePathLemmas.{NodeReaches-falls, NodeReaches-within}

@@ -5,7 +5,7 @@ use Rattle.std.proofs.lemmas.List.{get_or-map}
 use Rattle.epx_types.proofs.Common.{slice_get_within, get_or_from_slice_get, slice_get-from_map}
 use Rattle.epx_graph.proofs.Common.{DependencyGraph, edges_of}
 use Rattle.epx_components.specs.declared.node_ranks.NodeRank.{NodeRank}
-use Rattle.epx_components.specs.between.NodeComponents.{IsNodeLeader}
+use Rattle.epx_components.specs.NodeComponents.{IsNodeLeader}
 use Rattle.epx_components.specs.between.NodeDepths.{IsNodeDepth}
 use Rattle.epx_components.specs.between.MissingNodes.{ReachesMissing}
 use Rattle.epx_components.specs.between.Partitions.{ComponentParts, number_for, mark_for}

@@ -6,7 +6,7 @@ use Rattle.epx_types.proofs.Common.{slice_get-get_or, Ranked, ranked_ids, compon
 use Rattle.epx_types.specs.declared.id.Id.{Id}
 use Rattle.std.proofs.lemmas.List.{get_or-map, map_more}
 use Rattle.epx_types.proofs.lists.ListPositionLemmas.{slice_get-map}
-use Rattle.epx_components.specs.between.Ranks.{ranked, ranked_all}
+use Rattle.epx_components.specs.Ranks.{ranked, ranked_all}
 use Rattle.epx_components.specs.declared.rank.Rank.{Rank}
 
 pub ranked_all-at : (ranks : List Rank) (i : ℕ) (r : Rank) → i < length (ranked_all ranks)

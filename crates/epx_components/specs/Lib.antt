@@ -1,2 +1,4 @@
+pub mod NodeComponents
+pub mod Ranks
 pub mod between
 pub mod inner

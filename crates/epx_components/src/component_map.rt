@@ -5,7 +5,7 @@ ghost use Rattle.epx_types.specs.Components.{IsLeader};
 ghost use Rattle.epx_types.specs.Instances.{Instance};
 ghost use Rattle.epx_graph.specs.GraphOf.{IsGraphOf};
 ghost use Rattle.epx_graph.specs.Graphs.{edges_of};
-ghost use Rattle.epx_components.specs.between.NodeComponents.{IsNodeLeader};
+ghost use Rattle.epx_components.specs.NodeComponents.{IsNodeLeader};
 
 use crate::leaders::find_leaders;
 use crate::search::find_components;

@@ -1,7 +1,7 @@
 //! The leaders of the components.
 ghost use Rattle.std.specs.Prelude.{◌≡◌, ℕ, ◌<◌, length, IfOk};
 ghost use Rattle.epx_graph.specs.Graphs.{edges_of};
-ghost use Rattle.epx_components.specs.between.NodeComponents.{IsNodeLeader};
+ghost use Rattle.epx_components.specs.NodeComponents.{IsNodeLeader};
 ghost use Rattle.epx_components.specs.between.Partitions.{parts, number_for, IsPartitionOf};
 
 use crate::partition::Partition;

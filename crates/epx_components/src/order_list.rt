@@ -1,7 +1,7 @@
 //! The instances in execution order.
 ghost use Rattle.std.specs.Prelude.{◌≡◌, ◌==◌, ◌<◌, length, slice_get, Some, IfOk};
 ghost use Rattle.epx_types.specs.ExecutionOrder.{Ranked, ranked_ids, component_count};
-ghost use Rattle.epx_components.specs.between.Ranks.{ranked_all};
+ghost use Rattle.epx_components.specs.Ranks.{ranked_all};
 
 use crate::rank::Rank;
 use epx_types::{Id, Memory};
@@ -21,7 +21,7 @@ pub struct OrderList {
 impl Model for OrderList {
     ghost use Rattle.std.specs.Prelude.{◌≡◌, List};
     ghost use Rattle.epx_types.specs.ExecutionOrder.{Ranked, ranked_ids};
-    ghost use Rattle.epx_components.specs.between.Ranks.{ranked_all};
+    ghost use Rattle.epx_components.specs.Ranks.{ranked_all};
 
     ghost Value = { List Ranked };
 

@@ -7,5 +7,6 @@ pub mod EitherSources
 pub mod DeviceStates
 pub mod DeliveryLaws
 pub mod MemoryDevices
+pub mod Fuses
 pub mod between
 pub mod inner

@@ -1,6 +1,6 @@
 //! The fuse of a failing device: how many bytes it allows.
 ghost use Rattle.std.specs.Prelude.{◌≡◌, ◌-◌, option_map};
-ghost use Rattle.epx_devices.specs.between.Fuses.{allowed_of};
+ghost use Rattle.epx_devices.specs.Fuses.{allowed_of};
 
 /// How many of `wanted` bytes one call transfers. Without a fuse only `at_once` limits them.
 pub(crate) fn allowed(wanted: usize, at_once: usize, fuse: Option<usize>) -> usize

@@ -4,8 +4,8 @@ ghost use Rattle.std.specs.Prelude.{IsErr, length, take};
 ghost use Rattle.std.specs.Io.{WritesAtMost};
 ghost use Rattle.std.specs.Io.KnownBytes.{Keeps, WriteAppends};
 ghost use Rattle.epx_devices.specs.Devices.{AcceptsSome, failed_after};
-ghost use Rattle.epx_devices.specs.between.Fuses.{IsSpent, allowed, after_failure, after_transfer};
-ghost use Rattle.epx_devices.specs.between.Fuses.{fuse_sink};
+ghost use Rattle.epx_devices.specs.Fuses.{IsSpent, allowed, after_failure, after_transfer};
+ghost use Rattle.epx_devices.specs.Fuses.{fuse_sink};
 
 use crate::device::{DeviceFault, Sink};
 use crate::fuse::{allowed, remaining_after};
@@ -24,7 +24,7 @@ pub struct FuseSink {
 
 impl Model for FuseSink {
     ghost use Rattle.std.specs.Prelude.{◌≤◌};
-    ghost use Rattle.epx_devices.specs.between.Fuses.{FuseState};
+    ghost use Rattle.epx_devices.specs.Fuses.{FuseState};
 
     ghost Value = { FuseState };
 

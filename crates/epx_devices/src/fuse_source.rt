@@ -5,8 +5,8 @@ ghost use Rattle.std.specs.Io.{ReadsAtMost};
 ghost use Rattle.std.specs.Io.KnownBytes.{ReadConsumes};
 ghost use Rattle.epx_devices.specs.Devices.{failed_after};
 ghost use Rattle.epx_devices.specs.Reads.{IsOneRead};
-ghost use Rattle.epx_devices.specs.between.Fuses.{IsSpent, allowed, after_failure, after_transfer};
-ghost use Rattle.epx_devices.specs.between.Fuses.{fuse_source};
+ghost use Rattle.epx_devices.specs.Fuses.{IsSpent, allowed, after_failure, after_transfer};
+ghost use Rattle.epx_devices.specs.Fuses.{fuse_source};
 
 use crate::device::{DeviceFault, Source};
 use crate::fuse::{allowed, remaining_after};
@@ -24,7 +24,7 @@ pub struct FuseSource<'a> {
 
 impl<'a> Model for FuseSource<'a> {
     ghost use Rattle.std.specs.Prelude.{◌≤◌};
-    ghost use Rattle.epx_devices.specs.between.Fuses.{FuseState};
+    ghost use Rattle.epx_devices.specs.Fuses.{FuseState};
 
     ghost Value = { FuseState };
 

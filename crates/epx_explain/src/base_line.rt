@@ -4,7 +4,7 @@ use crate::input_kind::explain_input_kind;
 use crate::inputs::{Input, Role};
 use epx_bad_lines::{
     LogLine, Looks, explain_call_line, explain_file_kind, explain_list_line, explain_text,
-    is_array_begun, is_report_line, line_at, looks_of, show_bytes,
+    is_array_begun, is_report_line, line_at, looks_of, made, show_bytes,
 };
 use epx_lines::{MAX_LINE_BYTES, is_blank_line, read_json};
 use epx_types::Memory;
@@ -70,14 +70,14 @@ fn explain_form(
 ) -> Result<String, Memory> {
     if let Some(value) = read_json(alloc, line.bytes)? {
         let text = explain_place(form, number, is_report_line(&value));
-        return Ok(String::from_str(alloc, text)?);
+        return made(String::from_str(alloc, text));
     }
     if is_array_begun(line.bytes) {
         if let Some(text) = explain_text(alloc, line)? {
             return Ok(text);
         }
     }
-    Ok(String::from_str(alloc, explain_place(form, number, false))?)
+    made(String::from_str(alloc, explain_place(form, number, false)))
 }
 
 /// Explains a line of an input of this form.
@@ -92,16 +92,16 @@ fn explain_report_line(
     }
     let length = line.bytes.len();
     if length > MAX_LINE_BYTES {
-        return Ok(format!(in alloc;
+        return made(format!(in alloc;
             "line {number} has {length} bytes, and at most {MAX_LINE_BYTES} are allowed"
-        )?);
+        ));
     }
     let text = explain_form(alloc, form, line, number)?;
     if is_blank_line(line.bytes) {
-        return Ok(format!(in alloc; "line {number} is blank: {text}")?);
+        return made(format!(in alloc; "line {number} is blank: {text}"));
     }
     let shown = show_bytes(alloc, line.bytes)?;
-    Ok(format!(in alloc; "line {number} is {shown}: {text}")?)
+    made(format!(in alloc; "line {number} is {shown}: {text}"))
 }
 
 /// Explains a line of a state, a base, a list, a history or of what a replica said.
@@ -113,13 +113,13 @@ fn explain_input_line(
 ) -> Result<String, Memory> {
     let looks = looks_of(alloc, bytes)?;
     if let Some(text) = explain_input_kind(role, looks) {
-        return Ok(String::from_str(alloc, text)?);
+        return made(String::from_str(alloc, text));
     }
     let Some(line) = line_at(bytes, number) else {
         if bytes.is_empty() {
-            return Ok(String::from_str(alloc, "it is empty")?);
+            return made(String::from_str(alloc, "it is empty"));
         }
-        return Ok(format!(in alloc; "it ends before line {number}: cut off?")?);
+        return made(format!(in alloc; "it ends before line {number}: cut off?"));
     };
     match role {
         Role::List => explain_list_line(alloc, line, number),
@@ -140,10 +140,10 @@ pub(crate) fn explain_base_line<R: Files>(
     match contents.bytes() {
         Ok(bytes) => {
             let text = explain_input_line(alloc, input.role, bytes, line)?;
-            Ok(format!(in alloc; "{name}; {text}")?)
+            made(format!(in alloc; "{name}; {text}"))
         }
         Err(reason) => {
-            Ok(format!(in alloc; "{name}, which {reason}: line {line} is not shown")?)
+            made(format!(in alloc; "{name}, which {reason}: line {line} is not shown"))
         }
     }
 }

@@ -3,7 +3,7 @@ use crate::answer::{Difference, FirstBadLine, LogFindings, read_answer};
 use crate::contents::{Contents, read_again};
 use crate::inputs::{Input, Inputs};
 use crate::log_line::explain_line_of;
-use epx_bad_lines::first_line;
+use epx_bad_lines::{first_line, made};
 use epx_types::Memory;
 use std::alloc::Global;
 use std::rt::Files;
@@ -21,8 +21,8 @@ fn explain_first_bad(
     let line = bad.line;
     let text = explain_line_of(alloc, contents, line, bad.why)?;
     match findings.bad.saturating_sub(1) {
-        0 => Ok(format!(in alloc; "{front}line {line}: {text}")?),
-        count => Ok(format!(in alloc; "{front}line {line}: {text}; further bad lines: {count}")?),
+        0 => made(format!(in alloc; "{front}line {line}: {text}")),
+        count => made(format!(in alloc; "{front}line {line}: {text}; further bad lines: {count}")),
     }
 }
 
@@ -36,6 +36,20 @@ fn explain_nothing(contents: &Contents<'_>) -> &'static str {
     }
 }
 
+/// Explains the first bad line of a log, or why it commits no instance.
+fn explain_findings<R: Files>(
+    rt: &R,
+    alloc: Global,
+    input: Input<'_>,
+    findings: LogFindings,
+) -> Result<String, Memory> {
+    let contents = read_again(rt, alloc, input)?;
+    match findings.first_bad {
+        Some(bad) => explain_first_bad(alloc, &contents, findings, bad),
+        None => made(String::from_str(alloc, explain_nothing(&contents))),
+    }
+}
+
 /// Names a log, and explains what a comparison finds of it.
 fn explain_log<R: Files>(
     rt: &R,
@@ -44,17 +58,25 @@ fn explain_log<R: Files>(
     findings: LogFindings,
 ) -> Result<String, Memory> {
     let name = input.name(alloc)?;
-    if let Some(bad) = findings.first_bad {
-        let contents = read_again(rt, alloc, input)?;
-        let text = explain_first_bad(alloc, &contents, findings, bad)?;
-        return Ok(format!(in alloc; "{name}; {text}")?);
+    if findings.first_bad.is_none() && findings.lines > 0 {
+        return Ok(name);
     }
-    if findings.lines == 0 {
-        let contents = read_again(rt, alloc, input)?;
-        let text = explain_nothing(&contents);
-        return Ok(format!(in alloc; "{name}; {text}")?);
+    let text = explain_findings(rt, alloc, input, findings)?;
+    made(format!(in alloc; "{name}; {text}"))
+}
+
+/// Names each log, and explains what a comparison finds of it.
+fn explain_logs<R: Files>(
+    rt: &R,
+    alloc: Global,
+    inputs: &Inputs<'_>,
+    logs: &[LogFindings],
+) -> Result<Vec<String>, Memory> {
+    let mut lines = Vec::new(alloc);
+    for (log, findings) in logs.iter().enumerate() {
+        lines.push(explain_log(rt, alloc, inputs.log(log), *findings)?)?;
     }
-    Ok(name)
+    Ok(lines)
 }
 
 /// Names the inputs of a difference, and the members.
@@ -70,10 +92,10 @@ fn explain_difference(
     let first_line = difference.first.line;
     let second = inputs.log(difference.second.log).location(alloc)?;
     let second_line = difference.second.line;
-    Ok(format!(in alloc;
+    made(format!(in alloc;
         "instance {replica}.{number} differs in {members} between {first} line {first_line} and \
 {second} line {second_line}"
-    )?)
+    ))
 }
 
 /// Explains the answer of a comparison, whose text is `answer`, in lines without line feeds.
@@ -88,10 +110,7 @@ pub fn explain_comparison<R: Files>(
     answer: &[u8],
 ) -> Result<Vec<String>, Memory> {
     let answer = read_answer(alloc, answer)?;
-    let mut lines = Vec::new(alloc);
-    for (log, findings) in answer.logs.iter().enumerate() {
-        lines.push(explain_log(rt, alloc, inputs.log(log), *findings)?)?;
-    }
+    let mut lines = explain_logs(rt, alloc, inputs, answer.logs.as_slice())?;
     if let Some(difference) = &answer.difference {
         lines.push(explain_difference(alloc, inputs, difference)?)?;
     }

@@ -1,7 +1,7 @@
 //! Explains how two lines that commit one instance differ.
 use crate::contents::read_again;
 use crate::inputs::{Input, Inputs};
-use epx_bad_lines::line_at;
+use epx_bad_lines::{line_at, made};
 use epx_lines::{Line, LineFault, read_line};
 use epx_types::{Entry, Memory, Place};
 use std::alloc::Global;
@@ -57,7 +57,7 @@ fn name_both(
         return Ok(name);
     }
     let other = inputs.numbered(second.log).name(alloc)?;
-    Ok(format!(in alloc; "{name}, {other}")?)
+    made(format!(in alloc; "{name}, {other}"))
 }
 
 /// Names the members in which the lines at two places differ.
@@ -72,13 +72,13 @@ pub(crate) fn explain_differences<R: Files>(
     let one = read_entry(rt, alloc, inputs.numbered(first.log), first.line)?;
     let other = read_entry(rt, alloc, inputs.numbered(second.log), second.line)?;
     let (Some(one), Some(other)) = (one, other) else {
-        return Ok(format!(in alloc;
+        return made(format!(in alloc;
             "{name}; the two lines cannot be compared again: \
 they differ in \"seq\", \"deps\" or \"ops\""
-        )?);
+        ));
     };
     match names_of_differences(&one, &other) {
-        Some(members) => Ok(format!(in alloc; "{name}; they differ in {members}")?),
-        None => Ok(format!(in alloc; "{name}; the lines are equal now: have the files changed?")?),
+        Some(members) => made(format!(in alloc; "{name}; they differ in {members}")),
+        None => made(format!(in alloc; "{name}; the lines are equal now: have the files changed?")),
     }
 }

@@ -1,5 +1,5 @@
 //! The inputs that a command line names.
-use epx_bad_lines::show_text;
+use epx_bad_lines::{made, show_text};
 use epx_names::Task;
 use epx_types::Memory;
 use std::alloc::Global;
@@ -67,9 +67,9 @@ impl<'a> Input<'a> {
     /// Where it is, as `run/2.jsonl`.
     pub fn location(&self, alloc: Global) -> Result<String, Memory> {
         match self.origin {
-            Origin::StandardInput => Ok(String::from_str(alloc, "standard input")?),
+            Origin::StandardInput => made(String::from_str(alloc, "standard input")),
             Origin::File(path) => show_text(alloc, path),
-            Origin::Unnamed => Ok(String::from_str(alloc, "not named")?),
+            Origin::Unnamed => made(String::from_str(alloc, "not named")),
         }
     }
 
@@ -77,7 +77,7 @@ impl<'a> Input<'a> {
     pub fn name(&self, alloc: Global) -> Result<String, Memory> {
         let role = self.role;
         let location = self.location(alloc)?;
-        Ok(format!(in alloc; "{role} is {location}")?)
+        made(format!(in alloc; "{role} is {location}"))
     }
 }
 

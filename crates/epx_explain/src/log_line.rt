@@ -3,7 +3,7 @@ use crate::contents::{Contents, read_again};
 use crate::inputs::Input;
 use epx_bad_lines::{
     LogLine, Looks, MAX_REPLICA, explain_deps, explain_file_kind, explain_kind, explain_number,
-    explain_ops, explain_status, explain_text, line_at, looks_by, show_value,
+    explain_ops, explain_status, explain_text, found, line_at, looks_by, made, show_value,
 };
 use epx_lines::{MAX_LINE_BYTES, read_json};
 use epx_types::{Memory, Why};
@@ -40,9 +40,9 @@ fn explain_too_long(alloc: Global, line: LogLine<'_>) -> Result<Option<String>, 
         None if length == line.log.len() => String::from_str(alloc, "a log without line feeds?")?,
         None => String::from_str(alloc, "are there several instances in it? write one a line")?,
     };
-    Ok(Some(format!(in alloc;
+    found(format!(in alloc;
         "the line has {length} bytes, and at most {MAX_LINE_BYTES} are allowed: {text}"
-    )?))
+    ))
 }
 
 /// Explains a line that is no object: as one of a list, a report or a history, if it looks so.
@@ -59,7 +59,7 @@ epx resume BASE LOG.."
         Looks::Log | Looks::Other => return explain_kind(alloc, value),
     };
     let shown = show_value(alloc, value)?;
-    Ok(Some(format!(in alloc; "the line is {shown}, {advice}")?))
+    found(format!(in alloc; "the line is {shown}, {advice}"))
 }
 
 /// Explains what is wrong with the value of a line. None if the value is not bad in this way.
@@ -98,14 +98,14 @@ pub(crate) fn explain_line_of(
     let expected = expected_text(why);
     let bytes = match contents.bytes() {
         Ok(bytes) => bytes,
-        Err(reason) => return Ok(format!(in alloc; "it {reason}; {expected}")?),
+        Err(reason) => return made(format!(in alloc; "it {reason}; {expected}")),
     };
     let Some(line) = line_at(bytes, number) else {
-        return Ok(format!(in alloc; "it has no line {number} now; {expected}")?);
+        return made(format!(in alloc; "it has no line {number} now; {expected}"));
     };
     match explain_line(alloc, line, why)? {
         Some(text) => Ok(text),
-        None => Ok(format!(in alloc; "it has changed; {expected}")?),
+        None => made(format!(in alloc; "it has changed; {expected}")),
     }
 }
 
@@ -120,5 +120,5 @@ pub(crate) fn explain_bad_line<R: Files>(
     let name = input.name(alloc)?;
     let contents = read_again(rt, alloc, input)?;
     let text = explain_line_of(alloc, &contents, number, why)?;
-    Ok(format!(in alloc; "{name}; {text}")?)
+    made(format!(in alloc; "{name}; {text}"))
 }

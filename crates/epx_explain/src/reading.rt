@@ -1,6 +1,6 @@
 //! Explains why an input could not be read, or is too long.
 use crate::inputs::{Input, Inputs, Origin, Role};
-use epx_bad_lines::show_text;
+use epx_bad_lines::{made, show_text};
 use epx_types::Memory;
 use epx_types::limits::{MAX_LOG_BYTES, MAX_LOGS};
 use std::alloc::Global;
@@ -21,9 +21,9 @@ fn reason_of(alloc: Global, error: &Error) -> Result<String, Memory> {
         ErrorKind::NotFound => "there is no such file",
         ErrorKind::PermissionDenied => "there is no permission to read it",
         ErrorKind::IsADirectory => "it is a folder",
-        _ => return Ok(format!(in alloc; "{error}")?),
+        _ => return made(format!(in alloc; "{error}")),
     };
-    Ok(String::from_str(alloc, reason)?)
+    made(String::from_str(alloc, reason))
 }
 
 /// Why the file at a path is not read.
@@ -33,14 +33,14 @@ fn explain_path<R: Files>(rt: &R, alloc: Global, path: &str) -> Result<String, M
         Err(error) => return reason_of(alloc, &error),
     };
     if metadata.is_dir() {
-        return Ok(String::from_str(alloc, "it is a folder")?);
+        return made(String::from_str(alloc, "it is a folder"));
     }
     if !metadata.is_file() {
-        return Ok(String::from_str(alloc, "it is a pipe or a device, which failed")?);
+        return made(String::from_str(alloc, "it is a pipe or a device, which failed"));
     }
     match try_to_read(rt, path) {
         Err(error) => reason_of(alloc, &error),
-        Ok(_) => Ok(String::from_str(alloc, "it failed while it was read, and can be read now")?),
+        Ok(_) => made(String::from_str(alloc, "it failed while it was read, and can be read now")),
     }
 }
 
@@ -54,9 +54,9 @@ pub(crate) fn explain_read<R: Files>(
     match input.origin {
         Origin::File(path) => {
             let reason = explain_path(rt, alloc, path)?;
-            Ok(format!(in alloc; "{name}; {reason}")?)
+            made(format!(in alloc; "{name}; {reason}"))
         }
-        Origin::StandardInput => Ok(format!(in alloc; "{name}; is it closed, or a folder?")?),
+        Origin::StandardInput => made(format!(in alloc; "{name}; is it closed, or a folder?")),
         Origin::Unnamed => Ok(name),
     }
 }
@@ -66,15 +66,26 @@ fn explain_cut(alloc: Global, input: Input<'_>) -> Result<String, Memory> {
     match (input.role, input.origin) {
         (Role::Log(_), Origin::File(path)) => {
             let path = show_text(alloc, path)?;
-            Ok(format!(in alloc; "; split -C 64M {path} cuts it at line feeds into several logs")?)
+            made(format!(in alloc; "; split -C 64M {path} cuts it at line feeds into several logs"))
         }
         (Role::Log(_), _) => {
-            Ok(String::from_str(
+            made(String::from_str(
                 alloc,
                 "; split -C 64M - PREFIX cuts it at line feeds into several logs",
-            )?)
+            ))
         }
         _ => Ok(String::new(alloc)),
+    }
+}
+
+/// The length of an input that is a file.
+fn file_length<R: Files>(rt: &R, input: Input<'_>) -> Option<u64> {
+    let Origin::File(path) = input.origin else {
+        return None;
+    };
+    match fs::metadata(rt, path) {
+        Ok(metadata) if metadata.is_file() => Some(metadata.len()),
+        _ => None,
     }
 }
 
@@ -86,24 +97,23 @@ pub(crate) fn explain_length<R: Files>(
 ) -> Result<String, Memory> {
     let name = input.name(alloc)?;
     let cut = explain_cut(alloc, input)?;
-    if let Origin::File(path) = input.origin {
-        if let Ok(metadata) = fs::metadata(rt, path) {
-            if metadata.is_file() {
-                let length = metadata.len();
-                return Ok(format!(in alloc;
-                    "{name}; it has {length} bytes, and at most {MAX_LOG_BYTES} are allowed{cut}"
-                )?);
-            }
+    match file_length(rt, input) {
+        Some(length) => {
+            made(format!(in alloc;
+                "{name}; it has {length} bytes, and at most {MAX_LOG_BYTES} are allowed{cut}"
+            ))
+        }
+        None => {
+            made(format!(in alloc; "{name}; at most {MAX_LOG_BYTES} bytes are allowed{cut}"))
         }
     }
-    Ok(format!(in alloc; "{name}; at most {MAX_LOG_BYTES} bytes are allowed{cut}")?)
 }
 
 /// Explains that there are too many logs.
 pub(crate) fn explain_log_count(alloc: Global, inputs: &Inputs<'_>) -> Result<String, Memory> {
     let count = inputs.count_logs();
-    Ok(format!(in alloc;
+    made(format!(in alloc;
         "{count} logs are named, and at most {MAX_LOGS} are allowed; join some that end with a \
 line feed: cat a b > c; or run a part, and epx resume over its report takes the rest in parts"
-    )?)
+    ))
 }

@@ -1,7 +1,7 @@
 -- The names that the crates above cite, passed on from one place. Declares nothing.
 pub use Rattle.epx_graph.specs.GraphOf.{IsGraphOf}
 pub use Rattle.epx_graph.specs.Graphs.{DependencyGraph, IsGraph, edges_of, missing_ids}
-pub use Rattle.epx_graph.specs.between.NodePaths.{IsNodePath, NodeReaches}
+pub use Rattle.epx_graph.specs.NodePaths.{IsNodePath, NodeReaches}
 pub use Rattle.epx_graph.specs.between.NodeSteps.{AreDistancesFrom, AreDistancesTo, AreLeast}
 pub use Rattle.epx_graph.specs.between.NodeSteps.{LeadsTo}
 pub use Rattle.epx_graph.specs.between.NodeSteps.{distance_at}

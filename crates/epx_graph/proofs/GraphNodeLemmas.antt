@@ -6,7 +6,7 @@ use Rattle.epx_types.proofs.Common.{Contains-nil, slice_get-from_Contains, Conta
 use Rattle.epx_types.proofs.Common.{Below-by_position, slice_get-rising_is_unique}
 use Rattle.epx_types.specs.declared.id.Id.{Id}
 use Rattle.epx_graph.specs.Graphs.{DependencyGraph, edges_of, committed_ids, missing_ids, IsGraph}
-use Rattle.epx_graph.specs.between.NodePaths.{IsNodePath}
+use Rattle.epx_graph.specs.NodePaths.{IsNodePath}
 use Rattle.epx_graph.proofs.RisingPositionLemmas.{slice_get-take, slice_get-from_take}
 use Rattle.epx_graph.proofs.RisingPositionLemmas.{slice_get-drop, slice_get-from_drop}
 use Rattle.epx_graph.proofs.RisingPositionLemmas.{IsRising-positions_back}

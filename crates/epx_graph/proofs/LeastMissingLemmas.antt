@@ -4,7 +4,7 @@ use Rattle.epx_types.proofs.Common.{cases_lt}
 use Rattle.epx_rows.specs.between.Rows.{row_of, AreTransposed}
 use Rattle.epx_graph.specs.declared.search.MarkKind.TheVariants as kind
 use Rattle.epx_graph.specs.Graphs.{DependencyGraph, edges_of}
-use Rattle.epx_graph.specs.between.NodePaths.{NodeReaches}
+use Rattle.epx_graph.specs.NodePaths.{NodeReaches}
 use Rattle.epx_graph.specs.inner.LeastMissing.{IsLeastMissing, AreMarksOf}
 use Rattle.epx_graph.specs.inner.Searches.{LeadsIn, mark_by, AreFirstMarks}
 use Rattle.epx_graph.proofs.NodeStepLemmas.{LeadsTo-node_path, LeadsTo-reaches, LeadsTo-turned}

@@ -7,7 +7,7 @@ use Rattle.epx_types.proofs.Common.{Reaches-trans, Reaches-dependency, Contains-
 use Rattle.epx_types.specs.declared.id.Id.{Id}
 use Rattle.epx_graph.specs.Graphs.{DependencyGraph, edges_of, committed_ids}
 use Rattle.epx_graph.specs.GraphOf.{IsGraphOf}
-use Rattle.epx_graph.specs.between.NodePaths.{IsNodePath, NodeReaches}
+use Rattle.epx_graph.specs.NodePaths.{IsNodePath, NodeReaches}
 use Rattle.epx_graph.proofs.GraphNodeLemmas.{slice_get-committed_ids, slice_get-from_committed}
 use Rattle.epx_graph.proofs.GraphNodeLemmas.{slice_get-from_missing}
 use Rattle.epx_graph.proofs.GraphNodeLemmas.{Contains-committed, Contains-missing, ids-is_unique}

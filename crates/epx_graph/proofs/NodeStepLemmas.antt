@@ -6,7 +6,7 @@ use Rattle.epx_types.proofs.Common.{All-from_get_or, All-weaker, All-contains_it
 use Rattle.epx_rows.specs.between.Rows.{row_of, AreTransposed}
 use Rattle.epx_graph.specs.declared.search.MarkKind.TheVariants as kind
 use Rattle.epx_graph.specs.Graphs.{DependencyGraph, edges_of, IsGraph}
-use Rattle.epx_graph.specs.between.NodePaths.{IsNodePath, NodeReaches}
+use Rattle.epx_graph.specs.NodePaths.{IsNodePath, NodeReaches}
 use Rattle.epx_graph.specs.between.NodeSteps.{LeadsTo, AreLeast, AreDistancesFrom, AreDistancesTo}
 use Rattle.epx_graph.specs.between.NodeSteps.{distance_at}
 use Rattle.epx_graph.specs.inner.Searches.{LeadsIn, mark_by, AreFirstMarks}

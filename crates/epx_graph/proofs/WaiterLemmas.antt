@@ -9,7 +9,7 @@ use Rattle.epx_types.proofs.Common.{UpTo-antisymm}
 use Rattle.epx_types.specs.declared.id.Id.{Id}
 use Rattle.epx_graph.specs.Graphs.{DependencyGraph, edges_of, IsGraph}
 use Rattle.epx_graph.specs.GraphOf.{IsGraphOf}
-use Rattle.epx_graph.specs.between.NodePaths.{NodeReaches}
+use Rattle.epx_graph.specs.NodePaths.{NodeReaches}
 use Rattle.epx_graph.specs.inner.LeastMissing.{AreMarksOf}
 use Rattle.epx_graph.specs.inner.Searches.{node_mark}
 use Rattle.epx_graph.specs.inner.Waiters.{IsWaiter, AreWaiters}

@@ -1,3 +1,2 @@
 -- Words of contracts between the crates: no call for users rests on them.
-pub mod NodePaths
 pub mod NodeSteps

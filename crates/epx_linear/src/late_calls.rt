@@ -36,7 +36,7 @@ fn find_late(
         let above = table.least_above(commands[index].ops)?;
         let latest = own.max(above.saturating_sub(1));
         table.note(latest);
-        found.push(spans.late(own, latest))?;
+        found.push(spans.id_if_late(own, latest))?;
     }
     Ok(found)
 }

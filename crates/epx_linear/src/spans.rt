@@ -98,7 +98,7 @@ impl Spans {
 
     /// Returns the instance of the span with the rank `latest`, if the span with the rank `own`
     /// had returned before it was invoked.
-    pub(crate) fn late(&self, own: usize, latest: usize) -> Option<Id>
+    pub(crate) fn id_if_late(&self, own: usize, latest: usize) -> Option<Id>
         ensures { MatchOption result
             ((x : Id) → ¬ IsLateRank self.now.spans.items own latest x)
             (IsLateRank self.now.spans.items own latest) }

@@ -22,7 +22,7 @@ use Rattle.serde_json.specs.View.{items_of}
 use Rattle.epx_lines.specs.between.Tokens.{ReadsValue, ParsesTo, ReadsValues, ParsesAllTo}
 use Rattle.epx_lines.specs.DependencyList.{id_of_pair}
 use Rattle.epx_lines.specs.OperationList.{key_of, op_with_key, op_with_value, op_of_list}
-use Rattle.epx_lines.specs.Elements.{below, whole, signed, list_of, elements, at_most, every}
+use Rattle.epx_lines.specs.Elements.{if_below, whole, signed, list_of, elements, at_most, every}
 use Rattle.epx_lines.specs.Elements.{each_of_at_most}
 use Rattle.epx_lines.proofs.ElementLemmas.{at_most-within}
 use Rattle.epx_lines.proofs.EntryLemmas.{length-every}
@@ -72,8 +72,8 @@ ParsesTo-signed s z y rest is l same = let fits = IsWritableValue-from_range z l
   fits.reads ∙ ap Some (sym same),
 )
 
-narrower : (b c n : ℕ) (o : Option ℕ) → option_and_then (below b) o ≡ Some n → n < c
-    → option_and_then (below c) o ≡ Some n
+narrower : (b c n : ℕ) (o : Option ℕ) → option_and_then (if_below b) o ≡ Some n → n < c
+    → option_and_then (if_below c) o ≡ Some n
 narrower b c n None e l = absurd (cc e)
 narrower b c n (Some m) e l = let same : m ≡ n = (cond_some (ltb m b) m n e).1 in
     rw (same, lt-ltb n c l)

@@ -5,12 +5,12 @@ use Rattle.serde_json.specs.Data.{Data, Items, no_items, item}
 use Rattle.serde_json.specs.Find.{as_array, as_number, as_u64, as_i64}
 
 -- the number, if it is below the bound
-abbrev pub below : ℕ → ℕ → Option ℕ
-below bound n = if nat_lt n bound then Some n else None
+abbrev pub if_below : ℕ → ℕ → Option ℕ
+if_below bound n = if nat_lt n bound then Some n else None
 
 -- a whole number below the bound, written without fraction and exponent
 unfoldable pub whole : ℕ → Data → Option ℕ
-whole bound d = option_and_then (below bound) (option_and_then as_u64 (as_number d))
+whole bound d = option_and_then (if_below bound) (option_and_then as_u64 (as_number d))
 
 -- a signed whole number of 64 bits
 abbrev pub signed : Data → Option ℤ

@@ -215,19 +215,14 @@ fn entry_from_parts(alloc: Global, parts: Parts) -> Option<Entry>
         (λ e. (ms : Members) → HoldsParts ms parts
         → meaning_of_object (object ms) ≡ Ok (line.Entry e)) }
 {
-    let Parts {
-        replica,
-        number,
-        seq,
-        named,
-        ops,
-    } = parts;
-    let id = Id {
-        replica: replica?,
-        number: number?,
+    // All parts are there, or all are dropped at once.
+    let (Some(replica), Some(number), Some(seq)) = (parts.replica, parts.number, parts.seq) else {
+        return None;
     };
-    let deps = sort_other_ids(alloc, id, named?).ok()?;
-    Entry::from_lists(id, seq?, deps, ops?)
+    let id = Id { replica, number };
+    let (named, ops) = parts.named.zip(parts.ops)?;
+    let deps = sort_other_ids(alloc, id, named).ok()?;
+    Entry::from_lists(id, seq, deps, ops)
 }
 
 /// Reads the entry of a line that is one object and nothing else.

@@ -1,17 +1,18 @@
 //! Writes an entry as a line.
 ghost use Rattle.std.specs.Prelude.{◌≡◌, ◌≤◌, length, map, All, Ok, IfOk, OnOk, IfSome};
 ghost use Rattle.std.specs.Prelude.{string_bytes};
-ghost use Rattle.serde_json.specs.Data.{number};
+ghost use Rattle.serde_json.specs.Data.{number, string};
 ghost use Rattle.serde_json.specs.Find.{of_integer};
 ghost use Rattle.serde_json.specs.View.{view};
+ghost use Rattle.epx_types.specs.Keys.{FitsKey};
 ghost use Rattle.epx_lines.specs.Text.{data_of_id, data_of_value, data_of_op, object_with};
-ghost use Rattle.epx_lines.specs.Text.{object_of, line_text};
+ghost use Rattle.epx_lines.specs.Text.{object_of, line_text, op_pair, op_triple};
 ghost use Rattle.epx_lines.specs.inner.WrittenParts.{IsWritableId, IsWritableValue, IsWritableOp};
 ghost use Rattle.epx_lines.specs.inner.WrittenParts.{FitNumbers, IsWritableEntry};
 ghost use Rattle.epx_lines.specs.Meaning.{max_line_bytes, meaning_of};
 ghost use Rattle.epx_lines.specs.declared.Line.TheVariants as line;
 
-use epx_types::{Entry, Id, Memory, Op};
+use epx_types::{Entry, Id, Key, Memory, Op};
 use serde_json::{Value, json};
 use std::alloc::{AllocError, Global};
 
@@ -44,6 +45,30 @@ fn value_or_null(value: Option<i64>) -> Value
     }
 }
 
+/// A name and a key, as an array.
+fn name_and_key(alloc: Global, name: &str, key: &Key) -> Result<Value, AllocError>
+    ensures data { IfOk result (λ v. view v ≡ op_pair name.now key.now) }
+    ensures fits { OnOk result (FitsKey key.now) }
+{
+    json!(in alloc; [name, key.text()])
+}
+
+/// A name, a key and an argument, as an array.
+fn with_argument(alloc: Global, name: &str, key: &Key, argument: Value) -> Result<Value, AllocError>
+    ensures data { IfOk result (λ v. view v ≡ op_triple name.now key.now (view argument)) }
+    ensures fits { OnOk result (FitsKey key.now) }
+{
+    json!(in alloc; [name, key.text(), argument])
+}
+
+/// A key, as a JSON value.
+fn key_value(alloc: Global, key: &Key) -> Result<Value, AllocError>
+    ensures data { IfOk result (λ v. view v ≡ string key.now) }
+    ensures fits { OnOk result (FitsKey key.now) }
+{
+    Ok(Value::String(String::from_str(alloc, key.text())?))
+}
+
 /// An operation, as an array of its name, its key and, if it has one, its argument.
 #[tactic(auto, unfolding(crate::specs::Text::data_of_op))]
 fn op_value(alloc: Global, op: &Op) -> Result<Value, AllocError>
@@ -51,13 +76,15 @@ fn op_value(alloc: Global, op: &Op) -> Result<Value, AllocError>
     ensures fits { OnOk result (IsWritableOp op.now) }
 {
     match op {
-        Op::Get { key } => json!(in alloc; ["get", key.text()]),
-        Op::Put { key, value } => json!(in alloc; ["put", key.text(), number_value(value)]),
-        Op::Del { key } => json!(in alloc; ["del", key.text()]),
-        Op::Add { key, amount } => json!(in alloc; ["add", key.text(), number_value(amount)]),
-        Op::Is { key, value } => json!(in alloc; ["is", key.text(), value_or_null(*value)]),
-        Op::Floor { key, least } => json!(in alloc; ["floor", key.text(), number_value(least)]),
-        Op::Copy { source, target } => json!(in alloc; ["copy", source.text(), target.text()]),
+        Op::Get { key } => name_and_key(alloc, "get", key),
+        Op::Put { key, value } => with_argument(alloc, "put", key, number_value(value)),
+        Op::Del { key } => name_and_key(alloc, "del", key),
+        Op::Add { key, amount } => with_argument(alloc, "add", key, number_value(amount)),
+        Op::Is { key, value } => with_argument(alloc, "is", key, value_or_null(*value)),
+        Op::Floor { key, least } => with_argument(alloc, "floor", key, number_value(least)),
+        Op::Copy { source, target } => {
+            with_argument(alloc, "copy", source, key_value(alloc, target)?)
+        }
     }
 }
 

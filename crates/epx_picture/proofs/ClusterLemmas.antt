@@ -9,7 +9,7 @@ use Rattle.epx_graph.proofs.Common.{DependencyGraph, edges_of, IsGraphOf, NodeRe
 use Rattle.epx_graph.proofs.Common.{slice_get-id_of_node}
 use Rattle.epx_graph.proofs.Common.{ids-is_unique, NodeReaches-iff, NodeReaches-exists}
 use Rattle.epx_components.specs.declared.node_ranks.NodeRank.{NodeRank}
-use Rattle.epx_components.specs.between.NodeComponents.{InOneNodeComponent, IsNodeLeader}
+use Rattle.epx_components.specs.NodeComponents.{InOneNodeComponent, IsNodeLeader}
 use Rattle.epx_components.specs.between.NodeRanks.{IsNodeRank}
 use Rattle.epx_components.proofs.InstanceLeaderLemmas.{IsLeader-from_node}
 use Rattle.epx_components.proofs.NodePathLemmas.{NodeReaches-trans}

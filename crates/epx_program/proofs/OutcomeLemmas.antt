@@ -15,7 +15,7 @@ use Rattle.epx_names.specs.declared.task.Task.TheVariants.{Replay, Verify, Linea
 use Rattle.epx_tool.specs.Findings.{AnswersFinding, IsFindingText}
 use Rattle.epx_tool.specs.TaskAnswers.{AnswersLogs, IsBadInput}
 use Rattle.epx_tool.specs.TaskTexts.{IsTaskText}
-use Rattle.epx_tool.specs.RunEndings.{WritesAnswer, EndsRun, EndsRunWithInput}
+use Rattle.epx_tool.specs.RunEndings.{SinkRun, WritesAnswer, EndsRun, EndsRunWithInput}
 use Rattle.epx_merge.specs.ReadingRefusals.{AreBytesOf}
 use Rattle.epx_tool.specs.RunsWithInput.{IsRunFaultWithInput}
 use Rattle.epx_tool.specs.WithInput.{AnswersWithInput}
@@ -100,29 +100,29 @@ same_error : {A B : Type 0} (fault other : Fault) → IsErrOf {T = A} (Err fault
 same_error fault other is = let named : fault ≡ other = cc is in ap Err named
 
 -- what a task over known texts comes to, by the run over them that wrote its answer
-task_answered : {Given T : Type 0} {OfKnown : (Given → Type 0) → Type 0}
+task_answered : {Given : Type 0} {OfKnown : (Given → Type 0) → Type 0}
     {Answer : Given → List ℕ → Type 0} {IsFault : Given → Fault → Type 0}
-    {Delivered : (List ℕ → Type 0) → Type 0} {Ends : Fault → Type 0} {W : SinkModel T}
-    {old new : T} (found : Bool)
-    → WritesAnswer OfKnown Answer IsFault Delivered Ends W old new (Ok tt)
+    {Delivered : (List ℕ → Type 0) → Type 0} {Ends : Fault → Type 0} {sink : SinkRun}
+    (found : Bool)
+    → WritesAnswer OfKnown Answer IsFault Delivered Ends sink (Ok tt)
     → (task : Task) (texts : List (List ℕ)) (given : Given)
     → ((P : Given → Type 0) → OfKnown P → P given)
     → ((text : List ℕ) → Answer given text → IsTaskFinding task found texts text)
-    → IsTaskResult task texts (Ok found) (W.contents old) (W.contents new)
+    → IsTaskResult task texts (Ok found) sink.before sink.after
 task_answered found run task texts given known answers =
     let w = known _ run.text in (w.0, answers w.0 w.1, w.2)
 
 -- what a task over known texts comes to, by the run over them that ended with a fault
-task_refused : {Given T : Type 0} {OfKnown : (Given → Type 0) → Type 0}
+task_refused : {Given : Type 0} {OfKnown : (Given → Type 0) → Type 0}
     {Answer : Given → List ℕ → Type 0} {IsFault : Given → Fault → Type 0}
-    {Delivered : (List ℕ → Type 0) → Type 0} {Ends : Fault → Type 0} {W : SinkModel T}
-    {old new : T} (fault : Fault)
-    → WritesAnswer OfKnown Answer IsFault Delivered Ends W old new (Err fault)
+    {Delivered : (List ℕ → Type 0) → Type 0} {Ends : Fault → Type 0} {sink : SinkRun}
+    (fault : Fault)
+    → WritesAnswer OfKnown Answer IsFault Delivered Ends sink (Err fault)
     → (task : Task) (texts : List (List ℕ)) (given : Given)
     → ((P : Given → Type 0) → OfKnown P → P given)
     → ((text : List ℕ) → Answer given text → IsTaskAnswer task texts (Ok text))
     → (IsFault given fault → IsTaskFault task texts fault)
-    → IsTaskResult task texts (Err fault) (W.contents old) (W.contents new)
+    → IsTaskResult task texts (Err fault) sink.before sink.after
 task_refused fault run task texts given known answers faults = record {
   named = faults (known _ run.refusal);
   part = λ is. let w = known _ (run.prefix (ap Err is)) in (w.0, answers w.0 w.1, w.2);

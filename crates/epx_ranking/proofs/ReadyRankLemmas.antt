@@ -7,7 +7,7 @@ use Rattle.epx_types.proofs.Common.{IsReady, Contains-nil}
 use Rattle.epx_types.specs.declared.id.Id.{Id}
 use Rattle.epx_graph.proofs.Common.{DependencyGraph, IsGraph, IsGraphOf, ids-is_unique}
 use Rattle.epx_graph.proofs.Common.{slice_get-if_committed}
-use Rattle.epx_components.specs.between.Ranks.{ranked}
+use Rattle.epx_components.specs.Ranks.{ranked}
 use Rattle.epx_ranking.specs.inner.ReadyRanks.{AreReadyRanks}
 use Rattle.epx_components.specs.declared.rank.Rank.{Rank}
 

@@ -15,7 +15,7 @@ use Rattle.epx_types.specs.declared.id.Id.{Id}
 use Rattle.std.specs.List.Sorted.{IsSortedBy}
 use Rattle.epx_types.specs.contracts.id.IdPartialEq.TheImpl as id_eq
 use Rattle.epx_types.proofs.lists.ListPositionLemmas.{slice_get-map}
-use Rattle.epx_components.specs.between.Ranks.{ranked, ranked_all}
+use Rattle.epx_components.specs.Ranks.{ranked, ranked_all}
 use Rattle.epx_ranking.specs.inner.ReadyRanks.{AreReadyRanks}
 use Rattle.epx_components.specs.declared.rank.Rank.{Rank}
 

@@ -8,7 +8,7 @@ ghost use Rattle.epx_types.specs.ExecutionOrder.{IsRanked};
 ghost use Rattle.epx_types.specs.Instances.{Instance};
 ghost use Rattle.epx_types.specs.Readiness.{IsReady};
 ghost use Rattle.epx_graph.specs.GraphOf.{IsGraphOfRest, IsGraphOf};
-ghost use Rattle.epx_components.specs.between.Ranks.{ranked};
+ghost use Rattle.epx_components.specs.Ranks.{ranked};
 ghost use Rattle.epx_ranking.specs.inner.ReadyRanks.{AreReadyRanks};
 ghost use Rattle.epx_components.specs.between.NodeRanks.{IsNodeRank};
 

@@ -70,48 +70,51 @@ fn write_and_find<'a, R: Threads + Sync>(
     Ok((text, commands))
 }
 
-/// What is left after a batch is executed: the text so far, the store, the replies of the batch,
-/// and the commands of the next.
+/// Where a replay is between two batches: the text so far, the store, the replies of the batch
+/// before, and the commands of the one to come.
 #[derive(Drop)]
-struct Executed<'a> {
+struct BatchStep<'a> {
     text: Vec<u8>,
     store: Store,
     replies: Vec<Reply>,
-    next: Vec<Command<'a>>,
+    commands: Vec<Command<'a>>,
 }
 
-/// Executes commands. Meanwhile the plan's workers write the reply lines of earlier instances, and
-/// find the commands of later ones.
+/// Executes the commands of a batch. Meanwhile the plan's workers write the reply lines of the
+/// batch before, which are of these instances, and find the commands of the later ones.
 fn run_and_write<'a, R: Threads + RandomSource + Sync>(
     rt: &R,
     alloc: Global,
     plan: Plan,
-    text: Vec<u8>,
     merged: &'a Merged,
-    store: Store,
-    commands: Vec<Command<'a>>,
+    step: BatchStep<'a>,
     ids: &[Id],
-    replies: Vec<Reply>,
     later: &[Id],
-) -> Result<Executed<'a>, Memory>
+) -> Result<BatchStep<'a>, Memory>
     requires few { (length ids.now ≤ 2 ^ 40) × (length later.now ≤ 2 ^ 40) }
-    requires few_now { length commands.items ≤ 2 ^ 40 }
-    requires same { length replies.items ≡ length ids.now }
+    requires few_now { length step.commands.items ≤ 2 ^ 40 }
+    requires same { length step.replies.items ≡ length ids.now }
     ensures text { IfOk result (λ v. v.text.items
-        ≡ text.items ++ flat_map reply_line (zip ids.now replies.items)) }
-    ensures ran { IfOk result (λ v. Executes (map (λ c. c.ops.now) commands.entry.items)
-        store v.store v.replies.items) }
-    ensures found { IfOk result (λ v. map (λ c. c.ops.now) v.next.items
+        ≡ step.entry.text.items ++ flat_map reply_line (zip ids.now step.entry.replies.items)) }
+    ensures ran { IfOk result (λ v. Executes (map (λ c. c.ops.now) step.entry.commands.items)
+        step.entry.store v.store v.replies.items) }
+    ensures found { IfOk result (λ v. map (λ c. c.ops.now) v.commands.items
         ≡ commands_in merged.now later.now) }
 {
+    let BatchStep {
+        text,
+        store,
+        replies,
+        commands,
+    } = step;
     if plan.workers() == 1 {
         let (text, next) = write_and_find(rt, alloc, plan, text, merged, ids, replies, later)?;
         let (store, replies) = run_from(rt, alloc, store, &commands, plan, &FreeGate)?;
-        return Ok(Executed {
+        return Ok(BatchStep {
             text,
             store,
             replies,
-            next,
+            commands: next,
         });
     }
     // The last closure runs in this thread. The keys that it copies are freed here in the end.
@@ -132,12 +135,12 @@ fn run_and_write<'a, R: Threads + RandomSource + Sync>(
         { run_from(rt, alloc, store, &commands, plan, &FreeGate) },
     );
     let (store, replies) = ran?;
-    let (text, next) = found?;
-    Ok(Executed {
+    let (text, commands) = found?;
+    Ok(BatchStep {
         text,
         store,
         replies,
-        next,
+        commands,
     })
 }
 
@@ -172,26 +175,27 @@ pub fn replay<R: Threads + RandomSource + Sync>(
         store v.0 text.items v.1.items) }
 {
     let len = batch_len(plan, ids.len());
-    let (mut store, mut text) = (store, text);
-    let mut replies = Vec::new(alloc);
     // The instances before `end` are executed, and the reply lines of those before `start` are
     // written. The commands of those from `end` up to `next` are found.
     let (mut start, mut end, mut next) = (0, 0, len.min(ids.len()));
-    let mut commands = all_commands(rt, alloc, merged, &ids[..next], plan)?;
+    let mut step = BatchStep {
+        text,
+        store,
+        replies: Vec::new(alloc),
+        commands: all_commands(rt, alloc, merged, &ids[..next], plan)?,
+    };
     while end < ids.len() {
         let after = (next + len).min(ids.len());
         let (written, later) = (&ids[start..end], &ids[next..after]);
-        let executed = run_and_write(
-            rt, alloc, plan, text, merged, store, commands, written, replies, later,
-        )?;
-        Executed {
-            text,
-            store,
-            replies,
-            next: commands,
-        } = executed;
+        step = run_and_write(rt, alloc, plan, merged, step, written, later)?;
         (start, end, next) = (end, next, after);
     }
+    let BatchStep {
+        text,
+        store,
+        replies,
+        commands: _,
+    } = step;
     let text = append_lines(rt, alloc, plan, text, &ids[start..end], &replies)?;
     Ok((store, text))
 }

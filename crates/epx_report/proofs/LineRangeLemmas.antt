@@ -18,7 +18,7 @@ use Rattle.serde_json.specs.Find.{get, get_member, as_str, as_number, as_u64, as
 use Rattle.epx_types.specs.declared.op.Op.TheVariants as op
 use Rattle.epx_lines.specs.declared.Line.{Line}
 use Rattle.epx_lines.specs.declared.Line.TheVariants.{Entry}
-use Rattle.epx_lines.specs.Elements.{below, whole, signed, list_of, elements, at_most, every}
+use Rattle.epx_lines.specs.Elements.{if_below, whole, signed, list_of, elements, at_most, every}
 use Rattle.epx_lines.specs.Elements.{each_of_at_most}
 use Rattle.epx_lines.specs.DependencyList.{id_of_pair, id_of, is_other, rising_others, deps_of}
 use Rattle.epx_lines.specs.OperationList.{key_from, key_of, op_with_key, op_with_value}
@@ -102,7 +102,8 @@ IfSome-signed d h =
 whole_below : (bound : ℕ) (d : Data) → IfSome (whole bound d) (λ n. n < bound)
 unfolding whole
 whole_below bound d =
-    IfSome-and_then (λ _. ⊤) (λ n. n < bound) (below bound) (option_and_then as_u64 (as_number d))
+    IfSome-and_then (λ _. ⊤) (λ n. n < bound) (if_below bound)
+    (option_and_then as_u64 (as_number d))
     (IfSome-trivial _)
     (λ n _. IfSome-test (λ m. m < bound) (nat_lt n bound) _ _ (λ e. ltb-true _ _ e) (λ _. tt))
 

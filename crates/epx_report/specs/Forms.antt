@@ -8,7 +8,7 @@ use Rattle.serde_json.specs.Data.{Data, string}
 use Rattle.serde_json.specs.Find.{as_str}
 use Rattle.epx_types.specs.declared.id.Id.{Id}
 use Rattle.epx_lines.specs.Meaning.{max_line_bytes, json_of}
-use Rattle.epx_lines.specs.Elements.{below, whole, signed, elements}
+use Rattle.epx_lines.specs.Elements.{if_below, whole, signed, elements}
 use Rattle.epx_lines.specs.DependencyList.{id_of_pair}
 use Rattle.epx_lines.specs.OperationList.{key_of, value_or_null}
 use Rattle.epx_report.specs.declared.from_value.Counts.{Counts}
@@ -63,7 +63,7 @@ is_value_list d = are_few_values (elements d)
 
 -- the index of an operation: a whole number below 64
 unfoldable pub is_op_index : Data → Bool
-is_op_index d = is_some (option_and_then (below 64) (whole (2 ^ 64) d))
+is_op_index d = is_some (option_and_then (if_below 64) (whole (2 ^ 64) d))
 
 -- `"ok",[v,..]` or `"abort",j`
 unfoldable pub is_outcome : Data → Data → Bool

@@ -2,7 +2,7 @@
 use Rattle.std.proofs.Common.{◌≡◌, ℕ, ◌+◌, ◌-◌, ◌≤◌, List, [], ◌∷◌, ◌++◌, length, take, drop, map}
 use Rattle.std.proofs.Common.{All, refl, sym, ap, subst, ◌∙◌, arith, slice_range}
 use Rattle.epx_types.proofs.Common.{drop-append-add, length-append, All-from_get_or}
-use Rattle.epx_rows.specs.inner.RowEnds.{rows_from, AreRowEnds}
+use Rattle.epx_rows.specs.RowEnds.{rows_from, AreRowEnds}
 use Rattle.epx_rows.proofs.RowLemmas.{slice_range-append, AreRowEnds-start_within, AreRowEnds-rise}
 
 -- a part of the second list is in both lists together, moved by the length of the first

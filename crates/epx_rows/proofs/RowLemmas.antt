@@ -4,7 +4,7 @@ use Rattle.std.proofs.Common.{take, drop, get_or, refl, sym, ap, ◌∙◌, arit
 use Rattle.epx_types.proofs.Common.{concat, length-drop, take_all, drop_all, drop-drop}
 use Rattle.epx_types.proofs.Common.{take-append-drop, take-append-le, drop-append-le}
 use Rattle.epx_rows.specs.between.Rows.{row_of}
-use Rattle.epx_rows.specs.inner.RowEnds.{rows_from, AreRowEnds}
+use Rattle.epx_rows.specs.RowEnds.{rows_from, AreRowEnds}
 
 pub length-rows_from : (start : ℕ) (ends numbers : List ℕ)
     → length (rows_from start ends numbers) ≡ length ends

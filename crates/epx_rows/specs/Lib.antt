@@ -1,2 +1,3 @@
+pub mod RowEnds
 pub mod between
 pub mod inner

@@ -1,3 +1,2 @@
 -- Words of private clauses: no public contract speaks of them.
-pub mod RowEnds
 pub mod Slots

@@ -19,7 +19,7 @@ pub struct OpenRow {
 impl Model for OpenRow {
     ghost use Rattle.std.specs.Prelude.{◌≤◌, length, drop};
     ghost use Rattle.epx_rows.specs.between.OpenRows.{OpenRowView};
-    ghost use Rattle.epx_rows.specs.inner.RowEnds.{rows_from, AreRowEnds};
+    ghost use Rattle.epx_rows.specs.RowEnds.{rows_from, AreRowEnds};
 
     ghost Value = { OpenRowView };
 

@@ -19,7 +19,7 @@ pub struct Rows {
 
 impl Model for Rows {
     ghost use Rattle.std.specs.Prelude.{ℕ, List, length};
-    ghost use Rattle.epx_rows.specs.inner.RowEnds.{rows_from, AreRowEnds};
+    ghost use Rattle.epx_rows.specs.RowEnds.{rows_from, AreRowEnds};
 
     ghost Value = { List (List ℕ) };
 

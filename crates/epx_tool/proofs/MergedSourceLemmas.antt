@@ -21,7 +21,7 @@ module _ {S T : Type 0} (D : SourceModel S) (W : SinkModel T)
   pub EndsRun-refused : (fault : Fault) → IsLogAnswer Answer → W.has_failed was ≡ false
       → EndsMaking D Answer old new (Err fault) → EndsRun D W Answer old new was was (Err fault)
   EndsRun-refused fault own well (inl read) = record {
-    sink = WritesAnswer-nothing _ _ _ _ _ _ _ fault well
+    sink = WritesAnswer-nothing _ _ _ _ _ W was fault well
         (λ is. read.nothing_written (IsErrOf-again fault Write is))
         (λ logs are. own.of_reading logs fault (read.refusal logs are))
         (inl read.stopped);
@@ -30,7 +30,7 @@ module _ {S T : Type 0} (D : SourceModel S) (W : SinkModel T)
   EndsRun-refused fault own well (inr (logs, read, refused)) =
       let of_lines = own.of_lines logs fault read.fit refused in
       let has = HasRead-of_lines {T = Unit {0}} (length old) fault of_lines in record {
-        sink = WritesAnswer-nothing _ _ _ _ _ _ _ fault well
+        sink = WritesAnswer-nothing _ _ _ _ _ W was fault well
             (IsErrOf-lines_not_write (length old) fault of_lines)
             (λ given are. subst (λ ls. IsFaultOfRun Answer ls fault) (read.bytes given are)
             (IsFaultOfRun-of_lines Answer logs fault of_lines refused))
@@ -48,7 +48,7 @@ module _ {S T : Type 0} (D : SourceModel S) (W : SinkModel T)
       → AppendsPrefix (W.contents was) (W.contents now) text
       → EndsRun D W Answer old new was now done
   EndsRun-written now text done (logs, read, answer) bytes flushed faults failed prefix = record {
-    sink = WritesAnswer-text _ _ _ _ _ _ _ now text done
+    sink = WritesAnswer-text _ _ _ _ _ W was now text done
         (λ P known given are. known given
         (subst (λ (ls : List (List ℕ)). Answer ls (Ok text)) (read.bytes given are) answer))
         (λ Written written. record {

@@ -4,7 +4,7 @@ use Rattle.epx_devices.specs.Models.{SinkModel, SourceModel}
 use Rattle.epx_names.specs.declared.task.Task.{Task}
 use Rattle.epx_names.specs.declared.task.Task.TheVariants.{Compare}
 use Rattle.epx_tool.specs.Findings.{AnswersFinding, IsFindingText}
-use Rattle.epx_tool.specs.RunEndings.{EndsRun, EndsRunWithInput}
+use Rattle.epx_tool.specs.RunEndings.{EndsRun, EndsRunWithInput, sink_run}
 use Rattle.epx_tool.specs.TaskAnswers.{AnswersLogs, IsBadInput}
 use Rattle.epx_tool.specs.TaskTexts.{IsTaskText}
 use Rattle.epx_tool.specs.WithInput.{AnswersWithInput}
@@ -33,7 +33,8 @@ module _ {S : Type 0} (D : SourceModel S) (task : Task) (found : Bool) (old new 
       → EndsRun D W (AnswersFinding task found) old new was now (Ok tt)
       → EndsRun D W (AnswersLogs task) old new was now (Ok tt)
   EndsRun-plain W was now run = record {
-    sink = WritesAnswer-weaker _ _ _ _ _ _ _ _ _ W was now (λ P Q f h logs are. f logs (h logs are))
+    sink = WritesAnswer-weaker _ _ _ _ _ _ _ _ _ (sink_run W was now)
+        (λ P Q f h logs are. f logs (h logs are))
         (AnswersLogs-plain task found)
         (λ h. record {
           logs = h.logs;
@@ -60,7 +61,7 @@ module _ {S : Type 0} (D : SourceModel S) (task : Task) (found : Bool) (old new 
         → EndsRunWithInput E D W (IsBadInput task) (IsTaskText task) first last old new was now
         (Ok tt)
     EndsRunWithInput-plain W was now run = record {
-      sink = WritesAnswer-weaker _ _ _ _ _ _ _ _ _ W was now
+      sink = WritesAnswer-weaker _ _ _ _ _ _ _ _ _ (sink_run W was now)
           (λ P Q f h input logs is are. f (input, logs) (h input logs is are))
           (λ given text. AnswersWithInput-plain task found given.0 given.1 text)
           (λ h. record {

@@ -7,7 +7,7 @@ use Rattle.epx_types.specs.declared.fault.Fault.TheVariants.{TooManyLogs, Read, 
 use Rattle.std.proofs.lemmas.Result.{IfErr-weaker}
 use Rattle.epx_devices.specs.Devices.{failed_after}
 use Rattle.epx_devices.specs.Transfers.{AppendsPrefix}
-use Rattle.epx_tool.specs.RunEndings.{WritesAnswer}
+use Rattle.epx_tool.specs.RunEndings.{SinkRun, WritesAnswer, sink_run}
 use Rattle.epx_merge.specs.SourceEndings.{LeavesSources}
 use Rattle.epx_tool.specs.Sources.{LeavesInput}
 use Rattle.epx_merge.proofs.ConsumedLemmas.{length-consumed}
@@ -94,7 +94,7 @@ module _ {Given T : Type 0} (OfKnown : (Given → Type 0) → Type 0)
   pub WritesAnswer-nothing : (fault : Fault) → W.has_failed was ≡ false
       → ¬ IsErrOf {T = Unit {0}} (Err fault) Write → OfKnown (λ given. IsFault given fault)
       → Ends fault
-      → WritesAnswer OfKnown Answer IsFault Delivered Ends W was was (Err fault)
+      → WritesAnswer OfKnown Answer IsFault Delivered Ends (sink_run W was was) (Err fault)
   WritesAnswer-nothing fault well other refusal refused = record {
     text = tt;
     answered = tt;
@@ -116,7 +116,7 @@ module _ {Given T : Type 0} (OfKnown : (Given → Type 0) → Type 0)
       → OnOk done (W.is_flushed now ≡ true)
       → IfErr done (λ fault. fault ≡ Write) → IsErr done ↔ (W.has_failed now ≡ true)
       → AppendsPrefix (W.contents was) (W.contents now) text
-      → WritesAnswer OfKnown Answer IsFault Delivered Ends W was now done
+      → WritesAnswer OfKnown Answer IsFault Delivered Ends (sink_run W was now) done
   WritesAnswer-text now text done known delivered faulty bytes flushed faults failed prefix =
       record {
         text = on_ok_weaker done (λ written. known _ (λ given is. (text, is, written))) bytes;
@@ -132,17 +132,16 @@ module _ {Given T : Type 0} (OfKnown : (Given → Type 0) → Type 0)
       }
 
 -- a text that was written whole, as a weaker answer
-module _ {Given T : Type 0} (OfKnown : (Given → Type 0) → Type 0)
+module _ {Given : Type 0} (OfKnown : (Given → Type 0) → Type 0)
     (Answer Weaker : Given → List ℕ → Type 0) (IsFault IsOther : Given → Fault → Type 0)
     (Delivered Others : (List ℕ → Type 0) → Type 0) (Ends Stops : Fault → Type 0)
-    (W : SinkModel T) (was now : T) where
+    (sink : SinkRun) where
   pub WritesAnswer-weaker :
       (((P Q : Given → Type 0) → ((given : Given) → P given → Q given) → OfKnown P
       → OfKnown Q)) → ((given : Given) (text : List ℕ) → Answer given text → Weaker given text)
-      → (Delivered (Appends (W.contents was) (W.contents now))
-      → Others (Appends (W.contents was) (W.contents now)))
-      → WritesAnswer OfKnown Answer IsFault Delivered Ends W was now (Ok tt)
-      → WritesAnswer OfKnown Weaker IsOther Others Stops W was now (Ok tt)
+      → (Delivered (Appends sink.before sink.after) → Others (Appends sink.before sink.after))
+      → WritesAnswer OfKnown Answer IsFault Delivered Ends sink (Ok tt)
+      → WritesAnswer OfKnown Weaker IsOther Others Stops sink (Ok tt)
   WritesAnswer-weaker known weaker delivered run = record {
     text = known _ _ (λ given h. (h.0, weaker given h.0 h.1, h.2)) run.text;
     answered = delivered run.answered;

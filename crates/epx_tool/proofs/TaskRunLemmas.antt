@@ -35,7 +35,7 @@ module _ {I S T : Type 0} (E : SourceModel I) (D : SourceModel S) (W : SinkModel
         → EndsMakingBoth E D (AnswersWithInput IsBad Is) first last old new (Err fault)
         → EndsRunWithInput E D W IsBad Is first last old new was was (Err fault)
     both_refused fault well (inl read) = record {
-      sink = WritesAnswer-nothing _ _ _ _ _ _ _ fault well
+      sink = WritesAnswer-nothing _ _ _ _ _ W was fault well
           (λ is. read.nothing_written (IsErrOf-again fault Write is))
           (λ given logs known are. IsRunFaultWithInput-reading logs given IsBad Is fault
           (read.refusal given logs known are))
@@ -47,7 +47,7 @@ module _ {I S T : Type 0} (E : SourceModel I) (D : SourceModel S) (W : SinkModel
         let n = length old + 1 in
         let has = HasRead-refused_with_input n logs fault read.fit IsBad input read.short refused
         in record {
-          sink = WritesAnswer-nothing _ _ _ _ _ _ _ fault well
+          sink = WritesAnswer-nothing _ _ _ _ _ W was fault well
               (IsErrOf-refusal_not_write IsBad input logs fault refused)
               (λ given others known are.
               subst (λ ls. IsRunFaultWithInput IsBad Is given ls fault) (read.bytes others are)
@@ -75,7 +75,7 @@ module _ {I S T : Type 0} (E : SourceModel I) (D : SourceModel S) (W : SinkModel
     both_written now text done (input, logs, read, answer) bytes flushed faults failed prefix =
         let n = length old + 1 in
         let has = HasRead-written n done faults in record {
-          sink = WritesAnswer-text _ _ _ _ _ _ _ now text done
+          sink = WritesAnswer-text _ _ _ _ _ W was now text done
               (λ P known given others is are. known (given, others)
               (subst (λ ls. AnswersWithInput IsBad Is given ls (Ok text)) (read.bytes others are)
               (subst (λ bytes. AnswersWithInput IsBad Is bytes logs (Ok text))

@@ -26,7 +26,7 @@ pub use Rattle.epx_devices.specs.Reads
 pub use Rattle.epx_devices.specs.Models
 pub use Rattle.epx_devices.specs.MemoryDevices
 pub use Rattle.epx_devices.specs.DeviceStates
-pub use Rattle.epx_devices.specs.between.Fuses
+pub use Rattle.epx_devices.specs.Fuses
 pub use Rattle.epx_devices.specs.Transfers
 pub use Rattle.epx_devices.specs.Deliveries
 pub use Rattle.epx_words.specs.App

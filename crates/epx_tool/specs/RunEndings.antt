@@ -1,6 +1,6 @@
 -- How a run ends: what it writes, and how it leaves its sources.
-use Rattle.std.specs.Prelude.{◌≡◌, ◌≢◌, ◌↔◌, ℕ, Bool, true, List, length, Some, Result}
-use Rattle.std.specs.Prelude.{Ok, Err, OnOk, IfErr, IsErrOf, MatchResult}
+use Rattle.std.specs.Prelude.{◌≡◌, ◌≢◌, ◌↔◌, ℕ, Bool, true, List, length, Option, Some}
+use Rattle.std.specs.Prelude.{Result, Ok, Err, OnOk, IfErr, IsErrOf, MatchResult}
 use Rattle.std.specs.Io.KnownBytes.{Appends, Keeps}
 use Rattle.epx_types.specs.declared.fault.Fault.{Fault}
 use Rattle.epx_types.specs.declared.fault.Fault.TheVariants.{Write}
@@ -21,27 +21,46 @@ use Rattle.epx_merge.specs.SourceEndings.{LeavesSources}
 use Rattle.epx_tool.specs.Sources.{LeavesInput}
 use Rattle.epx_tool.specs.WithInput.{AnswersWithInput}
 
+-- what is seen of a sink over a run
+pub record SinkRun : Type 0 where
+  -- the bytes that it had accepted before and has accepted after, if they are known
+  pub before : Option (List ℕ)
+  pub after : Option (List ℕ)
+  -- whether it buffers none of them afterwards
+  pub is_flushed : Bool
+  -- whether a call of it has returned an error by then
+  pub has_failed : Bool
+
+-- what a model sees of a sink that was in one state before a run and is in another after it
+abbrev pub sink_run : {T : Type 0} → SinkModel T → T → T → SinkRun
+sink_run W was now = record {
+  before = W.contents was;
+  after = W.contents now;
+  is_flushed = W.is_flushed now;
+  has_failed = W.has_failed now;
+}
+
 -- A run writes an answer or ends with a fault. `Given` is what it is over, and `OfKnown P` says `P`
 -- of the bytes that the sources had, if they are known. `Delivered` and `Ends` speak of the bytes
--- that the sources delivered. `was` and `now` are the sink before and after.
-pub record WritesAnswer {Given T : Type 0} (OfKnown : (Given → Type 0) → Type 0)
+-- that the sources delivered.
+pub record WritesAnswer {Given : Type 0} (OfKnown : (Given → Type 0) → Type 0)
     (Answer : Given → List ℕ → Type 0) (IsFault : Given → Fault → Type 0)
-    (Delivered : (List ℕ → Type 0) → Type 0) (Ends : Fault → Type 0) (W : SinkModel T)
-    (was now : T) (result : Result (Unit {0}) Fault) : Type 0 where
+    (Delivered : (List ℕ → Type 0) → Type 0) (Ends : Fault → Type 0) (sink : SinkRun)
+    (result : Result (Unit {0}) Fault) : Type 0 where
   -- success: an answer was added to the sink, and all of it was flushed
   pub text : OnOk result (OfKnown (λ given. (text : List ℕ) × Answer given text
-      × Appends (W.contents was) (W.contents now) text))
-  pub answered : OnOk result (Delivered (Appends (W.contents was) (W.contents now)))
-  pub flushed : OnOk result (W.is_flushed now ≡ true)
+      × Appends sink.before sink.after text))
+  pub answered : OnOk result (Delivered (Appends sink.before sink.after))
+  pub flushed : OnOk result (sink.is_flushed ≡ true)
   -- a fault: it is one of such a run, and nothing was added unless it is of the sink
   pub refusal : IfErr result (λ fault. OfKnown (λ given. IsFault given fault))
   pub refused : IfErr result (λ fault. fault ≢ Write → Ends fault)
-  pub nothing : IfErr result (λ fault. fault ≢ Write → Keeps (W.contents was) (W.contents now))
+  pub nothing : IfErr result (λ fault. fault ≢ Write → Keeps sink.before sink.after)
   -- a fault of the sink, which comes exactly if it failed: a prefix of an answer was added
   pub prefix : IsErrOf result Write → OfKnown (λ given. (text : List ℕ) × Answer given text
-      × AppendsPrefix (W.contents was) (W.contents now) text)
-  pub part : IsErrOf result Write → Delivered (AppendsPrefix (W.contents was) (W.contents now))
-  pub written : IsErrOf result Write ↔ (W.has_failed now ≡ true)
+      × AppendsPrefix sink.before sink.after text)
+  pub part : IsErrOf result Write → Delivered (AppendsPrefix sink.before sink.after)
+  pub written : IsErrOf result Write ↔ (sink.has_failed ≡ true)
 
 -- a run over logs that writes this answer ends with this result
 pub record EndsRun {S T : Type 0} (D : SourceModel S) (W : SinkModel T)
@@ -52,7 +71,7 @@ pub record EndsRun {S T : Type 0} (D : SourceModel S) (W : SinkModel T)
       (λ logs text. Answer logs (Ok text)) (IsFaultOfRun Answer)
       (WritesDelivered D Answer old new)
       (EndsRefused D (λ logs fault. Answer logs (Err fault)) old new)
-      W was now result
+      (sink_run W was now) result
   pub sources : LeavesSources D old new result
 
 -- a run over logs and an extra input that writes this answer ends with this result; `first` and
@@ -68,7 +87,7 @@ pub record EndsRunWithInput {I S T : Type 0} (E : SourceModel I) (D : SourceMode
       (λ given fault. IsRunFaultWithInput IsBad Is given.0 given.1 fault)
       (AnswersBoth E D IsBad Is first last old new)
       (EndsWithoutBoth E D IsBad first last old new)
-      W was now result
+      (sink_run W was now) result
   pub sources : LeavesSources D old new result
   pub input : LeavesInput E first last (length old) result
 

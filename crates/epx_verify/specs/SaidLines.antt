@@ -6,7 +6,7 @@ use Rattle.serde_json.specs.Data.{Data}
 use Rattle.epx_types.specs.declared.reply.Reply.{Reply}
 use Rattle.epx_types.specs.declared.reply.Reply.TheVariants.{Values, Abort}
 use Rattle.epx_lines.specs.Meaning.{max_line_bytes, json_of}
-use Rattle.epx_lines.specs.Elements.{below, whole, signed, elements, each_of_at_most}
+use Rattle.epx_lines.specs.Elements.{if_below, whole, signed, elements, each_of_at_most}
 use Rattle.epx_lines.specs.OperationList.{key_of, value_or_null}
 use Rattle.epx_report.specs.Forms.{is_text, id_from}
 use Rattle.epx_verify.specs.declared.said_line.SaidLine.{SaidLine}
@@ -18,7 +18,7 @@ values_of d = each_of_at_most 64 value_or_null d
 
 -- the index of an operation: a whole number below 64
 unfoldable pub op_index_of : Data → Option ℕ
-op_index_of d = option_and_then (below 64) (whole (2 ^ 64) d)
+op_index_of d = option_and_then (if_below 64) (whole (2 ^ 64) d)
 
 -- `"ok",[v,..]` or `"abort",j`
 unfoldable pub reply_of : Data → Data → Option Reply

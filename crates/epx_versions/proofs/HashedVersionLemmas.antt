@@ -6,7 +6,7 @@ use Rattle.indexmap.specs.IndexSet.{insert_key}
 use Rattle.epx_seed.specs.declared.Seed.{Seed}
 use Rattle.epx_versions.specs.declared.hashed_version.HashedVersion.{HashedVersion}
 use Rattle.epx_versions.specs.SameInstances.{same_instance}
-use Rattle.epx_versions.specs.inner.EqualVersions.{instances_decide}
+use Rattle.epx_versions.specs.inner.EqualVersions.{same_instance-decides}
 use Rattle.epx_versions.specs.inner.HashedVersions.{IsHashed, same_hashed}
 use Rattle.epx_versions.specs.between.VersionLists.{hash_by}
 
@@ -30,7 +30,7 @@ module _ (seed : Seed) (v : HashedVersion) (own : IsHashed seed v) where
   same_as : (k : HashedVersion) → k.hash ≡ hash_by seed k.version → (b : Bool)
       → same_instance v.version k.version ≡ b → ((v.hash == k.hash) && b) ≡ b
   same_as k hashed true same =
-      let equal = (instances_decide v.version k.version).0 same in
+      let equal = (same_instance-decides v.version k.version).0 same in
       let hash : v.hash ≡ k.hash = own ∙ (ap (hash_by seed) equal ∙ sym hashed) in
       let yes : (v.hash == k.hash) ≡ true = grind (arith, nat_tests) in
       ap (λ c. c && true) yes

@@ -10,7 +10,7 @@ use Rattle.indexmap.specs.IndexSet.{insert_key}
 use Rattle.indexmap.proofs.SetLemmas.{AllZip-push}
 use Rattle.epx_versions.specs.LineVersions.{versions_of}
 use Rattle.epx_versions.specs.SameInstances.{same_instance}
-use Rattle.epx_versions.specs.inner.EqualVersions.{same_by_test, same_instance_equiv}
+use Rattle.epx_versions.specs.inner.EqualVersions.{same_instance-equal, same_instance_equiv}
 use Rattle.epx_versions.specs.between.NotedRows.{IsRowOf}
 use Rattle.epx_versions.specs.declared.noted.NotedLine.{NotedLine}
 
@@ -20,7 +20,7 @@ module _ (a x : Instance) (ks : List Instance) where
       ≡ (not (same_instance a x) && list_any (same_instance x) ks)
   among_others = any-filter_same (same_instance x) (λ d. not (same_instance a d))
       (not (same_instance a x))
-      (λ d same. ap (λ y. not (same_instance a y)) (sym (same_by_test x d same))) ks
+      (λ d same. ap (λ y. not (same_instance a y)) (sym (same_instance-equal x d same))) ks
 
   insert_cases : (b c : Bool) → same_instance a x ≡ b
       → a ∷ filter (λ d. not (same_instance a d)) (cond c ks (ks ++ x ∷ []))

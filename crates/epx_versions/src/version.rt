@@ -63,7 +63,7 @@ impl Hash for Version {
     ghost use Rattle.std.specs.Hash as fed;
     ghost use Rattle.epx_types.specs.contracts.id.IdHash.TheImpl as id_hash;
     ghost use Rattle.epx_types.specs.contracts.op.OpHash.TheImpl as op_hash;
-    ghost use Rattle.epx_versions.specs.inner.EqualVersions.{same_by_test};
+    ghost use Rattle.epx_versions.specs.inner.EqualVersions.{same_instance-equal};
     ghost use Rattle.std.proofs.Common.{ap};
 
     ghost hash_input = { λ e. id_hash.hash_input-value.it e.id ++ (fed.u64 e.seq
@@ -72,7 +72,7 @@ impl Hash for Version {
 
     ghost respects_eq = { λ d e same. ap (λ x. id_hash.hash_input-value.it x.id ++ (fed.u64 x.seq
         ++ (fed.slice id_hash.hash_input-value.it x.deps
-        ++ fed.slice op_hash.hash_input-value.it x.ops))) (same_by_test d e same) };
+        ++ fed.slice op_hash.hash_input-value.it x.ops))) (same_instance-equal d e same) };
 
     fn hash<H: Hasher>(&self, state: &mut H) {
         self.entry.id().hash(state);

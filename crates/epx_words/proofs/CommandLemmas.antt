@@ -1,5 +1,7 @@
 -- The shape of a clap command after each step of building it.
-use Rattle.std.proofs.Common.{◌≡◌, ◌∙◌, ap, ap₂, true, false, not, is_some}
+use Rattle.std.proofs.Common.{◌≡◌, ◌∙◌, ap, ap₂, true, false, not, is_some, Result}
+use Rattle.std.specs.Prelude.{IfOk}
+use Rattle.std.specs.declared.alloc.AllocError.{AllocError}
 use Rattle.clap.specs.Words.{AddsArg, AddsSubcommand, App, Rule, app_of, rule_of, with_rule}
 use Rattle.clap.specs.Words.{with_subcommand}
 use Rattle.clap.specs.Walk.{is_empty, is_simple_arg}
@@ -7,6 +9,8 @@ use Rattle.clap.specs.declared.builder.arg.Arg.{Arg}
 use Rattle.clap.specs.declared.builder.command.Command.{Command}
 use Rattle.clap.proofs.SimpleLemmas.{is_false, plain_fields}
 use Rattle.clap.proofs.WalkLemmas.{both}
+use Rattle.epx_types.proofs.Common.{IfOk-at_ok}
+use Rattle.epx_words.specs.inner.Making.{HasMade}
 
 -- a simple argument is not global
 simple_is_local : (a : Arg) → is_simple_arg a ≡ true → a.global ≡ false
@@ -36,3 +40,11 @@ pub app_of-with_command : (old sub new : Command) (app below : App) → AddsSubc
 app_of-with_command old sub new app below added before is plain =
     added.shape (plain_fields sub (ap (λ (a : App). a.top.is_plain) is ∙ plain)).globals
     ∙ ap₂ with_subcommand before (ap (λ (a : App). a.top) is)
+
+-- a program with a subcommand that was made
+pub app_of-with_made : (old new : Command) (made : Result Command AllocError) (app below : App)
+    → HasMade old made new → app_of old ≡ app → IfOk made (λ s. app_of s ≡ below)
+    → below.top.is_plain ≡ true → app_of new ≡ with_subcommand app below.top
+app_of-with_made old new made app below has before each plain =
+    app_of-with_command old has.subcommand new app below has.added before
+    (IfOk-at_ok (λ s. app_of s ≡ below) has.is_made each) plain

@@ -149,8 +149,8 @@ no_follow : (name : Text) → IsTaskName name → ¬ (name ≡ codes "follow")
 no_follow name is e = not_one_of (codes "follow") task_names refl (subst IsTaskName e is)
 
 -- two texts that differ
-apart : (a b : Text) → bytes_eq a b ≡ false → ¬ (a ≡ b)
-apart a b differ is = true≢false (sym ((bytes_eq-Decides a b).1 is) ∙ differ)
+bytes_eq-false : (a b : Text) → bytes_eq a b ≡ false → ¬ (a ≡ b)
+bytes_eq-false a b differ is = true≢false (sym ((bytes_eq-Decides a b).1 is) ∙ differ)
 
 linear_first : NeedsFirst (codes "linear")
 linear_first = inr (inr (inr (inl refl)))
@@ -262,7 +262,7 @@ module _ (rest : List Text) where
         λ has. absurd (no_first (codes "follow") refl has),
         λ e. HasFlag-absent (codes "exit-code") follow_leaf
             (refl, (refl, (refl, (refl, (refl, (refl, (refl, (refl, (refl, tt))))))))) rest none,
-        λ e. absurd (apart (codes "follow") (codes "linear") refl e),
+        λ e. absurd (bytes_eq-false (codes "follow") (codes "linear") refl e),
       )
 
 -- the names of the tasks from `check` on
@@ -276,12 +276,12 @@ later_works n rest (inl is) =
     named n (codes "check") rest is
     (λ none. first_work (leaf_of (list_app (codes "check"))) (codes "check") rest is_check
     (list_numbers (codes "check") rest none) (λ e. e)
-    (λ e. absurd (apart (codes "check") (codes "linear") refl e)) none)
+    (λ e. absurd (bytes_eq-false (codes "check") (codes "linear") refl e)) none)
 later_works n rest (inr (inl is)) =
     named n (codes "verify") rest is
     (λ none. first_work (leaf_of (base_app (codes "verify"))) (codes "verify") rest is_verify
     (base_numbers (codes "verify") rest none) (λ e. e)
-    (λ e. absurd (apart (codes "verify") (codes "linear") refl e)) none)
+    (λ e. absurd (bytes_eq-false (codes "verify") (codes "linear") refl e)) none)
 later_works n rest (inr (inr (inl is))) =
     named n (codes "linear") rest is
     (λ none. first_work (leaf_of (linear_app (codes "linear"))) (codes "linear") rest is_linear
@@ -291,7 +291,7 @@ later_works n rest (inr (inr (inr (inl is)))) =
     named n (codes "replay") rest is
     (λ none. first_work (leaf_of (input_app (codes "replay"))) (codes "replay") rest is_replay
     (input_numbers (codes "replay") rest none) (λ e. e)
-    (λ e. absurd (apart (codes "replay") (codes "linear") refl e)) none)
+    (λ e. absurd (bytes_eq-false (codes "replay") (codes "linear") refl e)) none)
 later_works n rest (inr (inr (inr (inr (inl is))))) =
     named n (codes "compare") rest is
     (over_findings rest (codes "compare") is_compare refl)
@@ -299,12 +299,12 @@ later_works n rest (inr (inr (inr (inr (inr (inl is)))))) =
     named n (codes "why") rest is
     (λ none. first_work (leaf_of (why_app (codes "why"))) (codes "why") rest is_why
     (why_numbers (codes "why") rest none) (λ e. e)
-    (λ e. absurd (apart (codes "why") (codes "linear") refl e)) none)
+    (λ e. absurd (bytes_eq-false (codes "why") (codes "linear") refl e)) none)
 later_works n rest (inr (inr (inr (inr (inr (inr (inl is))))))) =
     named n (codes "trace") rest is
     (λ none. first_work (leaf_of (trace_app (codes "trace"))) (codes "trace") rest is_trace
     (trace_numbers (codes "trace") rest none) (λ e. e)
-    (λ e. absurd (apart (codes "trace") (codes "linear") refl e)) none)
+    (λ e. absurd (bytes_eq-false (codes "trace") (codes "linear") refl e)) none)
 later_works n rest (inr (inr (inr (inr (inr (inr (inr e))))))) = absurd e
 
 task_works : (name : Text) (rest : List Text) → IsTaskName name
@@ -329,7 +329,7 @@ task_works n rest (inr (inr (inr (inr (inr (inl is)))))) =
     named n (codes "resume") rest is
     (λ none. first_work (leaf_of (base_app (codes "resume"))) (codes "resume") rest is_resume
     (base_numbers (codes "resume") rest none) (λ e. e)
-    (λ e. absurd (apart (codes "resume") (codes "linear") refl e)) none)
+    (λ e. absurd (bytes_eq-false (codes "resume") (codes "linear") refl e)) none)
 task_works n rest (inr (inr (inr (inr (inr (inr (inl is))))))) =
     named n (codes "audit") rest is
     (λ none. logs_work (leaf_of (audit_app (codes "audit"))) (codes "audit") rest is_audit

@@ -21,8 +21,8 @@ use Rattle.epx_words.proofs.FaultLemmas.{is_simple-epx_app}
 
 -- ---- what is to name an instance, a key or a part names one
 
-apart : (a b name : Text) → bytes_eq a b ≡ false → Some name ≡ Some a → ¬ (name ≡ b)
-apart a b name differ is other =
+bytes_eq-false : (a b name : Text) → bytes_eq a b ≡ false → Some name ≡ Some a → ¬ (name ≡ b)
+bytes_eq-false a b name differ is other =
     let same : a ≡ b = cc in
     true≢false (sym ((bytes_eq-Decides a b).1 same) ∙ differ)
 
@@ -31,9 +31,9 @@ no_subject : (p : Text × List Row) (a : Text) → Some p.0 ≡ Some a
     → bytes_eq a (codes "why") ≡ false → bytes_eq a (codes "trace") ≡ false
     → bytes_eq a (codes "graph") ≡ false → NamesSubject (Some p)
 no_subject p a is no_why no_trace no_graph = (
-  λ e. absurd (apart a (codes "why") p.0 no_why is e),
-  λ e. absurd (apart a (codes "trace") p.0 no_trace is e),
-  λ e. absurd (apart a (codes "graph") p.0 no_graph is e),
+  λ e. absurd (bytes_eq-false a (codes "why") p.0 no_why is e),
+  λ e. absurd (bytes_eq-false a (codes "trace") p.0 no_trace is e),
+  λ e. absurd (bytes_eq-false a (codes "graph") p.0 no_graph is e),
 )
 
 id_named : (x : Id) (rows : List Row)
@@ -46,16 +46,16 @@ ids_subject : (p : Text × List Row) → Some p.0 ≡ Some (codes "why") → Nam
     → NamesSubject (Some p)
 ids_subject p is named = (
   λ e. named,
-  λ e. absurd (apart (codes "why") (codes "trace") p.0 refl is e),
-  λ e. absurd (apart (codes "why") (codes "graph") p.0 refl is e),
+  λ e. absurd (bytes_eq-false (codes "why") (codes "trace") p.0 refl is e),
+  λ e. absurd (bytes_eq-false (codes "why") (codes "graph") p.0 refl is e),
 )
 
 -- the subcommand `graph`, whose part is named
 part_subject : (p : Text × List Row) → Some p.0 ≡ Some (codes "graph") → NamesPart p.1
     → NamesSubject (Some p)
 part_subject p is named = (
-  λ e. absurd (apart (codes "graph") (codes "why") p.0 refl is e),
-  λ e. absurd (apart (codes "graph") (codes "trace") p.0 refl is e),
+  λ e. absurd (bytes_eq-false (codes "graph") (codes "why") p.0 refl is e),
+  λ e. absurd (bytes_eq-false (codes "graph") (codes "trace") p.0 refl is e),
   λ e. named,
 )
 
@@ -93,9 +93,9 @@ subject_of (task.Path x y) p is fits = ids_subject p is (
   subst (λ o. IfSome o IsIdName) (sym fits.to.1) (y, fits.to.2),
 )
 subject_of (task.Trace key reads) p is fits = (
-  λ e. absurd (apart (codes "trace") (codes "why") p.0 refl is e),
+  λ e. absurd (bytes_eq-false (codes "trace") (codes "why") p.0 refl is e),
   λ e. subst (λ o. MatchOption o ⊥ FitsKey) (sym fits.0) key.fits,
-  λ e. absurd (apart (codes "trace") (codes "graph") p.0 refl is e),
+  λ e. absurd (bytes_eq-false (codes "trace") (codes "graph") p.0 refl is e),
 )
 
 names_subject : (given : Given) (t : Task) (plan : PlanNumbers) (paths : Option (List Text))

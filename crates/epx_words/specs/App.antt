@@ -52,18 +52,21 @@ numbers_app name =
     (flag_rule (codes "explain")))
     (flag_rule (codes "quiet"))
 
+-- a subcommand that can find something, before its other arguments
+abbrev pub finding_start : Text → App
+finding_start name = with_rule (numbers_app name) (flag_rule (codes "exit-code"))
+
+-- a subcommand with a required argument, and then logs
+abbrev pub with_input : App → App
+with_input app = with_rule (with_rule app first_rule) logs_rule
+
 -- a subcommand over logs that can find something
 abbrev pub finding_app : Text → App
-finding_app name =
-    with_rule (with_rule (numbers_app name) (flag_rule (codes "exit-code"))) logs_rule
+finding_app name = with_rule (finding_start name) logs_rule
 
 -- a subcommand over logs that finds what is not covered, or all of it
 abbrev pub audit_app : Text → App
-audit_app name =
-    with_rule
-    (with_rule (with_rule (numbers_app name) (flag_rule (codes "exit-code")))
-    (flag_rule (codes "all")))
-    logs_rule
+audit_app name = with_rule (with_rule (finding_start name) (flag_rule (codes "all"))) logs_rule
 
 -- a subcommand over logs that draws them, or the part around an instance
 abbrev pub graph_app : Text → App
@@ -75,47 +78,29 @@ graph_app name =
 
 -- a subcommand over logs and an input, a base or what a replica said, which can find something
 abbrev pub base_app : Text → App
-base_app name =
-    with_rule
-    (with_rule (with_rule (numbers_app name) (flag_rule (codes "exit-code"))) first_rule)
-    logs_rule
+base_app name = with_input (finding_start name)
 
 -- a subcommand over a list and logs, which can find something
 abbrev pub list_app : Text → App
-list_app name =
-    with_rule
-    (with_rule
-    (with_rule (with_rule (numbers_app name) (flag_rule (codes "exit-code")))
-    (flag_rule (codes "prefix")))
-    first_rule)
-    logs_rule
+list_app name = with_input (with_rule (finding_start name) (flag_rule (codes "prefix")))
 
 -- a subcommand over a history of calls and logs, which can find something; without `--skew` its
 -- skew is 0
 abbrev pub linear_app : Text → App
-linear_app name =
-    with_rule
-    (with_rule
-    (with_rule (with_rule (numbers_app name) (flag_rule (codes "exit-code")))
-    (number_rule (codes "skew") (codes "0") 0 max_skew))
-    first_rule)
-    logs_rule
+linear_app name = with_input
+    (with_rule (finding_start name) (number_rule (codes "skew") (codes "0") 0 max_skew))
 
 -- a subcommand over a list and logs, which finds nothing
 abbrev pub input_app : Text → App
-input_app name = with_rule (with_rule (numbers_app name) first_rule) logs_rule
+input_app name = with_input (numbers_app name)
 
 -- a subcommand about an instance, over logs
 abbrev pub why_app : Text → App
-why_app name =
-    with_rule (with_rule (with_rule (numbers_app name) (text_rule (codes "reaches"))) first_rule)
-    logs_rule
+why_app name = with_input (with_rule (numbers_app name) (text_rule (codes "reaches")))
 
 -- a subcommand about a key, over logs
 abbrev pub trace_app : Text → App
-trace_app name =
-    with_rule (with_rule (with_rule (numbers_app name) (flag_rule (codes "reads"))) first_rule)
-    logs_rule
+trace_app name = with_input (with_rule (numbers_app name) (flag_rule (codes "reads")))
 
 -- the subcommand that executes logs as they come
 abbrev pub follow_app : Text → App

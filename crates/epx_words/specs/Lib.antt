@@ -3,3 +3,4 @@ pub mod SubcommandRows
 pub mod Subjects
 pub mod Requests
 pub mod ExitStatus
+pub mod inner

@@ -2,9 +2,11 @@
 ghost use Rattle.std.specs.Prelude.{◌≡◌, IfOk, codes};
 ghost use Rattle.clap.specs.Words.{app_of, new_app, rule_of};
 ghost use Rattle.epx_words.specs.App.{audit_app, base_app, checks_app, epx_app, epx_top};
-ghost use Rattle.epx_words.specs.App.{finding_app, first_rule, flag_rule, follow_app, graph_app};
-ghost use Rattle.epx_words.specs.App.{input_app, linear_app, list_app, logs_rule, number_rule};
-ghost use Rattle.epx_words.specs.App.{numbers_app, runs_app, text_rule, trace_app, why_app};
+ghost use Rattle.epx_words.specs.App.{finding_app, finding_start, first_rule, flag_rule, follow_app};
+ghost use Rattle.epx_words.specs.App.{graph_app, input_app, linear_app, list_app, logs_rule};
+ghost use Rattle.epx_words.specs.App.{number_rule, numbers_app, runs_app, text_rule, trace_app};
+ghost use Rattle.epx_words.specs.App.{why_app, with_input};
+ghost use Rattle.epx_words.specs.inner.Making.{HasMade};
 
 use clap::builder::ValueParser;
 use clap::{Arg, ArgAction, Command};
@@ -427,21 +429,20 @@ fn flag<'a>(alloc: Global, name: &'a str, help: &'a str) -> Arg<'a>
 fn subcommand<'a>(alloc: Global, name: &'a str, help: Help) -> Result<Command<'a>, AllocError>
     ensures { IfOk result (λ c. app_of c ≡ numbers_app name.entry.now) }
 {
-    let workers = number_option(alloc, "workers", "N", "4", 1, MAX_WORKERS as u64).help(
-        "Workers that share the work, 1 to 64",
-    );
-    let cut = number_option(alloc, "cut", "M", "256", 1, MAX_CUT as u64).help(
-        "Items in a piece of work, 1 to 65536",
-    );
-    let explain = flag(
-        alloc,
-        "explain",
-        "Explains a fault or a finding in further lines",
-    );
-    let quiet = flag(alloc, "quiet", "Shows no progress on a terminal");
-    let numbered = with_help(alloc, name, help).arg(workers)?.arg(cut)?;
-    let explained = numbered.arg(explain)?;
-    explained.arg(quiet)
+    // Each argument is made where it is added, so that none waits while another one is added.
+    with_help(alloc, name, help)
+        .arg(number_option(alloc, "workers", "N", "4", 1, MAX_WORKERS as u64).help(
+            "Workers that share the work, 1 to 64",
+        ))?
+        .arg(number_option(alloc, "cut", "M", "256", 1, MAX_CUT as u64).help(
+            "Items in a piece of work, 1 to 65536",
+        ))?
+        .arg(flag(
+            alloc,
+            "explain",
+            "Explains a fault or a finding in further lines",
+        ))?
+        .arg(flag(alloc, "quiet", "Shows no progress on a terminal"))
 }
 
 /// The flag `--exit-code`, of a subcommand that finds this.
@@ -483,6 +484,18 @@ fn first<'a>(alloc: Global, value: &'a str, help: &'a str) -> Arg<'a>
         .help(help)
 }
 
+/// A subcommand that can find something, before its other arguments.
+fn finding_start<'a>(
+    alloc: Global,
+    name: &'a str,
+    help: Help,
+    found: &'a str,
+) -> Result<Command<'a>, AllocError>
+    ensures { IfOk result (λ c. app_of c ≡ finding_start name.entry.now) }
+{
+    subcommand(alloc, name, help)?.arg(exit_code(alloc, found))
+}
+
 /// A subcommand over logs that can find something.
 fn finding_subcommand<'a>(
     alloc: Global,
@@ -492,149 +505,154 @@ fn finding_subcommand<'a>(
 ) -> Result<Command<'a>, AllocError>
     ensures { IfOk result (λ c. app_of c ≡ finding_app name.entry.now) }
 {
-    subcommand(alloc, name, help)?
-        .arg(exit_code(alloc, found))?
-        .arg(logs(alloc))
+    finding_start(alloc, name, help, found)?.arg(logs(alloc))
+}
+
+/// The subcommand with a required argument, and then the logs.
+fn with_input<'a>(
+    alloc: Global,
+    subcommand: Command<'a>,
+    value: &'a str,
+    help: &'a str,
+) -> Result<Command<'a>, AllocError>
+    ensures { IfOk result (λ c. app_of c ≡ with_input (app_of subcommand.entry)) }
+{
+    subcommand.arg(first(alloc, value, help))?.arg(logs(alloc))
 }
 
 /// The subcommand `graph`, whose arguments are logs.
 fn graph<'a>(alloc: Global) -> Result<Command<'a>, AllocError>
     ensures { IfOk result (λ c. app_of c ≡ graph_app (codes "graph")) }
 {
-    let around = text_option(
-        alloc,
-        "around",
-        "R.I",
-        "Prints the part around this instance alone",
-    );
-    let steps = text_option(
-        alloc,
-        "steps",
-        "N",
-        "How many steps around it, either way along dependencies [default: 1]",
-    );
-    let graph = subcommand(alloc, "graph", GRAPH)?.arg(around)?;
-    graph.arg(steps)?.arg(logs(alloc))
+    subcommand(alloc, "graph", GRAPH)?
+        .arg(text_option(
+            alloc,
+            "around",
+            "R.I",
+            "Prints the part around this instance alone",
+        ))?
+        .arg(text_option(
+            alloc,
+            "steps",
+            "N",
+            "How many steps around it, either way along dependencies [default: 1]",
+        ))?
+        .arg(logs(alloc))
 }
 
 /// The subcommand `audit`, whose arguments are logs.
 fn audit<'a>(alloc: Global) -> Result<Command<'a>, AllocError>
     ensures { IfOk result (λ c. app_of c ≡ audit_app (codes "audit")) }
 {
-    let all = flag(
-        alloc,
-        "all",
-        "Prints all pairs that would have to be related, each with its key",
-    );
-    let audit = subcommand(alloc, "audit", AUDIT)?.arg(exit_code(alloc, IF_FOUND))?;
-    audit.arg(all)?.arg(logs(alloc))
+    finding_start(alloc, "audit", AUDIT, IF_FOUND)?
+        .arg(flag(
+            alloc,
+            "all",
+            "Prints all pairs that would have to be related, each with its key",
+        ))?
+        .arg(logs(alloc))
 }
 
 /// The subcommand `resume`, whose arguments are BASE and logs.
 fn resume<'a>(alloc: Global) -> Result<Command<'a>, AllocError>
     ensures { IfOk result (λ c. app_of c ≡ base_app (codes "resume")) }
 {
-    let base = first(alloc, "BASE", "The earlier report to go on from");
-    let resume = subcommand(alloc, "resume", RESUME)?.arg(exit_code(alloc, IF_WAITING))?;
-    resume.arg(base)?.arg(logs(alloc))
+    let resume = finding_start(alloc, "resume", RESUME, IF_WAITING)?;
+    with_input(alloc, resume, "BASE", "The earlier report to go on from")
 }
 
 /// The subcommand `check`, whose arguments are LIST and logs.
 fn check<'a>(alloc: Global) -> Result<Command<'a>, AllocError>
     ensures { IfOk result (λ c. app_of c ≡ list_app (codes "check")) }
 {
-    let list = first(alloc, "LIST", "The list to check");
-    let prefix = flag(
+    let check = finding_start(alloc, "check", CHECK, IF_FOUND)?.arg(flag(
         alloc,
         "prefix",
         "Lets the list lack ready instances, as that of a live replica does",
-    );
-    let flagged = subcommand(alloc, "check", CHECK)?.arg(exit_code(alloc, IF_FOUND))?;
-    let check = flagged.arg(prefix)?;
-    check.arg(list)?.arg(logs(alloc))
+    ))?;
+    with_input(alloc, check, "LIST", "The list to check")
 }
 
 /// The subcommand `verify`, whose arguments are SAID and logs.
 fn verify<'a>(alloc: Global) -> Result<Command<'a>, AllocError>
     ensures { IfOk result (λ c. app_of c ≡ base_app (codes "verify")) }
 {
-    let said = first(
+    let verify = finding_start(alloc, "verify", VERIFY, IF_FOUND)?;
+    with_input(
         alloc,
+        verify,
         "SAID",
         "What the replica said: its replies and its store",
-    );
-    let verify = subcommand(alloc, "verify", VERIFY)?.arg(exit_code(alloc, IF_FOUND))?;
-    verify.arg(said)?.arg(logs(alloc))
+    )
 }
 
 /// The subcommand `linear`, whose arguments are HISTORY and logs.
 fn linear<'a>(alloc: Global) -> Result<Command<'a>, AllocError>
     ensures { IfOk result (λ c. app_of c ≡ linear_app (codes "linear")) }
 {
-    let history = first(alloc, "HISTORY", "The calls of clients with their times");
-    let skew = number_option(alloc, "skew", "D", "0", 0, MAX_SKEW).help(
-        "How much clocks may differ, 0 to 2^63 - 1, in the unit of the times",
-    );
-    let flagged = subcommand(alloc, "linear", LINEAR)?.arg(exit_code(alloc, IF_FOUND))?;
-    let linear = flagged.arg(skew)?;
-    linear.arg(history)?.arg(logs(alloc))
+    let linear = finding_start(alloc, "linear", LINEAR, IF_FOUND)?.arg(number_option(
+        alloc, "skew", "D", "0", 0, MAX_SKEW,
+    ).help("How much clocks may differ, 0 to 2^63 - 1, in the unit of the times"))?;
+    with_input(
+        alloc,
+        linear,
+        "HISTORY",
+        "The calls of clients with their times",
+    )
 }
 
 /// The subcommand `replay`, whose arguments are LIST and logs.
 fn replay<'a>(alloc: Global) -> Result<Command<'a>, AllocError>
     ensures { IfOk result (λ c. app_of c ≡ input_app (codes "replay")) }
 {
-    let list = first(alloc, "LIST", "The list to execute");
-    subcommand(alloc, "replay", REPLAY)?
-        .arg(list)?
-        .arg(logs(alloc))
+    let replay = subcommand(alloc, "replay", REPLAY)?;
+    with_input(alloc, replay, "LIST", "The list to execute")
 }
 
 /// The subcommand `why`, whose arguments are the name of an instance and logs.
 fn why<'a>(alloc: Global) -> Result<Command<'a>, AllocError>
     ensures { IfOk result (λ c. app_of c ≡ why_app (codes "why")) }
 {
-    let id = first(alloc, "R.I", "The instance with number I of replica R");
-    let reaches = text_option(
+    let why = subcommand(alloc, "why", WHY)?.arg(text_option(
         alloc,
         "reaches",
         "R.I",
         "Prints a shortest path of dependencies to this instance instead",
-    );
-    let why = subcommand(alloc, "why", WHY)?.arg(reaches)?;
-    why.arg(id)?.arg(logs(alloc))
+    ))?;
+    with_input(alloc, why, "R.I", "The instance with number I of replica R")
 }
 
 /// The subcommand `trace`, whose arguments are a key and logs.
 fn trace<'a>(alloc: Global) -> Result<Command<'a>, AllocError>
     ensures { IfOk result (λ c. app_of c ≡ trace_app (codes "trace")) }
 {
-    let key = first(alloc, "KEY", "The key, a text of 1 to 64 bytes");
-    let reads = flag(alloc, "reads", "Prints the commands that read the key, too");
-    let trace = subcommand(alloc, "trace", TRACE)?.arg(reads)?;
-    trace.arg(key)?.arg(logs(alloc))
+    let trace = subcommand(alloc, "trace", TRACE)?.arg(flag(
+        alloc,
+        "reads",
+        "Prints the commands that read the key, too",
+    ))?;
+    with_input(alloc, trace, "KEY", "The key, a text of 1 to 64 bytes")
 }
 
 /// The subcommand `follow`, whose arguments are logs.
 fn follow<'a>(alloc: Global) -> Result<Command<'a>, AllocError>
     ensures { IfOk result (λ c. app_of c ≡ follow_app (codes "follow")) }
 {
-    let each = flag(alloc, "each", "Makes every line a batch");
-    let state = text_option(
-        alloc,
-        "state",
-        "STATE",
-        "Goes on from this state, or from an earlier report",
-    );
-    let save = text_option(
-        alloc,
-        "save",
-        "STATE",
-        "Saves the state at the end under this path",
-    );
-    let follow = subcommand(alloc, "follow", FOLLOW)?.arg(each)?;
-    let stated = follow.arg(state)?;
-    stated.arg(save)?.arg(logs(alloc))
+    subcommand(alloc, "follow", FOLLOW)?
+        .arg(flag(alloc, "each", "Makes every line a batch"))?
+        .arg(text_option(
+            alloc,
+            "state",
+            "STATE",
+            "Goes on from this state, or from an earlier report",
+        ))?
+        .arg(text_option(
+            alloc,
+            "save",
+            "STATE",
+            "Saves the state at the end under this path",
+        ))?
+        .arg(logs(alloc))
 }
 
 /// The program without its subcommands. Its usage line has the subcommand as optional: `epx` with
@@ -652,53 +670,50 @@ fn start<'a>(alloc: Global) -> Command<'a>
         .args_override_self(true)
 }
 
+/// The program with this subcommand too. An error where the subcommand could not be made.
+fn with_subcommand<'a>(
+    program: Command<'a>,
+    made: Result<Command<'a>, AllocError>,
+) -> Result<Command<'a>, AllocError>
+    ensures { IfOk result (HasMade program.entry made.entry) }
+{
+    program.subcommand(made?)
+}
+
 /// The program with the subcommands `run`, `order`, `levels`, `blockers` and `graph`.
 fn with_runs<'a>(alloc: Global) -> Result<Command<'a>, AllocError>
     ensures { IfOk result (λ c. app_of c ≡ runs_app) }
 {
-    let run = finding_subcommand(alloc, "run", RUN, IF_WAITING)?;
-    let order = finding_subcommand(alloc, "order", ORDER, IF_WAITING)?;
-    let levels = finding_subcommand(alloc, "levels", LEVELS, IF_WAITING)?;
-    let blockers = finding_subcommand(alloc, "blockers", BLOCKERS, IF_WAITING)?;
-    let graph = graph(alloc)?;
-    start(alloc)
-        .subcommand(run)?
-        .subcommand(order)?
-        .subcommand(levels)?
-        .subcommand(blockers)?
-        .subcommand(graph)
+    let run = finding_subcommand(alloc, "run", RUN, IF_WAITING);
+    let program = with_subcommand(start(alloc), run)?;
+    let order = finding_subcommand(alloc, "order", ORDER, IF_WAITING);
+    let program = with_subcommand(program, order)?;
+    let levels = finding_subcommand(alloc, "levels", LEVELS, IF_WAITING);
+    let program = with_subcommand(program, levels)?;
+    let blockers = finding_subcommand(alloc, "blockers", BLOCKERS, IF_WAITING);
+    let program = with_subcommand(program, blockers)?;
+    with_subcommand(program, graph(alloc))
 }
 
 /// The program with these, `resume`, `audit`, `check`, `verify` and `linear`.
 fn with_checks<'a>(alloc: Global) -> Result<Command<'a>, AllocError>
     ensures { IfOk result (λ c. app_of c ≡ checks_app) }
 {
-    let resume = resume(alloc)?;
-    let audit = audit(alloc)?;
-    let check = check(alloc)?;
-    let verify = verify(alloc)?;
-    let linear = linear(alloc)?;
-    with_runs(alloc)?
-        .subcommand(resume)?
-        .subcommand(audit)?
-        .subcommand(check)?
-        .subcommand(verify)?
-        .subcommand(linear)
+    let program = with_subcommand(with_runs(alloc)?, resume(alloc))?;
+    let program = with_subcommand(program, audit(alloc))?;
+    let program = with_subcommand(program, check(alloc))?;
+    let program = with_subcommand(program, verify(alloc))?;
+    with_subcommand(program, linear(alloc))
 }
 
 /// The program with all subcommands.
 pub(crate) fn command<'a>(alloc: Global) -> Result<Command<'a>, AllocError>
     ensures { IfOk result (λ c. app_of c ≡ epx_app) }
 {
-    let replay = replay(alloc)?;
-    let compare = finding_subcommand(alloc, "compare", COMPARE, IF_FOUND)?;
-    let why = why(alloc)?;
-    let trace = trace(alloc)?;
-    let follow = follow(alloc)?;
-    with_checks(alloc)?
-        .subcommand(replay)?
-        .subcommand(compare)?
-        .subcommand(why)?
-        .subcommand(trace)?
-        .subcommand(follow)
+    let program = with_subcommand(with_checks(alloc)?, replay(alloc))?;
+    let compare = finding_subcommand(alloc, "compare", COMPARE, IF_FOUND);
+    let program = with_subcommand(program, compare)?;
+    let program = with_subcommand(program, why(alloc))?;
+    let program = with_subcommand(program, trace(alloc))?;
+    with_subcommand(program, follow(alloc))
 }

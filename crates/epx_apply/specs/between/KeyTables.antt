@@ -15,13 +15,13 @@ pub record KeyTableView : Type 0 where
   pub accesses : List TableAccess
 
 -- the levels of a key that no command has touched
-abbrev pub no_levels : KeyLevels
-no_levels = record { writers = 0; touchers = 0 }
+abbrev pub untouched_levels : KeyLevels
+untouched_levels = record { writers = 0; touchers = 0 }
 
 -- the levels of the key with the number x; for other numbers, those of a key that no command has
 -- touched
 abbrev pub key_levels_at : List KeyLevels → ℕ → KeyLevels
-key_levels_at key_levels x = slice_index_or key_levels x no_levels
+key_levels_at key_levels x = slice_index_or key_levels x untouched_levels
 
 -- the key with the number x; the empty list if no key has this number
 abbrev pub key_at : List (List ℕ) → ℕ → List ℕ

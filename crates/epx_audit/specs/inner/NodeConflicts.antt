@@ -3,7 +3,7 @@ use Rattle.std.specs.Prelude.{◌≡◌, ◌⊎◌, ℕ, ◌<◌, List, Bool, sl
 use Rattle.epx_types.specs.CommandKeys.{touched_keys, written_keys}
 use Rattle.epx_types.specs.Conflicts.{Conflict}
 use Rattle.epx_types.specs.Instances.{Instance}
-use Rattle.epx_graph.specs.between.NodePaths.{NodeReaches}
+use Rattle.epx_graph.specs.NodePaths.{NodeReaches}
 use Rattle.epx_components.specs.between.ReadyMarks.{is_marked}
 
 -- the keys that a command touches, and those that it writes

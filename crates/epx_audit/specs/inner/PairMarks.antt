@@ -1,7 +1,7 @@
 -- Marks of pairs of positions whose nodes are related.
 use Rattle.std.specs.Prelude.{◌≡◌, ◌↔◌, ◌⊎◌, ℕ, ◌<◌, List, Bool, length, slice_index}
 use Rattle.std.specs.Prelude.{slice_index_or, Contains, IsTrue}
-use Rattle.epx_graph.specs.between.NodePaths.{NodeReaches}
+use Rattle.epx_graph.specs.NodePaths.{NodeReaches}
 use Rattle.epx_components.specs.between.ReadyMarks.{is_marked}
 use Rattle.epx_audit.specs.declared.pair_marks.LeftPair.{LeftPair}
 

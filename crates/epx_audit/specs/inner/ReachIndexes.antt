@@ -5,7 +5,7 @@ use Rattle.epx_types.specs.CommittedMap.{ids_of}
 use Rattle.epx_types.specs.ExecutionOrder.{Ranked}
 use Rattle.epx_types.specs.Instances.{Instance}
 use Rattle.epx_graph.specs.Graphs.{DependencyGraph, edges_of}
-use Rattle.epx_graph.specs.between.NodePaths.{NodeReaches}
+use Rattle.epx_graph.specs.NodePaths.{NodeReaches}
 use Rattle.epx_audit.specs.declared.reach_index.Chain.{Chain}
 use Rattle.epx_audit.specs.declared.reach_index.ReachIndex.{ReachIndex}
 use Rattle.epx_audit.specs.inner.PathCovers.{IsPathCover}
@@ -34,7 +34,7 @@ pub record IsChain (edges : ℕ → List ℕ) (nodes : List ℕ) (n : ℕ) (chai
 -- is reached from the start of its component; the cover, if there is one, is of these nodes
 pub record IsReachIndex (g : DependencyGraph) (w : ReachIndex) : Type 0 where
   pub in_range : All (λ k. k < length g.ids) w.nodes.items
-  pub each_place : length w.starts.items ≡ length w.nodes.items
+  pub one_start_each : length w.starts.items ≡ length w.nodes.items
   pub each_node : (length w.positions.items ≡ length g.ids)
       × (length w.chain_start.items ≡ length g.ids)
   pub start : (p : ℕ) → p < length w.nodes.items

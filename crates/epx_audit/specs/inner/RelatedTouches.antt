@@ -1,7 +1,7 @@
 -- Touches of one key, of which the later ones reach the earlier ones.
 use Rattle.std.specs.Prelude.{◌≡◌, ◌≢◌, ◌⊎◌, ℕ, ◌<◌, ◌≤◌, false, List, slice_index, slice_index_or}
 use Rattle.std.specs.Prelude.{IsTrue}
-use Rattle.epx_graph.specs.between.NodePaths.{NodeReaches}
+use Rattle.epx_graph.specs.NodePaths.{NodeReaches}
 use Rattle.epx_audit.specs.declared.touches.KeyUse.{KeyUse}
 
 -- the touch at an index of a list; past its end, a read of hash 0 at position 0

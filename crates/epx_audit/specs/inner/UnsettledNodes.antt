@@ -1,7 +1,7 @@
 -- Nodes that are not found to be related to each node that shares a doubtful key with them.
 use Rattle.std.specs.Prelude.{◌≡◌, ◌⊎◌, ℕ, ◌-◌, ◌<◌, ◌≤◌, List, Bool, true, false, length}
 use Rattle.std.specs.Prelude.{slice_index_or, Contains, IsTrue}
-use Rattle.epx_graph.specs.between.NodePaths.{NodeReaches}
+use Rattle.epx_graph.specs.NodePaths.{NodeReaches}
 use Rattle.epx_components.specs.between.ReadyMarks.{is_marked}
 use Rattle.epx_audit.specs.declared.doubtful_touches.DoubtfulTouch.{DoubtfulTouch}
 

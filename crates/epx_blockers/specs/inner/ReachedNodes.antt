@@ -1,7 +1,7 @@
 -- The missing nodes that a node reaches.
 use Rattle.std.specs.Prelude.{◌≡◌, ◌≢◌, ℕ, ◌≤◌, List, slice_index_or}
 use Rattle.epx_graph.specs.Graphs.{DependencyGraph, edges_of}
-use Rattle.epx_graph.specs.between.NodePaths.{NodeReaches}
+use Rattle.epx_graph.specs.NodePaths.{NodeReaches}
 use Rattle.epx_components.specs.between.Partitions.{ComponentParts, component_of}
 use Rattle.epx_blockers.specs.declared.reached.Reached.{Reached}
 use Rattle.epx_blockers.specs.declared.reached.Reached.TheVariants.{Nothing, One, Several}

@@ -1,6 +1,6 @@
 -- Missing nodes: those from some number on.
 use Rattle.std.specs.Prelude.{ℕ, ◌≤◌, List}
-use Rattle.epx_graph.specs.between.NodePaths.{NodeReaches}
+use Rattle.epx_graph.specs.NodePaths.{NodeReaches}
 
 -- k reaches a node from this number on
 abbrev pub ReachesMissing : (ℕ → List ℕ) → ℕ → ℕ → Type 0

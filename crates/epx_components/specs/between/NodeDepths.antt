@@ -1,6 +1,6 @@
 -- The depth of a node: the length of its longest descent through components.
 use Rattle.std.specs.Prelude.{◌≡◌, ℕ, ◌≤◌, List, [], ◌∷◌, length}
-use Rattle.epx_graph.specs.between.NodePaths.{NodeReaches}
+use Rattle.epx_graph.specs.NodePaths.{NodeReaches}
 
 -- a chain that begins at k, in which each reaches the next and is not reached by it
 abbrev pub NodeDescends : (ℕ → List ℕ) → ℕ → List ℕ → Type 0

@@ -3,7 +3,7 @@ use Rattle.std.specs.Prelude.{◌≡◌, ◌↔◌, ℕ, ◌<◌, List, Bool, fa
 use Rattle.std.specs.Prelude.{slice_index_or, All, IsTrue}
 use Rattle.epx_graph.specs.Graphs.{DependencyGraph, edges_of}
 use Rattle.epx_components.specs.declared.node_ranks.NodeRank.{NodeRank}
-use Rattle.epx_components.specs.between.NodeComponents.{IsNodeLeader}
+use Rattle.epx_components.specs.NodeComponents.{IsNodeLeader}
 use Rattle.epx_components.specs.between.NodeDepths.{IsNodeDepth}
 use Rattle.epx_components.specs.between.MissingNodes.{ReachesMissing}
 

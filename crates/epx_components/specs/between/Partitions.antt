@@ -3,7 +3,7 @@
 use Rattle.std.specs.Prelude.{◌≡◌, ◌≢◌, ℕ, ◌<◌, ◌≤◌, List, length, slice_index, Bool}
 use Rattle.std.specs.Prelude.{slice_index_or, false, Contains, All}
 use Rattle.epx_graph.specs.Graphs.{DependencyGraph, edges_of}
-use Rattle.epx_graph.specs.between.NodePaths.{NodeReaches}
+use Rattle.epx_graph.specs.NodePaths.{NodeReaches}
 use Rattle.epx_components.specs.declared.partition.Partition.{Partition}
 
 -- the component of each node, the nodes by rising component, and the number of components

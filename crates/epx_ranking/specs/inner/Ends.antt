@@ -3,7 +3,7 @@
 use Rattle.std.specs.Prelude.{◌≡◌, ◌≢◌, ◌⊎◌, ℕ, ◌+◌, ◌<◌, ◌≤◌, List, length, slice_index}
 use Rattle.std.specs.Prelude.{Option, Some, None, get_or}
 use Rattle.epx_ranking.specs.declared.check.sequence_key.SequenceKey.{SequenceKey}
-use Rattle.epx_graph.specs.between.NodePaths.{NodeReaches}
+use Rattle.epx_graph.specs.NodePaths.{NodeReaches}
 use Rattle.epx_components.specs.between.Partitions.{ComponentParts, component_of, number_for}
 
 -- for each component: one more than the last of the first n positions at which it has a member, or

@@ -4,7 +4,7 @@ use Rattle.epx_types.specs.declared.id.Id.{Id}
 use Rattle.epx_types.specs.Instances.{Instance}
 use Rattle.epx_types.specs.Readiness.{IsReady}
 use Rattle.epx_types.specs.ExecutionOrder.{IsRanked}
-use Rattle.epx_components.specs.between.Ranks.{ranked}
+use Rattle.epx_components.specs.Ranks.{ranked}
 use Rattle.epx_components.specs.declared.rank.Rank.{Rank}
 
 -- the ranks of the ready instances, each once

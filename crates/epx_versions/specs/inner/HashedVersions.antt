@@ -6,7 +6,7 @@ use Rattle.std.specs.Cmp.{decided, first_so, second_so}
 use Rattle.std.proofs.lemmas.Bool.Decides.{nat_tests}
 use Rattle.epx_seed.specs.declared.Seed.{Seed}
 use Rattle.epx_versions.specs.declared.hashed_version.HashedVersion.{HashedVersion}
-use Rattle.epx_versions.specs.inner.EqualVersions.{instances_decide}
+use Rattle.epx_versions.specs.inner.EqualVersions.{same_instance-decides}
 use Rattle.epx_versions.specs.SameInstances.{same_instance}
 use Rattle.epx_versions.specs.between.VersionLists.{hash_by}
 
@@ -21,11 +21,11 @@ same_hashed v w = (v.hash == w.hash) && same_instance v.version w.version
 -- ---- the test decides whether versions are equal, hashes included
 
 -- two versions of which the test is true are equal, and so are their hashes
-same_by_test : (v w : HashedVersion) → same_hashed v w ≡ true → v ≡ w
-same_by_test v w same =
+same_instance-equal : (v w : HashedVersion) → same_hashed v w ≡ true → v ≡ w
+same_instance-equal v w same =
     let hashes = first_so (v.hash == w.hash) (same_instance v.version w.version) same in
     let hash : v.hash ≡ w.hash = grind (arith, nat_tests) in
-    let version = (instances_decide v.version w.version).0
+    let version = (same_instance-decides v.version w.version).0
     (second_so (v.hash == w.hash) (same_instance v.version w.version) same) in
     λ i. record { version = version i; hash = hash i }
 
@@ -37,12 +37,12 @@ both {a} {b} p q = cc
 same_itself : (v : HashedVersion) → same_hashed v v ≡ true
 same_itself v =
     let hash : (v.hash == v.hash) ≡ true = grind (arith, nat_tests) in
-    both hash ((instances_decide v.version v.version).1 (λ i. v.version))
+    both hash ((same_instance-decides v.version v.version).1 (λ i. v.version))
 
 -- the test of two versions is true exactly if they and their hashes are equal
 pub hashed_decide : (v w : HashedVersion) → Decides (same_hashed v w) (v ≡ w)
 hashed_decide v w = (
-  same_by_test v w,
+  same_instance-equal v w,
   λ same. let P : HashedVersion → Type 0 = λ x. same_hashed v x ≡ true in
       subst P same (same_itself v),
 )

@@ -4,7 +4,7 @@ use Rattle.std.specs.Prelude.{MatchOption, slice_index_or}
 use Rattle.epx_types.specs.declared.id.Id.{Id}
 use Rattle.epx_types.specs.Ids.{UpTo}
 use Rattle.epx_graph.specs.Graphs.{DependencyGraph, edges_of}
-use Rattle.epx_graph.specs.between.NodePaths.{IsNodePath}
+use Rattle.epx_graph.specs.NodePaths.{IsNodePath}
 use Rattle.epx_why.specs.FirstPaths.{ComesUpTo}
 use Rattle.epx_graph.specs.between.NodeSteps.{LeadsTo, distance_at}
 

@@ -1,6 +1,6 @@
 use Rattle.std.proofs.Common.{◌≡◌, ◌≤◌, take}
 use Rattle.epx_types.proofs.Common.{component_count}
-use Rattle.epx_components.specs.between.Ranks.{ranked_all}
+use Rattle.epx_components.specs.Ranks.{ranked_all}
 use Rattle.epx_components.proofs.order_list.count_leaders.Given as goal
 
 abbrev pub invariant-loop-rank : goal.invariant-loop-rank

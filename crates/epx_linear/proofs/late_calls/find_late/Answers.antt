@@ -42,8 +42,8 @@ loop-index-preserved c =
     omega (arith, c.max-latest.ensures, c.saturating_sub.ensures) in
     HaveFound-push commands places spans ranks i c.loop-index.table c.loop-index.found.items is
     command.ops.now at c.in_ok-above.above c.rank_at-own.result c.max-latest.result collected.0
-    is_own is_m c.note.new.self c.late.result c.push.new.self.items
-    (c.note.ensures is.done command.ops.now collected.1) c.late.ensures
+    is_own is_m c.note.new.self c.id_if_late.result c.push.new.self.items
+    (c.note.ensures is.done command.ops.now collected.1) c.id_if_late.ensures
     c.in_ok-push.ensures.items
 
 pub returns : goal.returns

@@ -3,7 +3,7 @@ use Rattle.epx_types.proofs.Common.{with_items_is, IfOk-weaker, remaining, IsExe
 use Rattle.epx_types.proofs.Common.{remaining-nil, IsExecutionOrder-IsLawful}
 use Rattle.epx_graph.proofs.Common.{IsGraphOf}
 use Rattle.epx_ranking.proofs.SortedRankLemmas.{IsExecutionOrder-from_sort}
-use Rattle.epx_components.specs.between.Ranks.{ranked_all}
+use Rattle.epx_components.specs.Ranks.{ranked_all}
 use Rattle.epx_ranking.specs.inner.ReadyRanks.{AreReadyRanks}
 use Rattle.epx_ranking.proofs.execution_order.order.Goals as goal
 

@@ -20,15 +20,15 @@ loop-end-preserved g c =
     sym (length-map ids (λ x. ops_or_empty (instance_of m x)))
     in
     let found = h.4 ∙ map-range (λ x. ops_or_empty (instance_of m x)) ids end next in
-    let ran = subst (λ ops. Executes ops c.loop-end.store c.in_ok-executed.executed.store
-    c.in_ok-executed.executed.replies.items) found c.in_ok-executed.ensures.ran in (
+    let ran = subst (λ ops. Executes ops c.loop-end.step.store c.in_ok-step.step.store
+    c.in_ok-step.step.replies.items) found c.in_ok-step.ensures.ran in (
       h.1,
       order,
       within,
       on,
-      c.in_ok-executed.ensures.found,
+      c.in_ok-step.ensures.found,
       IsReplaying-next _ _ _ _ _ _ _ _ (slice_range ids end next) (drop next ids) _
           (slice_range commands end next) (drop next commands) _ _ _ _
           (length-same_range ids commands end next same) (drop_split ids end next h.1)
-          (drop_split commands end next h.1) h.5 c.in_ok-executed.ensures.text ran.0 ran.1,
+          (drop_split commands end next h.1) h.5 c.in_ok-step.ensures.text ran.0 ran.1,
     )

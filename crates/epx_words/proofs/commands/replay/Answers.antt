@@ -1,16 +1,8 @@
-use Rattle.std.proofs.Common.{codes, refl}
+use Rattle.std.proofs.Common.{◌∙◌, ap}
 use Rattle.epx_types.proofs.Common.{IfOk-weaker}
-use Rattle.clap.specs.Words.{with_rule}
-use Rattle.epx_words.specs.App.{first_rule, logs_rule, numbers_app}
-use Rattle.epx_words.proofs.CommandLemmas.{app_of-with_argument}
+use Rattle.epx_words.specs.App.{with_input}
 use Rattle.epx_words.proofs.commands.replay.Goals as goal
 
 pub returns : goal.returns
-returns c =
-    let start = numbers_app (codes "replay") in
-    let one = app_of-with_argument c.in_ok-subcommand.field-0 c.in_ok-arg.field-0
-    c.first-list.result start
-    first_rule c.in_ok-arg.ensures c.in_ok-subcommand.ensures c.first-list.ensures refl in
-    IfOk-weaker c.arg-2.result _ _
-    (λ made added. app_of-with_argument c.in_ok-arg.field-0 made c.logs.result
-    (with_rule start first_rule) logs_rule added one c.logs.ensures refl) c.arg-2.ensures
+returns c = IfOk-weaker c.with_input.result _ _
+    (λ made is. is ∙ ap with_input c.in_ok-replay.ensures) c.with_input.ensures

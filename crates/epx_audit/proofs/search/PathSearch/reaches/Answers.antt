@@ -47,7 +47,7 @@ returns-clause-reaches c =
     let read : c.index-node.result.now ≡ node =
     get_or_read nodes _ _ c.requires.later c.index-node.ensures 0 in
     let first : c.index-2.result.now ≡ start =
-    get_or_read starts _ _ (omega (arith, c.requires.earlier, c.requires.reach.each_place))
+    get_or_read starts _ _ (omega (arith, c.requires.earlier, c.requires.reach.one_start_each))
     c.index-2.ensures 0 in
     let on = (c.requires.reach.start earlier c.requires.earlier).1 in
     IfOk-weaker c.find_path.result

@@ -1,5 +1,5 @@
 use Rattle.std.proofs.Common.{length, slice_get, refl, sym, ap, ◌∙◌, arith}
-use Rattle.epx_components.specs.between.Ranks.{ranked}
+use Rattle.epx_components.specs.Ranks.{ranked}
 use Rattle.epx_components.proofs.RankLemmas.{ranked_all-at}
 use Rattle.epx_components.proofs.order_list.OrderList.depth_of.Goals as goal
 

@@ -1,6 +1,6 @@
 use Rattle.std.proofs.Common.{◌≡◌, ◌++◌, ◌∷◌, [], List, ℕ, length, sym, ap, subst, ◌∙◌, arith}
 use Rattle.epx_rows.specs.between.OpenRows.{OpenRowView}
-use Rattle.epx_rows.specs.inner.RowEnds.{rows_from, AreRowEnds}
+use Rattle.epx_rows.specs.RowEnds.{rows_from, AreRowEnds}
 use Rattle.epx_rows.proofs.RowLemmas.{AreRowEnds-push, rows_from-push}
 use Rattle.epx_rows.proofs.open_row.OpenRow.close.Goals as goal
 

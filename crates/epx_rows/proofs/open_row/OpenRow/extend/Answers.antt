@@ -1,7 +1,7 @@
 use Rattle.std.proofs.Common.{◌++◌, drop, ap, ◌∙◌}
 use Rattle.epx_types.proofs.Common.{drop-append-le}
 use Rattle.epx_rows.specs.between.OpenRows.{OpenRowView}
-use Rattle.epx_rows.specs.inner.RowEnds.{rows_from}
+use Rattle.epx_rows.specs.RowEnds.{rows_from}
 use Rattle.epx_rows.proofs.RowLemmas.{rows_from-more_numbers}
 use Rattle.epx_rows.proofs.open_row.OpenRow.extend.Goals as goal
 

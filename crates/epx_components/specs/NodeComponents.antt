@@ -1,6 +1,6 @@
 -- Strongly connected components over the nodes of a graph, and their leaders.
 use Rattle.std.specs.Prelude.{ℕ, ◌≤◌, List}
-use Rattle.epx_graph.specs.between.NodePaths.{NodeReaches}
+use Rattle.epx_graph.specs.NodePaths.{NodeReaches}
 
 -- each reaches the other
 abbrev pub InOneNodeComponent : (ℕ → List ℕ) → ℕ → ℕ → Type 0

@@ -1,0 +1,2 @@
+-- Words of private clauses: no public contract speaks of them.
+pub mod Making
