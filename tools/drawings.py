@@ -25,14 +25,15 @@ def arrows_of(drawing):
 
 
 def drawn_parts(picture):
-    """The boxes of an SVG, each with its label, and its arrows."""
+    """The boxes of an SVG, whose lines may break at any space, with their labels; its arrows."""
     boxes, arrows = {}, set()
     form = r'<g id="\w+" class="(node|edge)">\s*<title>([^<]*)</title>(.*?)</g>'
     for kind, title, rest in re.findall(form, picture, re.S):
         if kind == "edge":
             arrows.add(tuple(html.unescape(title).split("->")))
         else:
-            boxes[title] = html.unescape("\\n".join(re.findall(r"<text[^>]*>([^<]*)", rest)))
+            lines = [" ".join(line.split()) for line in re.findall(r"<text[^>]*>([^<]*)", rest)]
+            boxes[title] = html.unescape("\\n".join(lines))
     return boxes, arrows
 
 

@@ -13,4 +13,5 @@ def find(top):
     for path in sorted(top.glob("docs/*.dot")):
         text, picture = path.read_text(), path.with_suffix(".svg").read_text()
         if drawn_parts(picture) != (boxes_of(text), arrows_of(text)):
-            yield path, 1, f"draw it again: dot -Tsvg {path.name} > {path.stem}.svg"
+            way = f"dot -Tsvg {path.name} | fold -s -w 100 | sed 's/ *$//' > {path.stem}.svg"
+            yield path, 1, f"draw it again: {way}"

@@ -1,5 +1,5 @@
 //! Says what is wrong with a line of a log, of a list, of a history or of a report, and what an
-//! input looks like. No clause says what the texts are: each function returns for every input, and
+//! input looks like. No clause says what is in a text: each function returns for every input, and
 //! breaks no rule on the way.
 #![tactic(auto)]
 

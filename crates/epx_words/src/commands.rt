@@ -2,10 +2,10 @@
 ghost use Rattle.std.specs.Prelude.{◌≡◌, IfOk, codes};
 ghost use Rattle.clap.specs.Words.{app_of, new_app, rule_of};
 ghost use Rattle.epx_words.specs.App.{audit_app, base_app, checks_app, epx_app, epx_top};
-ghost use Rattle.epx_words.specs.App.{finding_app, finding_start, first_rule, flag_rule, follow_app};
-ghost use Rattle.epx_words.specs.App.{graph_app, input_app, linear_app, list_app, logs_rule};
-ghost use Rattle.epx_words.specs.App.{number_rule, numbers_app, runs_app, text_rule, trace_app};
-ghost use Rattle.epx_words.specs.App.{why_app, with_input};
+ghost use Rattle.epx_words.specs.App.{finding_app, finding_start, first_rule, flag_rule};
+ghost use Rattle.epx_words.specs.App.{follow_app, graph_app, input_app, linear_app, list_app};
+ghost use Rattle.epx_words.specs.App.{logs_rule, number_rule, numbers_app, runs_app, text_rule};
+ghost use Rattle.epx_words.specs.App.{trace_app, why_app, with_input};
 ghost use Rattle.epx_words.specs.inner.Making.{HasMade};
 
 use clap::builder::ValueParser;
