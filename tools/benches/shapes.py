@@ -3,8 +3,10 @@ those of the second have one hash under the library's hasher where it starts fro
 number."""
 
 import json
+import subprocess
 
-from benches.log_files import line
+from benches.log_files import line, write_logs
+from command_line import TOP
 
 WORD = 2**64 - 1
 START = 0x243F6A8885A308D3
@@ -41,6 +43,13 @@ def one_key(count):
     for number in range(count):
         deps = [(0, number - 1)] if number else []
         yield line(0, number, deps, ['["add","key",1]'])
+
+
+def many_keys(count):
+    """Each instance writes one of 1,000 keys, and depends on the one before it of that key."""
+    for number in range(count):
+        deps = [(0, number - 1000)] if number >= 1000 else []
+        yield line(0, number, deps, [f'["put","key{number % 1000}",{number}]'])
 
 
 def folded(a, b):
@@ -100,8 +109,21 @@ SHAPES = {
     "chain": window(1),
     "ring": ring,
     "one-key": one_key,
+    "1000-keys": many_keys,
     "16-deps": window(16),
     "256-deps": window(256),
     "ordinary": keyed(False),
     "colliding": keyed(True),
 }
+# The logs of three replicas that repeat each other.
+BANK = "bank"
+NAMES = [*SHAPES, BANK]
+
+
+def logs_of(name, instances, folder):
+    """The paths of logs of a shape, written into a folder."""
+    if name != BANK:
+        return write_logs(SHAPES[name](instances), folder)
+    words = ["--instances", str(instances), "--seed", "7", "--out", folder / BANK]
+    subprocess.run([TOP / "contrib/bank", *words], capture_output=True, check=True)
+    return sorted(str(path) for path in (folder / BANK).glob("*.jsonl"))

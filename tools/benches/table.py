@@ -4,10 +4,9 @@ import os
 import pathlib
 import tempfile
 
-from benches.log_files import write_logs
 from benches.questions import QUESTIONS, words_of
 from benches.runs import least_runs, ratio
-from benches.shapes import SHAPES
+from benches.shapes import NAMES, logs_of
 from command_line import Words, count, say, some_of, workers
 
 HEAD = "| Logs | Question | MB | Workers | Seconds | Ratio | Bytes a byte |\n" + "|---" * 7 + "|"
@@ -17,7 +16,7 @@ def words_of_table(text):
     """The words of a subcommand that prints such rows."""
     words = Words(text)
     words.add_program()
-    several = {"type": some_of(SHAPES), "default": [*SHAPES]}
+    several = {"type": some_of(NAMES), "default": NAMES}
     words.add_argument("--shapes", **several, help="the shapes, with commas")
     several = {"type": some_of(QUESTIONS), "default": ["run"]}
     words.add_argument("--questions", **several, help="subcommands, with commas")
@@ -41,13 +40,21 @@ def measure(given, programs, name, logs, folder):
             yield (name, question, f"{size / 1e6:.1f}", workers), size, runs
 
 
+def rows_of_shape(given, programs, name, instances):
+    """Those of logs of a shape with so many instances."""
+    with tempfile.TemporaryDirectory() as folder:
+        folder = pathlib.Path(folder)
+        yield from measure(given, programs, name, logs_of(name, instances, folder), folder)
+
+
 def rows(given, programs):
     """Those of all logs that are named, or of all shapes."""
-    for name in ["given"] if given.logs else given.shapes:
+    if given.logs:
         with tempfile.TemporaryDirectory() as folder:
-            folder = pathlib.Path(folder)
-            logs = given.logs or write_logs(SHAPES[name](given.instances), folder)
-            yield from measure(given, programs, name, logs, folder)
+            yield from measure(given, programs, "given", given.logs, pathlib.Path(folder))
+    else:
+        for name in given.shapes:
+            yield from rows_of_shape(given, programs, name, given.instances)
 
 
 def print_table(given, programs, base_of):

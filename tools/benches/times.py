@@ -6,7 +6,8 @@
     tools/bench times --questions order,audit LOG..  these logs, in place of the shapes
 
 A row has the least time of its rounds, its ratio to the first row of as many workers, and the peak
-memory for each byte of the logs. Only ratios of one run count; run nothing else beside it.
+memory for each byte of the logs. Where several questions are asked, it is the first row of the same
+logs. Only ratios of one run count; run nothing else beside it.
 
 `check` is given the execution order, `linear` a call of each executed instance with its reply,
 `resume` the report of the first half of the lines, and `follow` the logs in batches of 100. The
@@ -24,8 +25,12 @@ def main():
     words.add_argument("logs", nargs="*", metavar="LOG")
     given, firsts = words.parse_args(), {}
     programs = [built(given.program)]
-    rows, _ = print_table(
-        given, programs, lambda cells, runs: firsts.setdefault(cells[3], runs[0])
-    )
+    several = len(given.questions) > 1
+
+    def first(cells, runs):
+        name, _, _, workers = cells
+        return firsts.setdefault((name if several else None, workers), runs[0])
+
+    rows, _ = print_table(given, programs, first)
     say(f"{rows} rows")
     return 0

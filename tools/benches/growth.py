@@ -1,0 +1,40 @@
+"""Times the program over logs of a shape, and over 16 times as many instances of it.
+
+    tools/bench growth                               four shapes, 65,536 and 1,048,576 instances
+    tools/bench growth --questions run,order,audit
+    tools/bench growth --shapes chain --instances 4096 --rounds 11
+
+A row has the least times of its rounds, and how many times as much time and memory the larger logs
+take: 16 where it is linear. The exit status is 2 where the program is missing or fails.
+"""
+
+from benches.runs import ratio
+from benches.table import rows_of_shape, words_of_table
+from command_line import built, say
+
+TIMES = 16
+SHAPES = ["independent", "chain", "ring", "16-deps"]
+NAMES = "Logs", "Question", "Workers", "Seconds", "Seconds of 16 times as many", "Time", "Memory"
+HEAD = f"| {' | '.join(NAMES)} |\n{'|---' * len(NAMES)}|"
+
+
+def print_rows(given, programs, name):
+    """Prints the rows of a shape."""
+    counts = given.instances, TIMES * given.instances
+    few, many = ([*rows_of_shape(given, programs, name, count)] for count in counts)
+    for ((_, question, _, workers), _, [run]), (_, _, [large]) in zip(few, many):
+        times = f"{run.seconds:.3f}", f"{large.seconds:.3f}", ratio(large, run)
+        cells = name, question, workers, *times, f"{large.peak / run.peak:.1f}"
+        print(f"| {' | '.join(cells)} |", flush=True)
+
+
+def main():
+    words = words_of_table(__doc__)
+    words.set_defaults(shapes=SHAPES, rounds=3)
+    given = words.parse_args()
+    programs = [built(given.program)]
+    print(HEAD)
+    for name in given.shapes:
+        print_rows(given, programs, name)
+    say(f"{len(given.shapes) * len(given.questions) * len(given.workers)} rows")
+    return 0
