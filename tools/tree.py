@@ -1,8 +1,8 @@
 """What the rules of `tools/check` read of the tree. A module, and no tool itself."""
 
 # The places of pages and of scripts.
-PAGES = ("*.md", "docs/*.md", "examples/*.md", "examples/*/*.md", "tools/*.md", "contrib/*.md",
-         "crates/*/README.md")  # fmt: skip
+PAGES = ("*.md", "docs/*.md", "docs/results/*.md", "examples/*.md", "examples/*/*.md", "tools/*.md",
+         "contrib/*.md", "crates/*/README.md")  # fmt: skip
 SCRIPTS = ("tools/*", "tools/*/*", "contrib/*", "contrib/*/*", "examples/*/*.py", "epx", ".ci/run")
 
 

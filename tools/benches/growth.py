@@ -4,8 +4,9 @@
     tools/bench growth --questions run,order,audit
     tools/bench growth --shapes chain --instances 4096 --rounds 11
 
-A row has the least times of its rounds, and how many times as much time and memory the larger logs
-take: 16 where it is linear. The exit status is 2 where the program is missing or fails.
+A row has the least times of its rounds, how many times as much time and memory the larger logs
+take, which is 16 where it is linear, and the memory for each byte of these. The exit status is 2
+where the program is missing or fails.
 """
 
 from benches.runs import ratio
@@ -14,17 +15,17 @@ from command_line import built, say
 
 TIMES = 16
 SHAPES = ["independent", "chain", "ring", "16-deps"]
-NAMES = "Logs", "Question", "Workers", "Seconds", "Seconds of 16 times as many", "Time", "Memory"
-HEAD = f"| {' | '.join(NAMES)} |\n{'|---' * len(NAMES)}|"
+HEAD = "| Logs | Question | Workers | Seconds | 16 times as many | Time | Memory | Bytes a byte |"
 
 
 def print_rows(given, programs, name):
     """Prints the rows of a shape."""
     counts = given.instances, TIMES * given.instances
     few, many = ([*rows_of_shape(given, programs, name, count)] for count in counts)
-    for ((_, question, _, workers), _, [run]), (_, _, [large]) in zip(few, many):
+    for ((_, question, _, workers), _, [run]), (_, size, [large]) in zip(few, many):
         times = f"{run.seconds:.3f}", f"{large.seconds:.3f}", ratio(large, run)
-        cells = name, question, workers, *times, f"{large.peak / run.peak:.1f}"
+        memory = f"{large.peak / run.peak:.1f}", f"{large.peak / size:.1f}"
+        cells = name, question, workers, *times, *memory
         print(f"| {' | '.join(cells)} |", flush=True)
 
 
@@ -33,7 +34,7 @@ def main():
     words.set_defaults(shapes=SHAPES, rounds=3)
     given = words.parse_args()
     programs = [built(given.program)]
-    print(HEAD)
+    print(HEAD + "\n" + "|---" * 8 + "|")
     for name in given.shapes:
         print_rows(given, programs, name)
     say(f"{len(given.shapes) * len(given.questions) * len(given.workers)} rows")

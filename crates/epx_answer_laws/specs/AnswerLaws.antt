@@ -25,9 +25,8 @@ use Rattle.epx_tool.specs.Answer.{IsAnswer}
 abbrev pub ReportExists : Type 0
 ReportExists = (m : List Instance) → IsRising (ids_of m) → (text : List ℕ) × IsReport m text
 
--- a committed map has a text for each task without an input, except a comparison: among them its
--- report, its execution order, its conflict levels, its audit, a picture, a text about each
--- instance, one of a path between each two, and one of the trace of each key
+-- a committed map has a text for each task that has no input (`HasInput`) and is not `Compare`: for
+-- example its report, its execution order, and the trace of each key
 abbrev pub MapTextExists : Type 0
 MapTextExists = (task : Task) → ¬ HasInput task → task ≢ Compare → (m : List Instance)
     → IsRising (ids_of m) → (text : List ℕ) × IsTaskText task [] m text
@@ -72,7 +71,8 @@ abbrev pub ViewIsUnique : Type 0
 ViewIsUnique = (ask : Ask) (logs : List (List ℕ)) (a b : Result (List ℕ) Fault) → a ≢ Err Memory
     → b ≢ Err Memory → AnswersView ask logs a → AnswersView ask logs b → a ≡ b
 
--- the audit of logs says that they are covered exactly if they are
+-- the audit of accepted logs is answered with the line `["covered"]` exactly if the map that they
+-- commit is covered
 abbrev pub CoveredTextMeansCovered : Type 0
 CoveredTextMeansCovered = (logs : List (List ℕ)) (m : List Instance) → IsAccepted logs m →
     AnswersView Audit logs (Ok covered_line) ↔ IsCovered m

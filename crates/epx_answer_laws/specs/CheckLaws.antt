@@ -30,7 +30,9 @@ use Rattle.epx_linear.specs.LinearTexts.{linear_line}
 use Rattle.epx_linear.specs.RealTime.{IsLinear}
 use Rattle.epx_linear.specs.Skews.{later_by}
 
--- a list is reported as lawful exactly if it is a lawful order of what the logs commit
+-- if a text of at most `max_log_bytes` bytes is a list of instances and the logs are accepted, the
+-- check of the list is answered with the line `["lawful"]` exactly if it is a lawful order of what
+-- the logs commit
 abbrev pub LawfulTextMeansLawful : Type 0
 LawfulTextMeansLawful = (list : List ℕ) (logs : List (List ℕ)) (ids : List Id) (m : List Instance)
     → IsShort list → IsList list ids → IsAccepted logs m →
@@ -38,7 +40,8 @@ LawfulTextMeansLawful = (list : List ℕ) (logs : List (List ℕ)) (ids : List I
 
 -- ---- a list that is checked as a prefix
 
--- a list that is checked as a prefix is reported as lawful exactly if a lawful order of what the
+-- if a text of at most `max_log_bytes` bytes is a list of instances and the logs are accepted, its
+-- check as a prefix is answered with the line `["lawful"]` exactly if a lawful order of what the
 -- logs commit begins with it
 abbrev pub LawfulTextMeansPrefix : Type 0
 LawfulTextMeansPrefix = (list : List ℕ) (logs : List (List ℕ)) (ids : List Id)
@@ -57,14 +60,16 @@ LawfulPrefixRepliesAlike = (list : List ℕ) (logs : List (List ℕ))
     → slice_get (execute (commands_in m ids) contents.empty).replies i
     ≡ slice_get (execute (commands_in m (ranked_ids order)) contents.empty).replies j
 
--- a list of all ready instances has the same answer as a prefix and as an order
+-- if logs are accepted and a list names all instances that are ready in what they commit, the list
+-- has the same answers checked as a prefix and checked as an order
 abbrev pub WholeListsAreAnsweredAlike : Type 0
 WholeListsAreAnsweredAlike = (list : List ℕ) (logs : List (List ℕ)) (ids : List Id)
     (m : List Instance) → IsList list ids → IsAccepted logs m → HasAllReady m ids
     → (a : Result (List ℕ) Fault) → AnswersTask CheckPrefix list logs a ↔ Checks list logs a
 
--- a list that logs call a lawful prefix is called so by all accepted logs that have their lines:
--- what a replica has executed stays lawful, whatever is committed later
+-- a list that is answered as a lawful prefix over some logs is answered so over all accepted logs
+-- that have each of their lines: what a replica has executed stays lawful, whatever is committed
+-- later
 abbrev pub LawfulPrefixesStay : Type 0
 LawfulPrefixesStay = (list : List ℕ) (logs more : List (List ℕ)) → HaveLinesOf more logs
     → (m : List Instance) → IsAccepted more m
@@ -73,13 +78,15 @@ LawfulPrefixesStay = (list : List ℕ) (logs more : List (List ℕ)) → HaveLin
 
 -- ---- what a replica said
 
--- the replies and the store are those of executing the instances in the order of the replies
+-- the replies and the store are those of executing the instances of the replies, in their order,
+-- with their commands in the map, from the empty store
 abbrev pub IsRight : List Instance → List (Id × Reply) → Contents → Type 0
 IsRight m replies stored = let e = list_execution m (replied_ids replies) in
     (map (λ p. p.1) replies ≡ e.replies) × (stored ≡ e.final)
 
--- what a replica said is reported as lawful, and as nothing else, exactly if a lawful order of what
--- the logs commit begins with its instances, and its replies and its store are right
+-- if a text of at most `max_log_bytes` bytes says replies and a store and the logs are accepted,
+-- verifying it is answered with the line `["lawful"]` alone exactly if a lawful order of what the
+-- logs commit begins with the instances of the replies and `IsRight` holds
 abbrev pub LawfulTextMeansRight : Type 0
 LawfulTextMeansRight = (said : List ℕ) (logs : List (List ℕ)) (replies : List (Id × Reply))
     (stored : Contents) (m : List Instance)
@@ -89,8 +96,9 @@ LawfulTextMeansRight = (said : List ℕ) (logs : List (List ℕ)) (replies : Lis
 
 -- ---- what clients saw
 
--- the calls of clients are reported as linear exactly if they are, with returns that are later by
--- the skew, over the execution order of what the logs commit and its replies
+-- if a text of at most `max_log_bytes` bytes is a history and the logs are accepted, it is answered
+-- with the line `["linear"]` exactly if its calls, each returned later by the skew, are linear
+-- (`IsLinear`) over the execution order of what the logs commit and its replies
 abbrev pub LinearTextMeansLinear : Type 0
 LinearTextMeansLinear = (skew : ℕ) (history : List ℕ) (logs : List (List ℕ))
     (h : List ClientCall) (m : List Instance) (order : List Ranked)

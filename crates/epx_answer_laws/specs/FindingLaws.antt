@@ -14,20 +14,22 @@ use Rattle.epx_tool.specs.Findings.{AnswersFinding, IsFindingText}
 use Rattle.epx_tool.specs.TaskAnswers.{IsBadInput}
 use Rattle.epx_tool.specs.WithInput.{AnswersWithInput}
 
--- the answer to an input and logs, and whether it finds something
+-- the answer to a task over its input and logs: a text, where the Bool is whether it finds
+-- something (`FindsIn`), or the first refusal
 abbrev pub AnswersFindingWith : Task → Bool → List ℕ → List (List ℕ)
     → Result (List ℕ) Fault → Type 0
 AnswersFindingWith task found =
     AnswersWithInput (IsBadInput task) (IsFindingText task found)
 
--- an audit finds something exactly if the logs are not covered
+-- an audit that answers accepted logs with a text finds something exactly if the map that they
+-- commit is not covered
 abbrev pub AuditFindsNotCovered : Type 0
 AuditFindsNotCovered = (logs : List (List ℕ)) (m : List Instance) → IsAccepted logs m
     → (found : Bool) (text : List ℕ) → AnswersFinding Audit found logs (Ok text)
     → (found ≡ true) ↔ (¬ IsCovered m)
 
--- a check finds something exactly if the list is not a lawful order, or, checked as a prefix,
--- not a prefix of one
+-- a check that answers a list and accepted logs with a text finds something exactly if the list is
+-- not a lawful order of what they commit, or, checked as a prefix, not a prefix of one
 pub record CheckFindsNotLawful : Type 0 where
   pub order : (list : List ℕ) (logs : List (List ℕ)) (ids : List Id) (m : List Instance)
       → IsList list ids → IsAccepted logs m → (found : Bool) (text : List ℕ)

@@ -12,13 +12,15 @@ use Rattle.epx_tool.specs.Report.{IsReport}
 use Rattle.epx_tool.specs.ReportedRuns.{reported_of, run_in}
 use Rattle.epx_tool.specs.ResumedReport.{IsReportAfter}
 
--- the report of a map is its report after nothing is done, from the empty store
+-- a text is the report of a map exactly if it is its resumed report (`IsReportAfter`) with no done
+-- instances and the empty store
 abbrev pub ReportIsAfterNothing : Type 0
 ReportIsAfterNothing = (m : List Instance) (text : List ℕ) → IsReport m text
     ↔ IsReportAfter [] contents.empty m text
 
--- a report whose numbers and texts fit their types is a base. Its done instances were done before
--- or are executed in the report, and its store is the final store of the report.
+-- A resumed report whose numbers and texts are within the limits of a base (`FitsReportData`), and
+-- whose done instances rise, is a base. Its done instances are those done before and those executed
+-- in it; its store is what the execution leaves
 abbrev pub ReportIsBase : Type 0
 ReportIsBase = (done : List Id) (stored : Contents) (m : List Instance) (text : List ℕ)
     (p : IsReportAfter done stored m text) → IsRising done →

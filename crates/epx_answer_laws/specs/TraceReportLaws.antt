@@ -34,22 +34,26 @@ TraceEndsInTheStore = (m : List Instance) (key : List ℕ) (reads : Bool) (repor
 
 -- ---- over the lines of both texts
 
--- the value after the command, if the line is that of a write: `["write",r,i,before,after]`
+-- the last of five elements that begin with the text `"write"`, as those of a line
+-- `["write",r,i,before,after]` do, if it is a value or null; null is `Some None`, anything else is
+-- None
 abbrev pub written_of_list : List Data → Option (Option ℤ)
 written_of_list (n ∷ r ∷ i ∷ before ∷ after ∷ []) =
     if is_text (codes "write") n then value_or_null after else None
 written_of_list _ = None
 
--- the value with which a line of a trace ends, if it is a `write` line; null is `Some None`
+-- the value `after` of a line `["write",r,i,before,after]`, where null is `Some None`; None for
+-- other lines
 abbrev pub written_of : List ℕ → Option (Option ℤ)
 written_of line = option_and_then written_of_list (option_and_then elements (json_of line))
 
--- the value of the key after a line of its trace, where it had this value before
+-- the value of a key after a line of its trace: what a `write` line ends with; any other line
+-- leaves the value that the key had before
 abbrev pub value_after_line : Option ℤ → List ℕ → Option ℤ
 value_after_line value line = unwrap_or (written_of line) value
 
--- of the same logs, the report has a store line for a key exactly if the last write line of the
--- key's trace ends with a value, and with this value
+-- over the same logs, the store of the report, read as a base, has under a key the value with which
+-- the last `write` line of the key's trace ends, and nothing if it is null or there is no such line
 abbrev pub LastWriteLineIsTheStoreLine : Type 0
 LastWriteLineIsTheStoreLine = (logs : List (List ℕ)) (key : KeyName) (reads : Bool)
     (report trace : List ℕ) → IsAnswer logs (Ok report)

@@ -24,7 +24,8 @@ abbrev pub BlockedInstancesWait : Type 0
 BlockedInstancesWait = (m : List Instance) (x : Id)
     → ((y : Id) × Blocks m y x) ↔ ((y : Id) × WaitsFor m x y)
 
--- each waiting instance is counted once
+-- the numbers of instances that the missing ones block alone and the number of those that several
+-- block add up to the number of waiting instances
 abbrev pub CountsAddUpToTheWaiting : Type 0
 CountsAddUpToTheWaiting = (m : List Instance) (bs : List Blocker) (several : ℕ)
     (ws : List Waiting) → AreBlockers m bs → IsCount (SeveralBlock m) several

@@ -7,7 +7,8 @@ use Rattle.epx_blockers.specs.IdCounts.{IsCount}
 use Rattle.epx_blockers.specs.Blockers.{AreBlockers}
 use Rattle.epx_blockers.specs.BlockerLines.{blocks_line, several_line}
 
--- a line for each missing instance, and then one with the number of instances that several block
+-- the text has a line `blocks` for each missing instance, by rising Id, and then the line `several`
+-- with the number of instances that more than one of them blocks
 pub record IsBlockersText (m : List Instance) (text : List ℕ) : Type 0 where
   pub blockers : List Blocker
   pub several : ℕ

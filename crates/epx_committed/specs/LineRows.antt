@@ -9,7 +9,8 @@ use Rattle.epx_types.specs.PlacedLines.{Placed}
 use Rattle.epx_committed.specs.declared.rows.Row.{Row}
 use Rattle.epx_committed.specs.declared.rows.TheConstants.{NO_LIST}
 
--- the row of a line at an index of a list
+-- the row of the line p, which is at this index of the list with this number: its Id, its sequence
+-- number, and both indices
 abbrev pub row_at : ℕ → ℕ → Placed → Row
 row_at list index p = record { id = p.instance.id; seq = p.instance.seq; list = list; at = index }
 
@@ -40,7 +41,7 @@ pub record AreLineRows (lists : List (Vec Placed Global)) (rows : List Row) : Ty
 
 -- ---- slots, which have a row or not
 
--- the row names a list, which that of an empty slot does not
+-- the slot has a row: the index of its list is below `NO_LIST`, the index that an empty slot has
 abbrev pub HasList : Row → Type 0
 HasList r = r.list < NO_LIST
 

@@ -12,19 +12,21 @@ use Rattle.epx_types.specs.Agreement.{Agree, IsFirstDisagreement}
 use Rattle.epx_types.specs.CommittedMap.{IsCommittedBy}
 use Rattle.epx_committed.specs.InstanceCounts.{FewInstances, ManyInstances}
 
--- the lines name few enough instances and agree, and this is the map that they commit
+-- the lines have at most `max_instances` distinct Ids and agree, and m is the map that they commit
 pub record IsMerged (lines : List Placed) (m : List Instance) : Type 0 where
   pub small : FewInstances lines
   pub agree : Agree lines
   pub committed : IsCommittedBy lines m
 
--- the least instance with two lines that differ, the place of its first line, and of the first
--- later line that differs from that one
+-- `id` is the least Id of which two lines differ; `first` is the earliest place of its lines, and
+-- `second` the earliest place of a line that differs from the one at `first`
 abbrev pub IsDisagreementAt : List Placed → Id → Place → Place → Type 0
 IsDisagreementAt lines id first second = (p q : Placed) × IsFirstDisagreement lines id p q
     × (p.place ≡ first) × (q.place ≡ second)
 
--- too many instances, or the first disagreement. Out of memory says nothing about the lines
+-- the fault is `TooManyInstances`, and the lines have more than `max_instances` distinct Ids; or
+-- they have not, and it is `Disagree` with their first disagreement; or it is `Memory`, which says
+-- nothing about the lines
 abbrev pub IsMergeFault : List Placed → Fault → Type 0
 IsMergeFault lines Memory = Unit {0}
 IsMergeFault lines TooManyInstances = ManyInstances lines

@@ -10,7 +10,8 @@ use Rattle.epx_merge.specs.Refusals.{FitLimits, IsFirstTooLong}
 use Rattle.epx_compare.specs.declared.comparison.Comparison.{Comparison}
 use Rattle.epx_compare.specs.Comparisons.{HasFindings, IsComparison}
 
--- the refusals: none is of a bad line, or of lines that differ
+-- why logs are not compared: there are too many, else the first that is too long, else too many
+-- instances. `Memory` says nothing of the logs. Bad lines and lines that differ are no reason
 abbrev pub IsComparisonRefusal : List (List ℕ) → Fault → Type 0
 IsComparisonRefusal logs Memory = Unit {0}
 IsComparisonRefusal logs TooManyLogs = max_logs < length logs
@@ -25,12 +26,14 @@ pub record IsComparisonOf (logs : List (List ℕ)) (text : List ℕ) : Type 0 wh
   pub few : FewInstances (placed_of logs)
   pub compared : IsComparison logs text
 
--- what logs say against each other, or the first refusal
+-- the result is a text that compares the logs (`IsComparisonOf`), or a fault for which they are not
+-- compared (`IsComparisonRefusal`)
 abbrev pub Compares : List (List ℕ) → Result (List ℕ) Fault → Type 0
 Compares logs (Ok text) = IsComparisonOf logs text
 Compares logs (Err fault) = IsComparisonRefusal logs fault
 
--- the comparison of logs, which says whether something is wrong with them, or their first refusal
+-- the result is a text that compares the logs, and `has_findings`, which is true exactly if
+-- something is wrong with them (`HasFindings`); or a fault of `IsComparisonRefusal`
 abbrev pub IsComparisonResult : List (List ℕ) → Result Comparison Fault → Type 0
 IsComparisonResult logs (Ok c) =
     Compares logs (Ok c.text.items) × ((c.has_findings ≡ true) ↔ HasFindings logs)

@@ -21,16 +21,17 @@ some_differ same lines =
 abbrev pub named_if : Bool → List ℕ → List (List ℕ)
 named_if differs name = if differs then name ∷ [] else []
 
--- the names of the members in which two of the lines differ
+-- those of `seq`, `deps` and `ops`, in this order, in which two of the lines differ
 abbrev pub differing_members : List Placed → List (List ℕ)
 differing_members lines = named_if (some_differ same_seq lines) (codes "seq")
     ++ (named_if (some_differ same_deps lines) (codes "deps")
     ++ named_if (some_differ same_ops lines) (codes "ops"))
 
--- the places of the lines that commit this
+-- the places of those of the lines that commit exactly this instance, in their order
 abbrev pub places_of : List Placed → Instance → List Place
 places_of lines e = map (λ p. p.place) (filter (λ p. same_instance e p.instance) lines)
 
--- the places of the lines, those that commit the same together
+-- the places of the lines, in one group for each distinct instance that they commit, in the order
+-- of the first line of each
 abbrev pub groups_of : List Placed → List (List Place)
 groups_of lines = map (places_of lines) (versions_of lines)

@@ -16,18 +16,18 @@ last_lacked gap = record { replica = gap.replica; number = gap.to }
 abbrev pub IsInGap : Gap → Id → Type 0
 IsInGap gap x = (x.replica ≡ gap.replica) × (gap.from ≤ x.number) × (x.number ≤ gap.to)
 
--- the log lacks this one of the Ids
+-- x is one of `ids`, and `has` is false of it: the log does not commit it
 pub record IsLacked (has : Id → Bool) (ids : List Id) (x : Id) : Type 0 where
   pub among : Contains ids x
   pub lacks : has x ≡ false
 
--- the gap goes from an Id that is lacked to one that is
+-- the gap does not end before it begins, and its first and its last instance are lacked
 pub record HasLackedEnds (has : Id → Bool) (ids : List Id) (gap : Gap) : Type 0 where
   pub upward : gap.from ≤ gap.to
   pub first : IsLacked has ids (first_lacked gap)
   pub last : IsLacked has ids (last_lacked gap)
 
--- between two gaps of one replica this Id is not lacked
+-- x is one of `ids` that is not lacked, of the replica of gap g, after g and before gap h
 pub record IsBetween (has : Id → Bool) (ids : List Id) (g h : Gap) (x : Id) : Type 0 where
   pub among : Contains ids x
   pub had : has x ≡ true
@@ -35,15 +35,15 @@ pub record IsBetween (has : Id → Bool) (ids : List Id) (g h : Gap) (x : Id) : 
   pub after : g.to < x.number
   pub before : x.number < h.from
 
--- exactly the Ids in a gap are lacked, and so are the ends of each gap; of two gaps of one replica
--- the first is the lower one, and some Id between them is not lacked
+-- of `ids` exactly those in a gap are lacked, and so are the ends of each gap; of two gaps of one
+-- replica the first is the lower one, and some Id between them is not lacked
 pub record AreGaps (has : Id → Bool) (ids : List Id) (gaps : List Gap) : Type 0 where
   pub lacked : (x : Id) → Contains ids x
       → (has x ≡ false) ↔ ((gap : Gap) × Contains gaps gap × IsInGap gap x)
   pub ends : (gap : Gap) → Contains gaps gap → HasLackedEnds has ids gap
   pub apart : AllPairs (λ g h. g.replica ≡ h.replica → (x : Id) × IsBetween has ids g h x) gaps
 
--- `gaps_of` returns the gaps among rising Ids
+-- of rising Ids, `gaps_of` returns gaps of which `AreGaps` holds
 abbrev pub GapsAreOfTheLacked : Type 0
 GapsAreOfTheLacked = (has : Id → Bool) (ids : List Id) → IsRising ids
     → AreGaps has ids (gaps_of has ids)

@@ -15,7 +15,7 @@ pub record Gap : Type 0 where
   pub from : ℕ
   pub to : ℕ
 
--- the next of the Ids is of the same replica, and lacked too
+-- there is a next Id, and it is of this replica and lacked too: `has` is false of it
 abbrev pub goes_on : (Id → Bool) → ℕ → List Id → Bool
 goes_on has replica [] = false
 goes_on has replica (y ∷ ids) = (y.replica == replica) && not (has y)
@@ -26,7 +26,8 @@ widened number [] = []
 widened number (gap ∷ gaps) =
     record { replica = gap.replica; from = number; to = gap.to } ∷ gaps
 
--- the gaps among rising Ids; `has` says which are not lacked
+-- the longest runs of Ids of one replica, next to each other in a rising list, that are lacked:
+-- `has` is false of them. Ids that are not in the list do not end a run
 abbrev pub gaps_of : (Id → Bool) → List Id → List Gap
 gaps_of has [] = []
 gaps_of has (x ∷ ids) =

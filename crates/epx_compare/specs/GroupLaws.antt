@@ -27,12 +27,13 @@ abbrev pub GroupsAreOfTheSame : Type 0
 GroupsAreOfTheSame = (lines : List Placed) → HaveDistinctPlaces lines
     → AreGroups lines (groups_of lines)
 
--- this part of two of the lines is not equal
+-- two of the lines commit instances of which this part is not equal
 abbrev pub TwoDiffer : {A : Type 0} → (Instance → A) → List Placed → Type 0
 TwoDiffer part lines = (p q : Placed) × Contains lines p × Contains lines q
     × (part p.instance ≢ part q.instance)
 
--- a member is named exactly if it is not equal in two of the lines
+-- `some_differ` finds a difference in `seq`, in `deps` or in `ops` exactly if two of the lines are
+-- not equal in this member
 pub record MembersAreOfTheDifferent : Type 0 where
   pub seq : (lines : List Placed)
       → (some_differ same_seq lines ≡ true) ↔ TwoDiffer (λ e. e.seq) lines

@@ -6,7 +6,7 @@ use Rattle.epx_graph.specs.NodePaths.{NodeReaches}
 abbrev pub InOneNodeComponent : (ℕ → List ℕ) → ℕ → ℕ → Type 0
 InOneNodeComponent edges k j = NodeReaches edges k j × NodeReaches edges j k
 
--- the leader of a component is its least node
+-- `leader` is the least node of the component of k
 pub record IsNodeLeader (edges : ℕ → List ℕ) (k leader : ℕ) : Type 0 where
   pub member : InOneNodeComponent edges k leader
   pub least : (j : ℕ) → InOneNodeComponent edges k j → leader ≤ j

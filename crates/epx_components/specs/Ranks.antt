@@ -3,10 +3,11 @@ use Rattle.std.specs.Prelude.{List, map}
 use Rattle.epx_types.specs.ExecutionOrder.{Ranked}
 use Rattle.epx_components.specs.declared.rank.Rank.{Rank}
 
--- what a rank in memory says of its instance, as the definition of the execution order has it
+-- a `Rank` of the code as a `Ranked` of the definitions: the same Id, sequence number, leader and
+-- depth
 abbrev pub ranked : Rank → Ranked
 ranked r = record { id = r.id; seq = r.seq; leader = r.leader; depth = r.depth }
 
--- what each of some ranks says of its instance, in the order of the ranks
+-- each `Rank` of the code as a `Ranked` of the definitions, in their order
 abbrev pub ranked_all : List Rank → List Ranked
 ranked_all ranks = map ranked ranks

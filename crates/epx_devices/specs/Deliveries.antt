@@ -11,20 +11,22 @@ pub record ReadStep (S : Type 0) : Type 0 where
   pub bytes : List ℕ
   pub next : S
 
--- each read begins in the state in which the previous one left the source
+-- the reads follow one another: the first from the state `first`, each other from the state in
+-- which the previous one left the source; the last leaves it in the state `now`
 abbrev pub AreReads : {S : Type 0} → SourceModel S → S → List (ReadStep S) → S → Type 0
 AreReads D first [] now = first ≡ now
 AreReads D first (r ∷ rest) now =
     D.reads first r.room r.bytes r.next × AreReads D r.next rest now
 
--- reads of the source returned exactly these bytes
+-- reads, one after another from the state `first` to `now`, returned together exactly these bytes
 pub record Delivers {S : Type 0} (D : SourceModel S)
     (first now : S) (bytes : List ℕ) : Type 0 where
   pub steps : List (ReadStep S)
   pub in_turn : AreReads D first steps now
   pub returned : bytes ≡ flat_map (λ r. r.bytes) steps
 
--- these are all bytes of the source: one more read, which had room, returned none
+-- these are all bytes of the source from the state `first` on: reads returned them, and one more
+-- read, which had room, returned none and left the state `now`
 pub record DeliversAll {S : Type 0} (D : SourceModel S)
     (first now : S) (bytes : List ℕ) : Type 0 where
   pub last : S
@@ -45,7 +47,9 @@ pub record DeliversThenFails {S : Type 0} (D : SourceModel S) (first now : S) : 
   pub before : Delivers D first last bytes
   pub failed : D.fails last now
 
--- reading the log of this number stopped with this fault: the log is too long, or a read failed
+-- reading the log of this number may stop with this fault: `LogTooLong` after reads of
+-- `max_log_bytes` + 1 bytes, `Read` after a failed read, both with this number, or `Memory` at any
+-- time; no other fault
 abbrev pub IsLogStop : {S : Type 0} → SourceModel S → ℕ → S → S → Fault → Type 0
 IsLogStop D log first now Memory = Unit {0}
 IsLogStop D log first now (LogTooLong k) =

@@ -16,8 +16,9 @@ pub record ReaderState (R : Type 0) : Type 0 where
 abbrev pub IsUnread : {R : Type 0} → ReaderState R → Type 0
 IsUnread s = (s.returned ≡ []) × (s.failed ≡ false)
 
--- A source over a reader of which these bytes remain. A read returned bytes of the reader, which
--- it has returned since; a failed one lost none that were known.
+-- a source over a reader whose remaining bytes are `remaining`, if known. A read is one read of it,
+-- whose bytes are appended to `returned`. A failed one loses no known bytes, leaves `returned` as
+-- it is, and sets `failed`
 abbrev pub reader_source : {R : Type 0} → (R → Option (List ℕ)) → SourceModel (ReaderState R)
 reader_source remaining = record {
   remaining = λ s. remaining s.reader;
@@ -28,7 +29,7 @@ reader_source remaining = record {
   has_failed = λ s. s.failed;
 }
 
--- a writer, what it has accepted, and whether a call has failed
+-- a writer, all bytes that it has accepted, whether they are flushed, and whether a call has failed
 pub record WriterState (W : Type 0) : Type 0 where
   pub writer : W
   -- all bytes that it has accepted
@@ -37,7 +38,8 @@ pub record WriterState (W : Type 0) : Type 0 where
   pub flushed : Bool
   pub failed : Bool
 
--- a sink over a writer
+-- a sink over a writer: the bytes that it has accepted are always known, and it buffers none of
+-- them if a flush succeeded and nothing was written after it
 abbrev pub writer_sink : {W : Type 0} → SinkModel (WriterState W)
 writer_sink = record {
   contents = λ s. Some s.taken;
@@ -45,14 +47,15 @@ writer_sink = record {
   has_failed = λ s. s.failed;
 }
 
--- the file at this path, which is present once it is open, and what opens it
+-- a source at a path: what opens files, the path, the file once open, and whether a call has failed
 pub record PathState (O F : Type 0) : Type 0 where
   pub opener : O
   pub path : List ℕ
   pub file : Option F
   pub failed : Bool
 
--- what opens files of the system: no contract of the system says which file is at a path
+-- what opens files of the system: nothing was read from a file that it opens, and no call on it has
+-- failed. Which file is at a path, and when opening fails, is not known
 abbrev pub file_opener : {O R : Type 0} → OpenerModel O (ReaderState R)
 file_opener = record { opens = λ _ _ file. IsUnread file; refuses = λ _ _. ⊤ }
 
@@ -60,8 +63,8 @@ file_opener = record { opens = λ _ _ file. IsUnread file; refuses = λ _ _. ⊤
 abbrev pub HasAccepted : {W : Type 0} → WriterState W → List ℕ → Type 0
 HasAccepted file bytes = (file.taken ≡ bytes) × (file.flushed ≡ true)
 
--- what saves files of the system: a file was filled with the bytes. No contract of the system says
--- which file is at a path
+-- what saves files of the system: if it saves bytes, some file has accepted exactly these and
+-- buffers none. Which file is at the path, and when saving fails, is not known
 abbrev pub file_saver : {V : Type 0} → (W : Type 0) → SaverModel V
 file_saver W = record {
   saves = λ _ path bytes _. (file : WriterState W) × HasAccepted file bytes;
@@ -97,7 +100,8 @@ abbrev pub FailsPath : {O F : Type 0} → OpenerModel O F → SourceModel F
     → PathState O F → PathState O F → Type 0
 FailsPath opening D s t = (t.failed ≡ true) × FailsPathYet opening D s t
 
--- a source over the file at a path
+-- a source over the file at a path, which is opened by the first read. The bytes that remain are
+-- known only once it is open, and if they are known of the file
 abbrev pub path_source : {O F : Type 0} → OpenerModel O F → SourceModel F
     → SourceModel (PathState O F)
 path_source opening D = record {

@@ -16,14 +16,14 @@ ReadsEither first second (First a) room bytes (First b) = first.reads a room byt
 ReadsEither first second (Second a) room bytes (Second b) = second.reads a room bytes b
 ReadsEither first second _ room bytes _ = ⊥
 
--- a failed read of a source of either type
+-- a failed read of a source of either type, after which the source has the same type
 abbrev pub FailsEither : {A B : Type 0} → SourceModel A → SourceModel B
     → EitherSource A B → EitherSource A B → Type 0
 FailsEither first second (First a) (First b) = first.fails a b
 FailsEither first second (Second a) (Second b) = second.fails a b
 FailsEither first second _ _ = ⊥
 
--- a source of either type
+-- a source of one of two types, with the model of its own type; no read changes the type
 abbrev pub either_source : {A B : Type 0} → SourceModel A → SourceModel B
     → SourceModel (EitherSource A B)
 either_source first second = record {

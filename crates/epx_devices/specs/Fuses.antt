@@ -14,11 +14,12 @@ pub record FuseState : Type 0 where
   pub fuse : Option ℕ
   pub failed : Bool
 
--- how many of n bytes one call transfers
+-- how many of n bytes one call transfers: the least of n, `at_once` and, if there is one, `fuse`
 abbrev pub allowed_of : ℕ → ℕ → Option ℕ → ℕ
 allowed_of n at_once fuse = min (min n at_once) (unwrap_or fuse n)
 
--- how many of n bytes the next call of the device transfers
+-- how many of n bytes the next call of the device transfers: the least of n, its `at_once` and, if
+-- it has one, its `fuse`
 abbrev pub allowed : FuseState → ℕ → ℕ
 allowed d n = allowed_of n d.at_once d.fuse
 
@@ -26,15 +27,16 @@ allowed d n = allowed_of n d.at_once d.fuse
 abbrev pub IsSpent : FuseState → Type 0
 IsSpent d = d.fuse ≡ Some 0
 
--- a call has returned an error
+-- the device after a call that returned an error: `failed` is set, and all else is unchanged
 abbrev pub after_failure : FuseState → FuseState
 after_failure d = record d { failed = true }
 
--- n bytes were transferred, and these are the bytes now
+-- the device after a transfer of n bytes: it has these bytes, and its fuse, if any, is lower by n
 abbrev pub after_transfer : FuseState → ℕ → List ℕ → FuseState
 after_transfer d n bytes = record d { bytes = bytes; fuse = option_map (λ k. k - n) d.fuse }
 
--- a source that fails once its fuse is spent
+-- a source in memory with a fuse: the bytes that remain are always known, and a read fails only if
+-- the fuse is spent
 abbrev pub fuse_source : SourceModel FuseState
 fuse_source = record {
   remaining = λ s. Some s.bytes;
@@ -43,7 +45,8 @@ fuse_source = record {
   has_failed = λ s. s.failed;
 }
 
--- a sink that fails once its fuse is spent
+-- a sink in memory with a fuse: the bytes that it has accepted are always known, and it buffers
+-- none of them
 abbrev pub fuse_sink : SinkModel FuseState
 fuse_sink = record {
   contents = λ s. Some s.bytes;

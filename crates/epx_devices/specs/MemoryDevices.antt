@@ -3,7 +3,7 @@ use Rattle.std.specs.Prelude.{◌≡◌, ◌≤◌, ℕ, Bool, true, false, List
 use Rattle.epx_devices.specs.Models.{SaverModel, SinkModel, SourceModel}
 use Rattle.epx_devices.specs.Reads.{IsOneRead}
 
--- a source of these bytes, of which no read fails
+-- a source in memory: the bytes that remain are always known, and no read fails
 abbrev pub memory_source : SourceModel (List ℕ)
 memory_source = record {
   remaining = Some;
@@ -17,7 +17,7 @@ pub record SinkState : Type 0 where
   pub bytes : List ℕ
   pub failed : Bool
 
--- a sink that buffers nothing
+-- a sink in memory: the bytes that it has accepted are always known, and it buffers none of them
 abbrev pub memory_sink : SinkModel SinkState
 memory_sink = record {
   contents = λ s. Some s.bytes;
@@ -25,12 +25,14 @@ memory_sink = record {
   has_failed = λ s. s.failed;
 }
 
--- the paths under which bytes were saved, in that order, and how many bytes a saver takes at most
+-- the paths under which bytes were saved, each with these bytes, in the order of saving, and the
+-- most bytes that one call may save
 pub record SaverState : Type 0 where
   pub files : List (List ℕ × List ℕ)
   pub room : ℕ
 
--- a saver that keeps what it is given
+-- a saver in memory: a path and its bytes, at most `room` of them, are appended to `files`; a save
+-- that fails changes nothing
 abbrev pub memory_saver : SaverModel SaverState
 memory_saver = record {
   saves = λ s path bytes t. (length bytes ≤ s.room)

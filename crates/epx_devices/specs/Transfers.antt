@@ -4,7 +4,7 @@ use Rattle.std.specs.Io.KnownBytes.{Appends, Consumes}
 use Rattle.epx_types.specs.declared.fault.Fault.{Fault}
 use Rattle.epx_types.specs.declared.fault.Fault.TheVariants.{Memory, LogTooLong, Read}
 
--- the faults with which reading this log can end
+-- the fault is `Memory`, or it is `LogTooLong` or `Read` with the number of this log
 abbrev pub IsReadLogFault : ℕ → Fault → Type 0
 IsReadLogFault log Memory = Unit {0}
 IsReadLogFault log (LogTooLong other) = other ≡ log

@@ -15,8 +15,8 @@ use Rattle.epx_committed.specs.MergedLines.{IsMerged}
 use Rattle.epx_laws.specs.ResumedRunLaws.{run_on}
 use Rattle.epx_executor.specs.CallLines.{call_lines}
 
--- the executed instances, the contents of the store, and the committed instances that wait, by
--- rising Id
+-- what an executor holds: the executed instances, the contents of the store, and the committed
+-- instances that wait
 pub record ExecutorView : Type 0 where
   pub done : List Id
   pub store : Contents
@@ -26,14 +26,16 @@ pub record ExecutorView : Type 0 where
 abbrev pub not_done : List Id → List Instance → List Instance
 not_done done m = filter (λ e. not (is_among done e.id)) m
 
--- no pending instance is done or ready
+-- pending instances are by rising Id, and none is done; none is ready where dependencies on done
+-- instances are left out
 pub record AllWait (v : ExecutorView) : Type 0 where
   pub rising : IsRising (ids_of v.pending)
   pub not_done : (e : Instance) → Contains v.pending e → ¬ Contains v.done e.id
   pub none_ready : (x : Id) → ¬ IsReady (remaining v.done v.pending) x
 
--- `other` is the map that the lines of the call commit. What is ready in its remaining map is
--- executed in the execution order, and is done then. The others are pending
+-- `other` is the map that pending instances and those of `came` that are not done commit. What is
+-- ready in its remaining map is executed on the store in execution order, and is done then;
+-- `replies` has the reply of each, in this order. The rest of `other` is pending
 pub record IsCommit (before : ExecutorView) (came : List Instance) (after : ExecutorView)
     (replies : List (Id × Reply)) : Type 0 where
   pub other : List Instance
@@ -47,6 +49,7 @@ pub record IsCommit (before : ExecutorView) (came : List Instance) (after : Exec
       ↔ (Contains before.done x ⊎ Contains (ranked_ids order) x)
   pub pending : after.pending ≡ not_done after.done other
 
--- contents are coded as finite maps are
+-- the code of store contents, which a model needs (Rattle's `coded`): that of finite maps from
+-- lists of natural numbers to integers
 abbrev pub contents_code : Coded Contents
 contents_code = contents.code (coded_list coded_ℕ) coded_ℤ

@@ -18,24 +18,26 @@ use Rattle.epx_executor.specs.Commits.{ExecutorView, IsCommit, AllWait}
 abbrev pub new_executor : ExecutorView
 new_executor = record { done = []; store = contents.empty; pending = [] }
 
--- The Ids of m rise. The done instances and the store are sound for m, and the pending instances
--- are instances of m
+-- The Ids of m rise. The done instances and the store are sound for m, and each pending instance
+-- that is not done is one of m
 pub record IsSoundFor (m : List Instance) (v : ExecutorView) : Type 0 where
   pub rising : IsRising (ids_of m)
   pub sound : IsSound m v.done v.store
   pub has : HasRemaining m v.done v.pending
 
--- a new executor is sound for every map
+-- a new executor is sound for every committed map
 abbrev pub NewExecutorIsSound : Type 0
 NewExecutorIsSound = (m : List Instance) → IsRising (ids_of m) → IsSoundFor m new_executor
 
--- an executor stays sound for a map if each instance that comes is done or in the map
+-- after a commit, an executor that was sound for a map is sound for it if each instance that came
+-- was done or is in the map
 abbrev pub CommittingStaysSound : Type 0
 CommittingStaysSound = (m came : List Instance) (before after : ExecutorView)
     (replies : List (Id × Reply)) → IsSoundFor m before → HasRemaining m before.done came
     → IsCommit before came after replies → IsSoundFor m after
 
--- if the map is covered, each reply is the one that the instance has in a run over the whole map
+-- if an executor is sound for a covered map and each instance that comes is done or in the map,
+-- each reply is the one that the instance has in a run over the whole map
 abbrev pub CommittedRepliesAreThoseOfTheWhole : Type 0
 CommittedRepliesAreThoseOfTheWhole = (m came : List Instance) (before after : ExecutorView)
     (replies : List (Id × Reply)) → IsSoundFor m before → HasRemaining m before.done came
@@ -44,7 +46,8 @@ CommittedRepliesAreThoseOfTheWhole = (m came : List Instance) (before after : Ex
     (i : ℕ) (x : Id) (r : Reply) → slice_get replies i ≡ Some (x, r)
     → HasReply whole (whole_run m whole) x r
 
--- once all ready instances of a covered map are done, the store is that of a run over the whole map
+-- once all ready instances of a covered map are done in an executor that is sound for it, its store
+-- is that of a run over the whole map
 abbrev pub AllCommittedIsTheWhole : Type 0
 AllCommittedIsTheWhole = (m : List Instance) (v : ExecutorView) → IsSoundFor m v → IsCovered m
     → ((x : Id) → IsReady m x → Contains v.done x) →
@@ -65,7 +68,8 @@ CommitResumesAllThatCame = (came : List Instance) (before after : ExecutorView)
     → Contains all e ↔ (Contains before.pending e ⊎ Contains came e))
     → remaining before.done all ≡ remaining before.done commit.other
 
--- if the instances of a map that are not done are the pending ones, none of them is ready in it
+-- a map has the pending instances, and no others that are not done; all done Ids are ready in it.
+-- Then, if `AllWait` holds, only done Ids are ready in it
 abbrev pub NothingIsHeldBack : Type 0
 NothingIsHeldBack = (v : ExecutorView) → AllWait v → (all : List Instance)
     → IsRising (ids_of all)
@@ -79,7 +83,8 @@ NoneIsExecutedTwice = (came : List Instance) (before after : ExecutorView)
     (replies : List (Id × Reply)) → IsCommit before came after replies →
     (i : ℕ) (x : Id) (r : Reply) → slice_get replies i ≡ Some (x, r) → ¬ Contains before.done x
 
--- two executors hold the same, whatever the order of their done instances
+-- two executors have the same done instances, in any order, the same store and the same list of
+-- pending instances
 pub record HoldTheSame (v w : ExecutorView) : Type 0 where
   pub done : (x : Id) → Contains v.done x ↔ Contains w.done x
   pub store : v.store ≡ w.store
@@ -93,7 +98,7 @@ SameExecutorsCommitAlike = (v w : ExecutorView) → HoldTheSame v w → (came : 
     → (replies ≡ others) × HoldTheSame next last
 
 -- an executor that starts with what another one has done and stored, and commits what is pending
--- there, replies nothing and holds the same
+-- there, replies nothing and holds the same, if `AllWait` holds of the other one
 abbrev pub RestartedExecutorHoldsTheSame : Type 0
 RestartedExecutorHoldsTheSame = (v : ExecutorView) → AllWait v →
     (done : List Id) → ((x : Id) → Contains done x ↔ Contains v.done x) →

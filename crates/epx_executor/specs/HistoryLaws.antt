@@ -19,7 +19,8 @@ use Rattle.epx_executor.specs.ExecutorLaws.{new_executor}
 abbrev pub Call : Type 0
 Call = List Instance × List (Id × Reply)
 
--- the calls lead from one state of the executor to another
+-- each call, one after another, is a commit (`IsCommit`); together they lead from `before` to
+-- `after`
 abbrev pub AreCommits : ExecutorView → List Call → ExecutorView → Type 0
 AreCommits before [] after = before ≡ after
 AreCommits before (call ∷ calls) after =
@@ -43,8 +44,9 @@ abbrev pub AllCame : List Instance → List Call → Type 0
 AllCame m calls = (e : Instance) → Contains m e
     → (call : Call) × Contains calls call × Contains call.0 e
 
--- Covered or not: the calls of a new executor execute, one after another, a prefix of a
--- lawful order of each map that contains what came
+-- Covered or not: the calls of a new executor execute, one after another, a prefix of a lawful
+-- order of each committed map that contains what came. Replies and store are those of this prefix,
+-- executed from the empty store
 abbrev pub CallsExecuteALawfulPrefix : Type 0
 CallsExecuteALawfulPrefix = (m : List Instance) → IsRising (ids_of m) →
     (calls : List Call) (after : ExecutorView) → AreCommits new_executor calls after
@@ -64,7 +66,8 @@ CallsReplyAsTheWhole = (m : List Instance) → IsRising (ids_of m) → IsCovered
     (i : ℕ) (x : Id) (r : Reply) → slice_get call.1 i ≡ Some (x, r)
     → HasReply whole (whole_run m whole) x r
 
--- once all have come, all ready ones are done, and the store is that of a run over the whole map
+-- once all instances of a covered map, and no others, have come to a new executor, all ready ones
+-- are done, and the store is that of a run over the whole map
 abbrev pub CallsLeaveWhatTheWholeLeaves : Type 0
 CallsLeaveWhatTheWholeLeaves = (m : List Instance) → IsRising (ids_of m) → IsCovered m →
     (calls : List Call) (after : ExecutorView) → AreCommits new_executor calls after

@@ -21,19 +21,19 @@ start_of r = record { replica = r.replica; number = r.first }
 abbrev pub end_of : Run → Id
 end_of r = record { replica = r.replica; number = r.last }
 
--- a run has a number
+-- the run is not empty: its first number is at most its last one
 abbrev pub IsFilledRun : Run → Type 0
 IsFilledRun r = r.first ≤ r.last
 
--- each run has a number
+-- no run is empty
 abbrev pub AreFilled : List Run → Type 0
 AreFilled runs = All IsFilledRun runs
 
--- no run begins before an earlier one
+-- the first Id of each run is at most that of each later run
 abbrev pub BeginInOrder : List Run → Type 0
 BeginInOrder runs = AllPairs (λ a b. UpTo (start_of a) (start_of b)) runs
 
--- the runs have numbers, and each ends before the next ones begin
+-- no run is empty, and each ends before all later ones begin, by replica and then number
 pub record AreRuns (runs : List Run) : Type 0 where
   pub filled : AreFilled runs
   pub apart : AllPairs (λ a b. Below (end_of a) (start_of b)) runs
@@ -43,6 +43,6 @@ unfoldable pub ids_of_run : Run → List Id
 ids_of_run r = map (λ n. record { replica = r.replica; number = n })
     (range_with_len r.first (r.last + 1 - r.first))
 
--- the Ids in some runs
+-- the Ids in some runs, run by run
 unfoldable pub ids_in : List Run → List Id
 ids_in runs = flat_map ids_of_run runs

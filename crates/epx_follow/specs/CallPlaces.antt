@@ -10,12 +10,14 @@ use Rattle.epx_types.specs.PlacedLines.{Placed}
 abbrev pub held_places : List Placed → List Place
 held_places lines = map (λ p. p.place) lines
 
--- the place that a line of a call names, among the places of both lists
+-- the place of a line of a call: that of element `at.line`, counted from 1, of `pending` if its log
+-- is 0, and of `batch` otherwise
 abbrev pub place_among : List Place → List Place → Place → Place
 place_among pending batch at =
     get_or (cond (nat_eq at.log 0) pending batch) (at.line - 1) at
 
--- the fault of a call, with the places that its lines name
+-- the fault of a call, where a disagreement names the places of its two lines (`place_among`); any
+-- other fault stays as it is
 abbrev pub at_lines : List Place → List Place → Fault → Fault
 at_lines pending batch (Disagree id first second) =
     Disagree id (place_among pending batch first) (place_among pending batch second)

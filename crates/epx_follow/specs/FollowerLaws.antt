@@ -18,7 +18,9 @@ use Rattle.epx_follow.specs.InputEnds.{IsFollowed}
 abbrev pub executor_of : FollowerView → ExecutorView
 executor_of v = record { done = v.done; store = v.store; pending = instances_of v.pending }
 
--- The end of a batch commits what came, and writes the replies. None of what came was executed
+-- if no instance of the batch is done before, the end of the batch is a commit of these instances
+-- by the executor of the follower, and the text has the counts of the batch and the replies of the
+-- commit
 abbrev pub BatchIsACommit : Type 0
 BatchIsACommit = (before after : FollowerView) (text : List ℕ)
     → ((p : Placed) → Contains before.batch p → ¬ Contains before.done p.instance.id)
@@ -27,7 +29,8 @@ BatchIsACommit = (before after : FollowerView) (text : List ℕ)
     × (commit : IsCommit (executor_of before) (instances_of before.batch) (executor_of after)
     replies) × (text ≡ batch_text (count_new before commit.other) (length after.pending) replies)
 
--- the texts of batches, one after another, with the replies of these calls
+-- the text is that of one batch for each call, in the order of the calls: some counts, and the
+-- replies of the call
 abbrev pub AreBatchTexts : List Call → List ℕ → Type 0
 AreBatchTexts [] text = text ≡ []
 AreBatchTexts (call ∷ calls) text = (came : ℕ) × (waiting : ℕ) × (rest : List ℕ)
@@ -54,8 +57,9 @@ abbrev pub FollowerAfterHoldsTheSame : Type 0
 FollowerAfterHoldsTheSame = (v : ExecutorView) (log line : ℕ)
     → executor_of (follower_after v log line) ≡ v
 
--- Followers whose executors hold the same write the same text for the same logs, and their
--- executors hold the same again. The places of the lines that wait do not matter
+-- if no batch is open in two followers, and their executors hold the same, they write the same text
+-- for the same logs, whatever the places of their pending instances, and their executors hold the
+-- same again
 abbrev pub SameFollowersFollowAlike : Type 0
 SameFollowersFollowAlike = (v w : FollowerView) → IsClosed v → IsClosed w
     → HoldTheSame (executor_of v) (executor_of w) →
@@ -63,10 +67,9 @@ SameFollowersFollowAlike = (v w : FollowerView) → IsClosed v → IsClosed w
     → IsFollowed v each logs last text → IsFollowed w each logs other same
     → (text ≡ same) × HoldTheSame (executor_of last) (executor_of other)
 
--- Logs that are followed from a follower whose batch is empty can be cut where no batch is open. A
--- follower whose executor holds the same then goes on as if there were no cut: the batches of the
--- first logs, and then the text of the others, are the text of all, and the executors hold the same
--- at the end
+-- Logs are followed from a follower whose batch is empty, and are cut where no batch is open. A
+-- follower with no open batch whose executor holds the same goes on: the batches before the cut,
+-- and then its text, are the text without the cut, and the executors hold the same at the end
 abbrev pub CutStreamsGoOn : Type 0
 CutStreamsGoOn = (start : FollowerView) → start.batch ≡ [] →
     (each : Bool) (first others : List (List ℕ)) (middle : FollowerView) (begun : List ℕ)

@@ -11,7 +11,9 @@ use Rattle.epx_types.specs.PlacedLines.{Placed}
 use Rattle.epx_executor.specs.CallLines.{lines_from}
 use Rattle.epx_executor.specs.Commits.{ExecutorView}
 
--- what a follower holds between two lines
+-- what a follower holds between two lines: the executed instances, the store, the lines of the
+-- pending instances and those of the open batch, the place of the next line, and whether a batch is
+-- open
 pub record FollowerView : Type 0 where
   -- the executed instances
   pub done : List Id
@@ -26,7 +28,7 @@ pub record FollowerView : Type 0 where
   -- whether a line came since the last batch ended
   pub is_open : Bool
 
--- nothing is executed, and line 1 of log 0 is the next
+-- a follower before its first line, which is line 1 of log 0: nothing is executed, stored or held
 abbrev pub new_follower : FollowerView
 new_follower = record {
   done = [];
@@ -37,8 +39,8 @@ new_follower = record {
   is_open = false;
 }
 
--- what the executor holds, with the instances that wait on consecutive lines of a log. Line 1 of
--- log 0 is the next
+-- the follower that holds what the executor holds, and has no open batch. The pending instances
+-- have consecutive lines of this log, from this line on; line 1 of log 0 is the next
 abbrev pub follower_after : ExecutorView → ℕ → ℕ → FollowerView
 follower_after v log line = record {
   done = v.done;
@@ -57,7 +59,8 @@ IsClosed v = (v.batch ≡ []) × (v.is_open ≡ false)
 abbrev pub instances_of : List Placed → List Instance
 instances_of lines = map (λ p. p.instance) lines
 
--- the lines of instances that are not executed. Those of one instance are as they came
+-- the lines that are held: those of the pending instances, by rising Id, and then those of the open
+-- batch, as they came
 abbrev pub held_lines : FollowerView → List Placed
 held_lines v = v.pending ++ v.batch
 
@@ -65,11 +68,12 @@ held_lines v = v.pending ++ v.batch
 abbrev pub next_line : Place → Place
 next_line p = record { log = p.log; line = p.line + 1 }
 
--- the log ended, and the next one begins
+-- the follower once its log ended: its next line is line 1 of the next log
 abbrev pub at_next_log : FollowerView → FollowerView
 at_next_log v = record v { next = record { log = v.next.log + 1; line = 1 } }
 
--- a line without an instance came
+-- the follower after a line without an instance: the batch is open, and the next line is one
+-- further on
 abbrev pub passed : FollowerView → FollowerView
 passed v = record v { next = next_line v.next; is_open = true }
 
@@ -79,6 +83,7 @@ batch_with v e =
     if is_among v.done e.id then v.batch
     else v.batch ++ record { place = v.next; instance = e } ∷ []
 
--- a line of this instance came
+-- the follower after a line of this instance: the batch is open and has the line, unless the
+-- instance is executed, and the next line is one further on
 abbrev pub joined : FollowerView → Instance → FollowerView
 joined v e = record v { batch = batch_with v e; next = next_line v.next; is_open = true }

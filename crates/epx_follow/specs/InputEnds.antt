@@ -8,15 +8,16 @@ use Rattle.epx_follow.specs.Following.{FollowerView, instances_of}
 use Rattle.epx_follow.specs.LinesTaken.{EndsIf}
 use Rattle.epx_follow.specs.LogsTaken.{TakesLogs}
 
--- the lines of a report of what waits, and those of the store
+-- the text has the waiting line of each pending instance that waits, by rising Id, and then the
+-- store line of each key, by rising key
 pub record IsRest (v : FollowerView) (text : List ℕ) : Type 0 where
   pub waiting : List Waiting
   pub listed : IsWaitingList (remaining v.done (instances_of v.pending)) waiting
   pub printed : text
       ≡ flat_map waiting_line waiting ++ flat_map store_line (contents.entries v.store)
 
--- The end of the input ends the batch if it is open, and then comes the rest. The follower is
--- `last` after that
+-- the end of the input ends the batch, if one is open, and leaves the follower `last`. The text is
+-- that of the batch, if one ended, and then the lines of what waits and of the store
 pub record EndsInput (v last : FollowerView) (text : List ℕ) : Type 0 where
   pub batch : List ℕ
   pub rest : List ℕ

@@ -12,7 +12,8 @@ TakesLines each before (line ∷ lines) after text =
     × TakesLine each line before next first × TakesLines each next lines after rest
     × (text ≡ first ++ rest)
 
--- the lines of logs are taken, one log after another
+-- the lines of logs are taken, one log after another, and this text is written. The end of a log
+-- ends no batch
 abbrev pub TakesLogs : Bool → FollowerView → List (List ℕ) → FollowerView → List ℕ → Type 0
 TakesLogs each before [] after text = (before ≡ after) × (text ≡ [])
 TakesLogs each before (log ∷ logs) after text =

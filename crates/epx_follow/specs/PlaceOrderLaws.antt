@@ -12,8 +12,8 @@ use Rattle.epx_follow.specs.Following.{joined, new_follower, passed}
 use Rattle.epx_follow.specs.BatchEnds.{RefusesBatch, first_line}
 use Rattle.epx_follow.specs.LinesTaken.{TakesLine}
 
--- No instance of the batch is executed. Its lines come after those of what waits, and all before
--- the next line
+-- The pending instances are by rising Id, and no instance of the batch is done. The places of the
+-- batch rise, and come after those of the pending lines; the next line comes after all of them
 pub record AreInPlaceOrder (v : FollowerView) : Type 0 where
   pub rising : IsRising (ids_of (instances_of v.pending))
   pub left : (p : Placed) → Contains v.batch p → ¬ Contains v.done p.instance.id
@@ -22,7 +22,8 @@ pub record AreInPlaceOrder (v : FollowerView) : Type 0 where
       → Earlier p.place q.place
   pub past : (p : Placed) → Contains (held_lines v) p → Earlier p.place v.next
 
--- a new follower holds its lines in order, and they stay so
+-- a new follower holds its lines in the order of their places (`AreInPlaceOrder`), and each
+-- follower that does so still does after any line that it takes, and at the next log
 abbrev pub LinesStayInOrder : Type 0
 LinesStayInOrder = AreInPlaceOrder new_follower
     × ((v : FollowerView) → AreInPlaceOrder v → AreInPlaceOrder (passed v))
@@ -38,8 +39,9 @@ FirstLinesAreEarliest = (v : FollowerView) → AreInPlaceOrder v → (p q : Plac
     → first_line (held_lines v) p.instance.id ≡ Some p → Contains (held_lines v) q
     → q.instance.id ≡ p.instance.id → ¬ Earlier q.place p.place
 
--- where lines are held in the order of their places, a batch is refused as the merge of its lines
--- is: the first place that a fault names is the earlier one
+-- where lines are held in the order of their places, a fault with which the end of a batch is
+-- refused is one of merging the held lines, so the first place that a disagreement names is the
+-- earlier one
 abbrev pub RefusedBatchIsARefusedMerge : Type 0
 RefusedBatchIsARefusedMerge = (v : FollowerView) → AreInPlaceOrder v → (fault : Fault)
     → RefusesBatch v fault → IsMergeFault (held_lines v) fault

@@ -6,7 +6,7 @@ use Rattle.epx_types.specs.CommittedMap.{ids_of}
 use Rattle.epx_graph.specs.Graphs.{DependencyGraph}
 use Rattle.epx_graph.specs.GraphOf.{IsGraphOf}
 
--- a committed map has a graph
+-- a committed map, whose Ids rise, has a graph
 abbrev pub GraphExists : Type 0
 GraphExists = (m : List Instance) → IsRising (ids_of m) → (g : DependencyGraph) × IsGraphOf m g
 

@@ -7,7 +7,7 @@ use Rattle.epx_types.specs.Done.{remaining}
 use Rattle.epx_types.specs.Reaching.{DependsOn}
 use Rattle.epx_graph.specs.Graphs.{DependencyGraph, edges_of, committed_ids, missing_ids, IsGraph}
 
--- a dependency of a committed instance that is not committed itself
+-- y is a dependency of a committed instance, and is not committed itself
 abbrev pub IsMissing : List Instance → Id → Type 0
 IsMissing m y = ((x : Id) × DependsOn m x y) × ¬ IsCommitted m y
 

@@ -35,7 +35,8 @@ pub record IsGraph (g : DependencyGraph) : Type 0 where
   pub missing_rise : IsRising (missing_ids g)
   pub apart : (x : Id) → Contains (committed_ids g) x → ¬ Contains (missing_ids g) x
 
--- the graph with these node Ids and the edges of the committed nodes
+-- the graph with these node Ids, whose first nodes, one for each row, are committed and have the
+-- edges of the rows; other nodes have none
 abbrev pub graph_over : List Id → List (List ℕ) → DependencyGraph
 graph_over ids rows = record {
   ids = ids;

@@ -29,17 +29,20 @@ FirstDisagreementIsUnique = (lines : List Placed) → HaveDistinctPlaces lines
     IsFirstDisagreement lines id first second → IsFirstDisagreement lines id' first' second'
     → (id ≡ id') × (first ≡ first') × (second ≡ second')
 
--- a look-up of an Id finds exactly the instance of that Id
+-- in a map whose Ids rise, looking up an Id (`instance_of`) finds an instance exactly if the
+-- instance is in the map and has this Id
 abbrev pub LookUpFindsInstance : Type 0
 LookUpFindsInstance = (m : List Instance) → IsRising (ids_of m) → (x : Id) (e : Instance)
     → (instance_of m x ≡ Some e) ↔ Contains m e × (e.id ≡ x)
 
--- the position of an Id is the position of its instance in the map
+-- in a map whose Ids rise, `position_of` an Id is i exactly if the instance at position i of the
+-- map, from 0, has this Id
 abbrev pub PositionHasInstance : Type 0
 PositionHasInstance = (m : List Instance) → IsRising (ids_of m) → (x : Id) (i : ℕ)
     → (position_of m x ≡ Some i) ↔ (e : Instance) × (slice_get m i ≡ Some e) × (e.id ≡ x)
 
--- each instance of the other lines is that of one of these lines
+-- each instance that a line of the second list commits is also committed by a line of the first
+-- list
 abbrev pub HaveInstancesOf : List Placed → List Placed → Type 0
 HaveInstancesOf lines other = (p : Placed) → Contains other p → (q : Placed) × Contains lines q
     × (q.instance ≡ p.instance)

@@ -25,7 +25,8 @@ pub record AreSortedComponents (m : List Instance) (components : List (List Id))
       (λ c d. (x y : Id) → Contains c x → Contains d y → ¬ Reaches m x y) components
   pub by_sequence : (c : List Id) → Contains components c → AllPairs (SequenceBefore m) c
 
--- executing sorted components one after another is lawful
+-- the members of sorted components (`AreSortedComponents`) of a committed map, one component after
+-- another, are a lawful order
 abbrev pub AlgorithmIsLawful : Type 0
 AlgorithmIsLawful = (m : List Instance) → IsRising (ids_of m) → (components : List (List Id))
     → AreSortedComponents m components → IsLawful m (all_members components)

@@ -30,7 +30,7 @@ abbrev pub WritesNameWrittenKeys : Type 0
 WritesNameWrittenKeys = (ops : List Op) (c : Contents) (w : Write) → Contains (writes_of ops c) w
     → Contains (written_keys ops) w.0
 
--- a command writes no key twice
+-- no two of a command's writes (`writes_of`) are to one key
 abbrev pub NoKeyWrittenTwice : Type 0
 NoKeyWrittenTwice = (ops : List Op) (c : Contents) → HasDistinctKeys (writes_of ops c)
 
@@ -39,7 +39,7 @@ abbrev pub TouchedKeysDecide : Type 0
 TouchedKeysDecide = (ops : List Op) (c d : Contents) → AgreeOn (touched_keys ops) c d →
     ((command_on ops c).reply ≡ (command_on ops d).reply) × (writes_of ops c ≡ writes_of ops d)
 
--- the rising keys of a list rise and are exactly its keys
+-- `rising_keys` of a list has exactly the keys of the list, each once, in rising order
 abbrev pub KeysRise : Type 0
 KeysRise = (ks : List (List ℕ)) → AllPairs KeyBelow (rising_keys ks)
     × ((k : List ℕ) → Contains (rising_keys ks) k ↔ Contains ks k)

@@ -22,7 +22,8 @@ abbrev pub RemainingIdsRise : Type 0
 RemainingIdsRise = (done : List Id) (m : List Instance) → IsRising (ids_of m)
     → IsRising (ids_of (remaining done m))
 
--- a remaining instance depends exactly on its former dependencies that are not done
+-- in the remaining map x depends on y exactly if it does so in the whole map and neither of them is
+-- done
 abbrev pub RemainingDependencies : Type 0
 RemainingDependencies = (done : List Id) (m : List Instance) (x y : Id)
     → DependsOn (remaining done m) x y ↔ DependsOn m x y × (¬ Contains done x)

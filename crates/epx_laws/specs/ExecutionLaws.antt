@@ -12,7 +12,7 @@ OneCommandExecutes = (ops : List Op) (c : Contents) →
     ((execute (ops ∷ []) c).replies ≡ (command_on ops c).reply ∷ [])
     × ((execute (ops ∷ []) c).final ≡ (command_on ops c).after)
 
--- each command has a reply
+-- an execution has as many replies as commands
 abbrev pub EachCommandReplies : Type 0
 EachCommandReplies = (commands : List (List Op)) (c : Contents)
     → length (execute commands c).replies ≡ length commands

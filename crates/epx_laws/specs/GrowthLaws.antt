@@ -12,22 +12,23 @@ use Rattle.epx_types.specs.Conflicts.{IsCovered}
 use Rattle.epx_types.specs.LawfulOrders.{IsLawful}
 use Rattle.epx_laws.specs.AgreementLaws.{HaveInstancesOf}
 
--- each instance of m is an instance of the other map
+-- each instance of the first map is an instance of the second: the second map contains the first
 abbrev pub IsWithin : List Instance → List Instance → Type 0
 IsWithin m more = (e : Instance) → Contains m e → Contains more e
 
--- if more lines commit all instances that some lines commit, the map of the former contains the
--- map of the latter
+-- if the second of two lists of lines has all instances of the first, and both commit a map, the
+-- map of the second contains the map of the first
 abbrev pub MoreLinesCommitMore : Type 0
 MoreLinesCommitMore = (lines more : List Placed) → HaveInstancesOf more lines →
     (m n : List Instance) → IsCommittedBy lines m → IsCommittedBy more n → IsWithin m n
 
--- an instance that is ready in a map is ready in every map that contains it
+-- an instance that is ready in a map is ready in every committed map that contains that map
 abbrev pub ReadyStaysReady : Type 0
 ReadyStaysReady = (m more : List Instance) → IsRising (ids_of more) → IsWithin m more → (x : Id)
     → IsReady m x → IsReady more x
 
--- if that map is covered, the instance has the same reply there, in any two lawful orders
+-- if a covered committed map contains another map, a lawful order of the one and a lawful order of
+-- the other, executed from the same contents, have the same reply to each instance of both orders
 abbrev pub RepliesStay : Type 0
 RepliesStay = (m more : List Instance) → IsRising (ids_of more) → IsWithin m more → IsCovered more
     → (ids other : List Id) → IsLawful m ids → IsLawful more other → (c : Contents) →

@@ -31,13 +31,15 @@ abbrev pub ConflictsClimb : Type 0
 ConflictsClimb = (commands : List (List Op)) (i j k l : ℕ) → i < j → ConflictAt commands i j
     → IsLevel commands i k → IsLevel commands j l → k < l
 
--- levels are the least numbers that are greater at each later command that conflicts
+-- if each position has a number, and of any two commands that conflict the later has the greater
+-- number, the level of a position is at most its number
 abbrev pub LevelsAreLeast : Type 0
 LevelsAreLeast = (commands : List (List Op)) (f : ℕ → ℕ) → RisesWithConflicts commands f
     → (j l : ℕ) → IsLevel commands j l → l ≤ f j
 
--- no such numbers are fewer than the levels: a list with the number of each command has at least
--- as many elements as there are levels
+-- if each position has a number, and of any two commands that conflict the later has the greater
+-- number, every list that contains the numbers of all positions has at least as many elements as
+-- there are levels
 abbrev pub LevelsAreFewest : Type 0
 LevelsAreFewest = (commands : List (List Op)) (f : ℕ → ℕ) → RisesWithConflicts commands f
     → (levels : List ℕ) → AreLevels commands levels →
@@ -49,15 +51,16 @@ abbrev pub EachLevelIsReached : Type 0
 EachLevelIsReached = (commands : List (List Op)) (levels : List ℕ) → AreLevels commands levels
     → (l : ℕ) → l < level_count levels → Contains levels l
 
--- each position once, and a position of a lower level before one of a higher level; inside a level
--- any order will do
+-- `positions` has each position of `levels` once, and one of a lower level before one of a higher
+-- level; those of one level are in any order
 pub record AreByLevel (levels positions : List ℕ) : Type 0 where
   pub once : AllPairs (λ i j. i ≢ j) positions
   pub whole : (i : ℕ) → Contains positions i ↔ (i < length levels)
   pub lower_first : (i j : ℕ) → i < length levels → j < length levels
       → slice_index levels i < slice_index levels j → Before positions i j
 
--- executing level by level is a rearrangement: it keeps the order of commands that conflict
+-- for the levels of some commands, positions by level (`AreByLevel`) are a rearrangement: they keep
+-- the order of commands that conflict
 abbrev pub LevelsRearrange : Type 0
 LevelsRearrange = (commands : List (List Op)) (levels positions : List ℕ)
     → AreLevels commands levels → AreByLevel levels positions → IsRearrangement commands positions

@@ -34,8 +34,8 @@ LeadersAreInOrder = (m : List Instance) (order : List Ranked) → IsExecutionOrd
     → (r : Ranked) → Contains order r →
     (l : Ranked) × Contains order l × (l.id ≡ r.leader) × (l.leader ≡ l.id)
 
--- These are the leaders of an order: each occurs once and leads some instance, each leader is
--- among them, and there are as many as components
+-- `leaders` has each leader of an instance of the order once, and no other Id; `component_count` of
+-- the order is their number
 pub record AreLeaders (order : List Ranked) (leaders : List Id) : Type 0 where
   pub once : AllPairs (λ x y. x ≢ y) leaders
   pub lead : (x : Id) → Contains leaders x → (r : Ranked) × Contains order r × (r.leader ≡ x)
@@ -86,7 +86,8 @@ abbrev pub OrderedConflictsAreCovered : Type 0
 OrderedConflictsAreCovered = (m : List Instance) → IsRising (ids_of m) → ConflictsAreOrdered m
     → IsCovered m
 
--- two lawful orders of a covered map leave the same contents, and each instance has the same reply
+-- two lawful orders of a covered committed map, executed from the same contents, leave the same
+-- contents, and each instance has the same reply in both
 abbrev pub LawfulOrdersExecuteAlike : Type 0
 LawfulOrdersExecuteAlike = (m : List Instance) → IsRising (ids_of m) → IsCovered m
     → (ids other : List Id) → IsLawful m ids → IsLawful m other → (c : Contents) →
@@ -95,8 +96,8 @@ LawfulOrdersExecuteAlike = (m : List Instance) → IsRising (ids_of m) → IsCov
     → slice_get (execute (commands_in m other) c).replies j
     ≡ slice_get (execute (commands_in m ids) c).replies i)
 
--- if x does not reach y, x is before y in some lawful order; so where neither reaches the other,
--- the protocol allows both orders
+-- if x and y are ready in a committed map and x does not reach y, x is before y in some lawful
+-- order; so if neither reaches the other, the protocol allows both orders
 abbrev pub NotReachedCanFollow : Type 0
 NotReachedCanFollow = (m : List Instance) → IsRising (ids_of m) → (x y : Id) → IsReady m x
     → IsReady m y → ¬ Reaches m x y → (ids : List Id) × IsLawful m ids × Before ids x y

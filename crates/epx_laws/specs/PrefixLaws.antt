@@ -12,13 +12,13 @@ use Rattle.epx_types.specs.LawfulOrders.{IsLawful, IsLawfulFor}
 use Rattle.epx_types.specs.Reaching.{Reaches}
 use Rattle.epx_types.specs.Readiness.{IsReady}
 
--- what a list begins with is a lawful prefix if the list is one
+-- if a list is a lawful prefix, each list that it begins with is one too
 abbrev pub PrefixesBeginLawfully : Type 0
 PrefixesBeginLawfully = (m : List Instance) (ids more : List Id)
     → IsLawfulPrefix m (ids ++ more) → IsLawfulPrefix m ids
 
--- executing a prefix of a lawful order of a covered map gives each of its instances the reply
--- that the instance has in every lawful order
+-- in a prefix of a lawful order of a covered committed map, each instance has the reply that it has
+-- in every lawful order of the map, executed from the same contents
 abbrev pub PrefixesReplyAlike : Type 0
 PrefixesReplyAlike = (m : List Instance) → IsRising (ids_of m) → IsCovered m →
     (ids whole : List Id) → IsLawfulPrefix m ids → IsLawful m whole → (c : Contents) →
@@ -26,8 +26,8 @@ PrefixesReplyAlike = (m : List Instance) → IsRising (ids_of m) → IsCovered m
     → slice_get (execute (commands_in m ids) c).replies i
     ≡ slice_get (execute (commands_in m whole) c).replies j
 
--- a list that is lawful for ready instances with all that they reach is a lawful prefix: these
--- may be executed whatever else is committed or missing
+-- a list of ready instances of a committed map that has all that they reach, and is lawful for its
+-- instances, is a lawful prefix: it may be executed whatever else is committed or missing
 abbrev pub ClosedListsBegin : Type 0
 ClosedListsBegin = (m : List Instance) → IsRising (ids_of m) → (ids : List Id)
     → ((x : Id) → Contains ids x → IsReady m x)

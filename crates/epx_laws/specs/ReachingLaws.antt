@@ -34,7 +34,8 @@ DependenciesAreReached = (m : List Instance) (x y : Id) → DependsOn m x y → 
 abbrev pub PassesOn : List Instance → (Id → Bool) → Type 0
 PassesOn m p = (x y : Id) → DependsOn m x y → p x ≡ true → p y ≡ true
 
--- a test that passes from instances to their dependencies passes to all that they reach
+-- if the dependencies of instances that pass a test pass it too, so does all that is reached from
+-- an instance that passes it
 abbrev pub ReachingIsLeast : Type 0
 ReachingIsLeast = (m : List Instance) (p : Id → Bool) → PassesOn m p → (x y : Id) → Reaches m x y
     → p x ≡ true → p y ≡ true
@@ -75,7 +76,8 @@ abbrev pub DepthFalls : Type 0
 DepthFalls = (m : List Instance) (x y : Id) (j k : ℕ) → Reaches m x y → ¬ Reaches m y x
     → IsDepth m x j → IsDepth m y k → k < j
 
--- depths are the least numbers that fall from x to y if x reaches y and y does not reach x
+-- if each instance has a number, which is less at y than at x wherever x reaches y and y does not
+-- reach x, the depth of an instance is at most its number
 abbrev pub DepthIsLeast : Type 0
 DepthIsLeast = (m : List Instance) (f : Id → ℕ) → FallsOneWay m f → (x : Id) (k : ℕ)
     → IsDepth m x k → k ≤ f x

@@ -22,11 +22,12 @@ pub record Renaming : Type 0 where
   pub keys_injective : IsInjective key
   pub values_injective : IsInjective value
 
--- absence has no other name
+-- the new name of a value; None, which is the absence of a key, stays None
 abbrev pub renamed_value : Renaming → Option ℤ → Option ℤ
 renamed_value r v = option_map r.value v
 
--- amounts and bounds are not values of keys, and stay
+-- an operation with its keys renamed, and its value if it is a `put` or an `is`; the amount of an
+-- `add` and the bound of a `floor` stay
 abbrev pub renamed_op : Renaming → Op → Op
 renamed_op r (Get k) = Get (r.key k)
 renamed_op r (Put k v) = Put (r.key k) (r.value v)
@@ -59,7 +60,7 @@ abbrev pub renamed_execution : Renaming → Execution → Execution
 renamed_execution r e =
     record { replies = map (renamed_reply r) e.replies; final = renamed_contents r e.final }
 
--- Id, sequence number and dependencies stay
+-- an instance with its command renamed; Id, sequence number and dependencies stay
 abbrev pub renamed_instance : Renaming → Instance → Instance
 renamed_instance r e = record e { ops = renamed_command r e.ops }
 
@@ -75,7 +76,8 @@ renamed_line r p = record p { instance = renamed_instance r p.instance }
 abbrev pub renamed_lines : Renaming → List Placed → List Placed
 renamed_lines r lines = map (renamed_line r) lines
 
--- `add` and `floor` calculate with values; the other operations only move and compare them
+-- whether the operation is an `add` or a `floor`, which calculate with values; the others only move
+-- and compare them
 abbrev pub is_arithmetic : Op → Bool
 is_arithmetic (Get k) = false
 is_arithmetic (Put k v) = false

@@ -28,13 +28,15 @@ use Rattle.epx_laws.specs.ResumedRunLaws.{whole_run, run_on}
 abbrev pub AreOneToOne : {X : Type 0} → List (X × X) → Type 0
 AreOneToOne pairs = AllPairs (λ a b. (a.0 ≢ b.0) × (a.1 ≢ b.1)) pairs
 
--- the renaming gives each of these keys and values the name beside it
+-- the renaming maps the first of each pair of keys to the second, and the first of each pair of
+-- values to the second
 pub record GivesNames (r : Renaming) (key_names : List (List ℕ × List ℕ))
     (value_names : List (ℤ × ℤ)) : Type 0 where
   pub keys : (p : List ℕ × List ℕ) → Contains key_names p → r.key p.0 ≡ p.1
   pub values : (p : ℤ × ℤ) → Contains value_names p → r.value p.0 ≡ p.1
 
--- finitely many keys and values, each with a name of its own, are renamed so by some renaming
+-- if finitely many pairs of keys are one-to-one, and so are finitely many pairs of values, some
+-- renaming maps the first of each pair to the second
 abbrev pub NamesExtendToRenaming : Type 0
 NamesExtendToRenaming = (key_names : List (List ℕ × List ℕ)) (value_names : List (ℤ × ℤ))
     → AreOneToOne key_names → AreOneToOne value_names
@@ -48,7 +50,8 @@ RenamedExecutesAlike = (r : Renaming) (commands : List (List Op))
     → execute (renamed_commands r commands) (renamed_contents r c)
     ≡ renamed_execution r (execute commands c)
 
--- renamed lines commit the renamed map, and have the same first disagreement
+-- renamed lines commit the renamed map exactly if the lines commit the map, and their first
+-- disagreement is that of the lines, renamed: of the same Id, at the same places
 pub record RenamedLinesCommitAlike : Type 0 where
   pub committed : (r : Renaming) (lines : List Placed) (m : List Instance)
       → IsCommittedBy (renamed_lines r lines) (renamed_map r m) ↔ IsCommittedBy lines m
@@ -56,8 +59,9 @@ pub record RenamedLinesCommitAlike : Type 0 where
       → IsFirstDisagreement (renamed_lines r lines) id (renamed_line r first)
       (renamed_line r second) ↔ IsFirstDisagreement lines id first second
 
--- a run over the renamed map is the renamed run, from the empty contents or from contents that
--- done instances left
+-- if no command of a map has an `add` or a `floor`, a run over the renamed map is the renamed run
+-- over the map, in any order: of the whole map from the empty contents, and of the remaining map
+-- over renamed contents
 pub record RenamedRunsAlike : Type 0 where
   pub whole : (r : Renaming) (m : List Instance)
       → ((e : Instance) → Contains m e → HasNoArithmetic e.ops) → (order : List Ranked)
@@ -68,7 +72,8 @@ pub record RenamedRunsAlike : Type 0 where
       → run_on done (renamed_contents r c) (renamed_map r m) order
       ≡ renamed_execution r (run_on done c m order)
 
--- a renamed key has the renamed value, or is absent if the key is; no other keys are present
+-- renamed contents have under each renamed key the renamed value of the key, or nothing if the key
+-- is absent; a key that is not the new name of a key is absent
 pub record RenamedContentsAreReadAlike : Type 0 where
   pub named : (r : Renaming) (c : Contents) (k : List ℕ)
       → contents.get (renamed_contents r c) (r.key k) ≡ renamed_value r (contents.get c k)
@@ -91,7 +96,8 @@ abbrev pub RenamedLevelsAreAlike : Type 0
 RenamedLevelsAreAlike = (r : Renaming) (commands : List (List Op)) (levels : List ℕ)
     → AreLevels (renamed_commands r commands) levels ↔ AreLevels commands levels
 
--- two maps have the same Ids, graph, components, ready and waiting instances, orders and coverage
+-- two maps have the same Ids, dependencies, components, leaders, depths, ready and waiting
+-- instances, execution order and lawful orders, and both are covered or neither is
 pub record AreOrderedAlike (m n : List Instance) : Type 0 where
   pub ids : ids_of m ≡ ids_of n
   pub depends : (x y : Id) → DependsOn m x y ↔ DependsOn n x y
@@ -106,6 +112,6 @@ pub record AreOrderedAlike (m n : List Instance) : Type 0 where
   pub lawful : (ids : List Id) → IsLawful m ids ↔ IsLawful n ids
   pub covered : IsCovered m ↔ IsCovered n
 
--- a renamed map is ordered as the map is
+-- a renamed map and the map are ordered alike (`AreOrderedAlike`)
 abbrev pub RenamedIsOrderedAlike : Type 0
 RenamedIsOrderedAlike = (r : Renaming) (m : List Instance) → AreOrderedAlike (renamed_map r m) m

@@ -10,13 +10,13 @@ use Rattle.epx_types.specs.Conflicts.{IsCovered}
 use Rattle.epx_types.specs.LawfulPrefixes.{IsLawfulPrefix}
 use Rattle.epx_laws.specs.GrowthLaws.{IsWithin}
 
--- a prefix of a lawful order of a map is one of every map that contains it: what a replica has
--- executed stays lawful, whatever is committed later
+-- a prefix of a lawful order of a map is a prefix of a lawful order of every committed map that
+-- contains that map: what a replica has executed stays lawful, whatever is committed later
 abbrev pub PrefixesStay : Type 0
 PrefixesStay = (m more : List Instance) → IsRising (ids_of more) → IsWithin m more
     → (ids : List Id) → IsLawfulPrefix m ids → IsLawfulPrefix more ids
 
--- each part of a covered map is covered
+-- each map that a covered committed map contains is covered
 abbrev pub PartsAreCovered : Type 0
 PartsAreCovered = (m more : List Instance) → IsRising (ids_of more) → IsWithin m more
     → IsCovered more → IsCovered m
@@ -26,8 +26,8 @@ pub record HasExecuted (m known : List Instance) (ids : List Id) : Type 0 where
   pub within : IsWithin known m
   pub begins : IsLawfulPrefix known ids
 
--- two replicas that know parts of one covered map gave the same reply to each instance that both
--- have executed
+-- two replicas that have executed, from the same contents, lawful prefixes of parts of one covered
+-- committed map (`HasExecuted`) have the same reply to each instance that both have executed
 abbrev pub ReplicasReplyAlike : Type 0
 ReplicasReplyAlike = (m : List Instance) → IsRising (ids_of m) → IsCovered m
     → (a b : List Instance) (ids other : List Id) → HasExecuted m a ids → HasExecuted m b other
@@ -35,7 +35,8 @@ ReplicasReplyAlike = (m : List Instance) → IsRising (ids_of m) → IsCovered m
     → slice_get (execute (commands_in a ids) c).replies i
     ≡ slice_get (execute (commands_in b other) c).replies j
 
--- if they have executed the same instances, they have the same contents
+-- two replicas that have executed, from the same contents, lawful prefixes of parts of one covered
+-- committed map have the same contents if they have executed the same instances
 abbrev pub ReplicasStoreAlike : Type 0
 ReplicasStoreAlike = (m : List Instance) → IsRising (ids_of m) → IsCovered m
     → (a b : List Instance) (ids other : List Id) → HasExecuted m a ids → HasExecuted m b other

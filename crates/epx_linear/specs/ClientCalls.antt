@@ -18,7 +18,7 @@ call_of h x = find (λ c. is_eq (id_cmp c.id x)) h
 abbrev pub calls_in : List ClientCall → List Id → List (Option ClientCall)
 calls_in h ids = map (call_of h) ids
 
--- the calls at some places of a history
+-- for each of some indices into a history the call there; None for None, and past the end
 abbrev pub calls_at : List ClientCall → List (Option ℕ) → List (Option ClientCall)
 calls_at h places = map (option_and_then (slice_get h)) places
 
@@ -30,6 +30,6 @@ HasCall calls i c = slice_get calls i ≡ Some (Some c)
 abbrev pub ReturnsBefore : ClientCall → ClientCall → Type 0
 ReturnsBefore a b = (t : ℕ) × (a.returned ≡ Some t) × (t < b.invoked)
 
--- b was invoked later than a, or at the same time and has the lower Id, or is a
+-- b was invoked later than a, or at the same time and has no greater Id than a
 abbrev pub IsInvokedUpTo : ClientCall → ClientCall → Type 0
 IsInvokedUpTo a b = (a.invoked < b.invoked) ⊎ ((a.invoked ≡ b.invoked) × UpTo b.id a.id)

@@ -14,11 +14,12 @@ use Rattle.epx_linear.specs.HistoryLines.{call_line_of}
 abbrev pub AreCalls : List (List ℕ) → List ClientCall → Type 0
 AreCalls lines h = (map call_line_of (filled_lines lines) ≡ map Some h) × IsHistory h
 
--- the lines of the bytes say these calls, in this order, and nothing else
+-- the lines of the bytes that are not blank say these calls, in this order, and no two calls are of
+-- the same instance
 abbrev pub IsHistoryText : List ℕ → List ClientCall → Type 0
 IsHistoryText bytes h = AreCalls (lines_of bytes) h
 
--- the lines say some history
+-- each line is blank or says a call, and no two calls are of the same instance
 abbrev pub AreHistoryLines : List (List ℕ) → Type 0
 AreHistoryLines lines = (h : List ClientCall) × AreCalls lines h
 
@@ -27,7 +28,8 @@ AreHistoryLines lines = (h : List ClientCall) × AreCalls lines h
 abbrev pub IsBadHistory : List ℕ → ℕ → Type 0
 IsBadHistory bytes line = IsFirstNotGood AreHistoryLines (lines_of bytes) line
 
--- `Memory` says nothing about the bytes
+-- why bytes are refused as a history: `Bad` has the number of the first bad line, and `Memory` says
+-- nothing about the bytes
 abbrev pub IsHistoryFault : List ℕ → BaseFault → Type 0
 IsHistoryFault bytes Memory = Unit {0}
 IsHistoryFault bytes (Bad line) = IsBadHistory bytes line

@@ -7,7 +7,8 @@ use Rattle.epx_types.specs.Levels.{Climbs}
 use Rattle.epx_linear.specs.declared.client_call.ClientCall.{ClientCall}
 use Rattle.epx_linear.specs.ClientCalls.{HasCall, ReturnsBefore, IsInvokedUpTo}
 
--- i is j, or a chain of commands that conflict leads from position i up to position j
+-- i is j, or a chain leads from position i up to position j: commands at rising positions, each of
+-- which conflicts with the next
 abbrev pub ConflictsUpTo : List (List Op) → ℕ → ℕ → Type 0
 ConflictsUpTo commands i j = (is : List ℕ) × Climbs commands j is × Contains (j ∷ is) i
 
@@ -22,21 +23,22 @@ IsLate commands calls j i = (a b : ClientCall) × HasCall calls j a × HasCall c
 abbrev pub NoneLate : List (List Op) → List (Option ClientCall) → Type 0
 NoneLate commands calls = (j i : ℕ) → ¬ IsLate commands calls j i
 
--- b is the call with the latest invocation among those from which a chain leads to position j, the
--- first by Id among equals
+-- b is the call that was invoked last of those at position j and at the positions from which a
+-- chain leads to j; of several, the first by Id
 pub record IsLatestFor (commands : List (List Op)) (calls : List (Option ClientCall)) (j : ℕ)
     (b : ClientCall) : Type 0 where
   pub among : (i : ℕ) × ConflictsUpTo commands i j × HasCall calls i b
   pub latest : (i : ℕ) (c : ClientCall) → ConflictsUpTo commands i j → HasCall calls i c
       → IsInvokedUpTo c b
 
--- what is found at position j: the instance of the latest call, if the one at j is late
+-- what is found at position j: None if no late call is there; otherwise the instance of the call
+-- that was invoked last of those from which a chain leads to j, the first by Id of several
 abbrev pub IsFoundLate : List (List Op) → List (Option ClientCall) → ℕ → Option Id → Type 0
 IsFoundLate commands calls j None = (i : ℕ) → ¬ IsLate commands calls j i
 IsFoundLate commands calls j (Some x) = (a b : ClientCall) × HasCall calls j a
     × IsLatestFor commands calls j b × ReturnsBefore a b × (b.id ≡ x)
 
--- what is found at each position
+-- `found` has an element for each command: what is found at its position (`IsFoundLate`)
 pub record AreFoundLate (commands : List (List Op)) (calls : List (Option ClientCall))
     (found : List (Option Id)) : Type 0 where
   pub whole : length found ≡ length commands

@@ -21,14 +21,16 @@ abbrev pub NoneLateKeepsRealTime : Type 0
 NoneLateKeepsRealTime = (commands : List (List Op)) (calls : List (Option ClientCall))
     → length calls ≡ length commands → NoneLate commands calls ↔ HasRealTimeOrder commands calls
 
--- nothing is found late exactly if some order keeps real time, and that of conflicts
+-- if `found` is what is found late, and there is a call or None for each command, nothing is found
+-- exactly if some order of the commands keeps real time, and the order of those that conflict
 abbrev pub NoneFoundKeepsRealTime : Type 0
 NoneFoundKeepsRealTime = (commands : List (List Op)) (calls : List (Option ClientCall))
     (found : List (Option Id)) → length calls ≡ length commands
     → AreFoundLate commands calls found
     → All (λ o. o ≡ None) found ↔ HasRealTimeOrder commands calls
 
--- each call has the same answer and none is late exactly if the history is linear
+-- if there is a command for each instance, all checks of the calls are `Same` and nothing is found
+-- late exactly if the history is linear over these commands and replies
 abbrev pub ChecksDecideLinear : Type 0
 ChecksDecideLinear = (ids : List Id) (commands : List (List Op)) (replies : List Reply)
     (h : List ClientCall) (checks : List AnswerCheck) (late : List (Option Id))
@@ -36,8 +38,9 @@ ChecksDecideLinear = (ids : List Id) (commands : List (List Op)) (replies : List
     → AreFoundLate commands (calls_in h ids) late
     → All (λ o. o ≡ Same) checks × All (λ o. o ≡ None) late ↔ IsLinear ids commands replies h
 
--- what is linear is a serial execution from the same contents that keeps real time, and in which
--- each call that has an answer has it as its reply
+-- in the order of `positions` the commands keep real time and the order of those that conflict.
+-- Executed in it from the contents c, they leave what they leave in their own order, and each call
+-- that returned with an answer has this as its reply
 pub record IsSerialWitness (ids : List Id) (commands : List (List Op)) (c : Contents)
     (h : List ClientCall) (positions : List ℕ) : Type 0 where
   pub rearranged : IsRearrangement commands positions
@@ -48,8 +51,9 @@ pub record IsSerialWitness (ids : List Id) (commands : List (List Op)) (c : Cont
       × (slice_get ids i ≡ Some a.id)
       × (slice_get (execute (commands_at commands positions) c).replies k ≡ Some r)
 
--- what is linear has a serial execution that keeps real time, with the same answers and the same
--- contents at the end
+-- if a history is linear over commands, one for each instance, and the replies that they have from
+-- the contents c, some order of the commands keeps real time, and has the answers of the calls and
+-- the same contents at the end (`IsSerialWitness`)
 abbrev pub LinearHasWitness : Type 0
 LinearHasWitness = (ids : List Id) (commands : List (List Op)) (c : Contents)
     (h : List ClientCall) → length ids ≡ length commands

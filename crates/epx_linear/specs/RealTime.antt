@@ -8,7 +8,8 @@ use Rattle.epx_types.specs.Rearrangements.{IsRearrangement}
 use Rattle.epx_linear.specs.declared.client_call.ClientCall.{ClientCall}
 use Rattle.epx_linear.specs.ClientCalls.{calls_in, HasCall, ReturnsBefore}
 
--- each call comes before all calls that were invoked after it had returned
+-- in the order of `positions`, each call comes before all calls that were invoked after it had
+-- returned
 abbrev pub KeepsRealTime : List (Option ClientCall) → List ℕ → Type 0
 KeepsRealTime calls positions = (j i : ℕ) (a b : ClientCall) → HasCall calls j a
     → HasCall calls i b → ReturnsBefore a b → Before positions j i
@@ -18,8 +19,8 @@ abbrev pub HasRealTimeOrder : List (List Op) → List (Option ClientCall) → Ty
 HasRealTimeOrder commands calls = (positions : List ℕ) × IsRearrangement commands positions
     × KeepsRealTime calls positions
 
--- each call that returned is executed, each answer is the reply of its instance, and some serial
--- execution with the same replies keeps real time
+-- each call that returned is executed, each answer of an executed call is the reply of its
+-- instance, and some order of the commands keeps real time, and the order of those that conflict
 pub record IsLinear (ids : List Id) (commands : List (List Op)) (replies : List Reply)
     (h : List ClientCall) : Type 0 where
   pub executed : (a : ClientCall) (t : ℕ) → Contains h a → a.returned ≡ Some t → Contains ids a.id

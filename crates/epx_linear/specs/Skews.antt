@@ -2,7 +2,7 @@
 use Rattle.std.specs.Prelude.{ℕ, ◌+◌, ◌-◌, ◌^◌, min, option_map}
 use Rattle.epx_linear.specs.declared.client_call.ClientCall.{ClientCall}
 
--- no call is invoked after this time
+-- the greatest time, 2^64 - 1: no call is invoked after it
 abbrev pub latest_time : ℕ
 latest_time = 2 ^ 64 - 1
 

@@ -8,7 +8,8 @@ use Rattle.epx_types.specs.declared.id.Id.{Id}
 use Rattle.epx_types.specs.Ids.{id_cmp}
 use Rattle.epx_lines.specs.Elements.{whole, elements, each_of_at_most}
 
--- the Id of a list of two numbers: a replica, below 256, and a number, below 2^64
+-- the Id of a list of two numbers, a replica below 256 and a number below 2^64; None for any other
+-- list
 abbrev pub id_of_pair : List Data → Option Id
 id_of_pair (r ∷ i ∷ []) =
     option_and_then
@@ -16,7 +17,7 @@ id_of_pair (r ∷ i ∷ []) =
     (whole (2 ^ 64) i)) (whole 256 r)
 id_of_pair _ = None
 
--- the Id that is written as `[r,i]`
+-- the Id that a JSON array `[r,i]` is, with r below 256 and i below 2^64; None for any other value
 unfoldable pub id_of : Data → Option Id
 id_of d = option_and_then id_of_pair (elements d)
 
@@ -32,6 +33,7 @@ rising_ids ids = fold (insert_key id_cmp) [] ids
 abbrev pub rising_others : Id → List Id → List Id
 rising_others self ids = rising_ids (filter (is_other self) ids)
 
--- the dependencies of an instance; the written list has at most 256 Ids
+-- the dependencies of the instance `self`: the distinct Ids of a JSON array of at most 256 Ids
+-- `[r,i]`, in rising order, without its own; None for any other value
 unfoldable pub deps_of : Id → Data → Option (List Id)
 deps_of self d = option_map (rising_others self) (each_of_at_most 256 id_of d)

@@ -8,11 +8,13 @@ use Rattle.serde_json.specs.Find.{as_array, as_number, as_u64, as_i64}
 abbrev pub if_below : ℕ → ℕ → Option ℕ
 if_below bound n = if nat_lt n bound then Some n else None
 
--- a whole number below the bound, written without fraction and exponent
+-- the value of a JSON number that is below the bound and written as digits alone; None for any
+-- other JSON value
 unfoldable pub whole : ℕ → Data → Option ℕ
 whole bound d = option_and_then (if_below bound) (option_and_then as_u64 (as_number d))
 
--- a signed whole number of 64 bits
+-- the value of a JSON number that fits in 64 signed bits and is written as digits, with or without
+-- a minus sign; None for any other JSON value, and for `-0`
 abbrev pub signed : Data → Option ℤ
 signed d = option_and_then as_i64 (as_number d)
 
@@ -21,11 +23,11 @@ abbrev pub list_of : Items → List Data
 list_of no_items = []
 list_of (item d ds) = d ∷ list_of ds
 
--- the elements of an array
+-- the elements of a JSON array; None for any other value
 abbrev pub elements : Data → Option (List Data)
 elements d = option_map list_of (as_array d)
 
--- a list of at most n elements
+-- the list, if it has at most n elements
 abbrev pub at_most : {A : Type 0} → ℕ → List A → Option (List A)
 at_most n xs = if nat_le (length xs) n then Some xs else None
 

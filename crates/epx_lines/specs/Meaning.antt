@@ -19,7 +19,7 @@ use Rattle.epx_lines.specs.OperationList.{ops_of}
 
 -- ---- bytes
 
--- the most bytes that a line may have if it is not blank
+-- the most bytes that a line may have if it is not blank, without its line feed: 65,536
 abbrev pub max_line_bytes : ℕ
 max_line_bytes = 65536
 
@@ -27,11 +27,12 @@ max_line_bytes = 65536
 abbrev pub is_space : ℕ → Bool
 is_space b = (b == 32) || (b == 9) || (b == 13)
 
--- the line has no other bytes
+-- whether each byte of the line is a space, a tab or a carriage return; an empty line is blank
 abbrev pub is_blank : List ℕ → Bool
 is_blank bytes = list_all is_space bytes
 
--- the value of a JSON text (RFC 8259)
+-- the value of the bytes as a JSON text (RFC 8259). None if they are not UTF-8 or not JSON, nest
+-- more than 127 levels deep, or have a lone surrogate or a number that is too large for a float
 abbrev pub json_of : List ℕ → Option Data
 json_of bytes = if is_utf8 bytes then read bytes else None
 
@@ -41,7 +42,8 @@ json_of bytes = if is_utf8 bytes then read bytes else None
 abbrev pub at_member : {A : Type 0} → List ℕ → (Data → Option A) → Data → Option A
 at_member name f d = option_and_then f (get name d)
 
--- whether an instance with this status is committed; None if there is no such status
+-- whether an instance with this status is committed: true for `committed` and `executed`, false for
+-- `accepted` and `pre-accepted`, None for any other text
 abbrev pub committed_by : List ℕ → Option Bool
 committed_by text =
     if bytes_eq text (codes "committed") || bytes_eq text (codes "executed") then Some true else
@@ -59,7 +61,9 @@ abbrev pub need : {A B : Type 0} → Why → Option A → (A → Result B Why) �
 need why None next = Err why
 need why (Some x) next = next x
 
--- what an object means: an instance, nothing if it is not committed yet, or the first fault
+-- what an object means, by its members `r`, `i`, `seq`, `status`, `deps` and `ops`: the fault of
+-- the first bad one, or the instance. If `status` says that it is not committed, the meaning is
+-- nothing, whatever `deps` and `ops` are
 unfoldable pub meaning_of_object : Data → Result Line Why
 meaning_of_object d =
     need Replica (at_member (codes "r") (whole 256) d) (λ r.
@@ -75,12 +79,13 @@ meaning_of_object d =
 
 -- ---- the line
 
--- what a line means, by its JSON value, which must be an object
+-- what a line with this JSON value means: what the object means, or the fault `NotObject` if the
+-- value is no object
 abbrev pub meaning_of_value : Data → Result Line Why
 meaning_of_value d = if is_some (as_object d) then meaning_of_object d else Err NotObject
 
 -- what a line means, by its bytes without the line feed: nothing if it is blank or not committed
--- yet, an instance, or the first fault
+-- yet, an instance, or the first fault: `TooLong`, `NotJson`, `NotObject`, or one of its object
 abbrev pub meaning_of : List ℕ → Result Line Why
 meaning_of bytes =
     if is_blank bytes then Ok Blank else

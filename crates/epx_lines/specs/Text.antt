@@ -47,11 +47,12 @@ object_with r i seq deps ops = object (
     member (codes "r") (number (unsigned r)) (
     member (codes "seq") (number (unsigned seq)) no_members)))))
 
--- the object of an instance
+-- the JSON object of an instance, with its members `deps`, `i`, `ops`, `r` and `seq`
 abbrev pub object_of : Instance → Data
 object_of e = object_with e.id.replica e.id.number e.seq (array (items_of (map data_of_id e.deps)))
     (array (items_of (map data_of_op e.ops)))
 
--- the line, without its line feed
+-- the line of an instance, without its line feed:
+-- `{"deps":[[r,i],..],"i":i,"ops":[op,..],"r":r,"seq":seq}`
 abbrev pub line_text : Instance → List ℕ
 line_text e = compact_text (object_of e)

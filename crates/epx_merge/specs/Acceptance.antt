@@ -7,7 +7,8 @@ use Rattle.epx_merge.specs.LogLines.{placed_of}
 use Rattle.epx_committed.specs.InstanceCounts.{FewInstances}
 use Rattle.epx_merge.specs.Refusals.{AreWellFormed}
 
--- the logs have no refusal, and this is the map that they commit
+-- there are not too many logs or distinct instances, no log is too long, no line is bad, and all
+-- lines of one instance agree; m is the map that the lines commit
 pub record IsAccepted (logs : List (List ℕ)) (m : List Instance) : Type 0 where
   pub whole : AreWellFormed logs
   pub small : FewInstances (placed_of logs)

@@ -9,14 +9,15 @@ use Rattle.epx_merge.specs.Refusals.{NoneTooLong}
 
 -- ---- the logs that were delivered
 
--- the first sources delivered these logs, one whole log each
+-- the first sources, one for each of these logs, delivered them: each log is all bytes that its
+-- source returned from its state in `old` to that in `new`
 abbrev pub FirstDeliver : {S : Type 0} → SourceModel S → List S → List S → List (List ℕ) → Type 0
 FirstDeliver D old new [] = Unit {0}
 FirstDeliver D (s ∷ old) (t ∷ new) (log ∷ logs) =
     DeliversAll D s t log × FirstDeliver D old new logs
 FirstDeliver D _ _ (log ∷ logs) = ⊥
 
--- the sources delivered these logs, one whole log each
+-- from the states `old` to the states `new`, the sources delivered these logs, one whole log each
 pub record EachDelivers {S : Type 0} (D : SourceModel S) (old new : List S)
     (logs : List (List ℕ)) : Type 0 where
   pub as_many : length logs ≡ length old
@@ -24,7 +25,8 @@ pub record EachDelivers {S : Type 0} (D : SourceModel S) (old new : List S)
 
 -- ---- why reading stopped
 
--- the sources before this log's source delivered a log each, none of them too long
+-- there is a source with the number `log`, and each source before it delivered a whole log, none of
+-- them too long
 pub record DeliveredBefore {S : Type 0} (D : SourceModel S) (old new : List S) (log : ℕ) : Type
     0 where
   pub within : log < length old
@@ -33,7 +35,8 @@ pub record DeliveredBefore {S : Type 0} (D : SourceModel S) (old new : List S) (
   pub whole : FirstDeliver D old new logs
   pub short : NoneTooLong logs
 
--- reading stopped at a source, with this fault: its log is too long, or a read of it failed
+-- reading stopped at one source, after those before it had delivered a log each, none too long; the
+-- fault is that its log is too long, that a read of it failed, or out of memory
 pub record StopsAtSource {S : Type 0} (D : SourceModel S) (old new : List S) (fault : Fault) : Type
     0 where
   pub log : ℕ
@@ -44,12 +47,14 @@ pub record StopsAtSource {S : Type 0} (D : SourceModel S) (old new : List S) (fa
   pub is : slice_get new log ≡ Some last
   pub stopped : IsLogStop D log first last fault
 
--- the faults without a source: out of memory, and too many sources
+-- the fault is out of memory, or it is too many logs and `count`, the number of sources, is over
+-- `max_logs`
 abbrev pub IsOfNoSource : ℕ → Fault → Type 0
 IsOfNoSource count Memory = Unit {0}
 IsOfNoSource count TooManyLogs = max_logs < count
 IsOfNoSource count _ = ⊥
 
--- reading the sources stopped with this fault
+-- the fault says why reading the sources stopped: out of memory, too many sources, or, after
+-- sources that delivered a log each, one whose log is too long or of which a read failed
 abbrev pub StopsReading : {S : Type 0} → SourceModel S → List S → List S → Fault → Type 0
 StopsReading D old new fault = IsOfNoSource (length old) fault ⊎ StopsAtSource D old new fault

@@ -25,12 +25,12 @@ abbrev pub AcceptedMapIsUnique : Type 0
 AcceptedMapIsUnique = (logs : List (List ℕ)) (m n : List Instance) → IsAccepted logs m
     → IsAccepted logs n → m ≡ n
 
--- every list of logs is accepted or refused
+-- every list of logs is accepted, or has a refusal other than out of memory
 abbrev pub LogsHaveAnAnswer : Type 0
 LogsHaveAnAnswer = (logs : List (List ℕ)) → ((m : List Instance) × IsAccepted logs m)
     ⊎ ((f : Fault) × (f ≢ Memory) × IsRefusal logs f)
 
--- no two lines of logs have the same place
+-- no two lines of logs that commit an instance have the same place
 abbrev pub LinesHaveDistinctPlaces : Type 0
 LinesHaveDistinctPlaces = (logs : List (List ℕ)) → HaveDistinctPlaces (placed_of logs)
 

@@ -30,19 +30,20 @@ FitLimits logs = (length logs ≤ max_logs) × NoneTooLong logs
 
 -- ---- the least bad line
 
--- bad lines come by rising place, so the first of them is the least
+-- the first of these bad lines is at this place and has this fault
 abbrev pub IsFirstBadLine : List BadLineAt → Place → Why → Type 0
 IsFirstBadLine lines place why = (rest : List BadLineAt)
     × (lines ≡ record { place = place; why = why } ∷ rest)
 
--- the logs fit, and no line is bad
+-- there are not too many logs, none is too long, and no line is bad
 abbrev pub AreWellFormed : List (List ℕ) → Type 0
 AreWellFormed logs = FitLimits logs × (bad_lines_of logs ≡ [])
 
 -- ---- all of them
 
--- The fault is the first refusal that applies. Out of memory can come instead of any other.
--- Devices have faults of their own
+-- The first that applies: too many logs, the first log that is too long, the first bad line, too
+-- many instances, the first disagreement. Out of memory is a refusal of all logs; failed reads,
+-- failed writes and bad bases are refusals of none
 abbrev pub IsRefusal : List (List ℕ) → Fault → Type 0
 IsRefusal logs Memory = Unit {0}
 IsRefusal logs TooManyLogs = max_logs < length logs

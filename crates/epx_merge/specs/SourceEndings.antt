@@ -9,16 +9,18 @@ use Rattle.epx_devices.specs.Transfers.{ConsumesUpTo}
 use Rattle.epx_types.specs.Limits.{max_logs, max_log_bytes}
 use Rattle.epx_devices.specs.Models.{SourceModel}
 
--- at most n bytes are taken from each source
+-- of each source whose bytes are known, at most n are taken, from the front
 abbrev pub EachConsumesUpTo : {S : Type 0} → SourceModel S → List S → List S → ℕ → Type 0
 EachConsumesUpTo D old new n = AllZip
     (λ before after. ConsumesUpTo (D.remaining before) (D.remaining after) n) old new
 
--- reading stopped at this log: it is too long or cannot be read
+-- the result is the fault that the log of this number is too long or cannot be read
 abbrev pub StopsAt : {T : Type 0} → Result T Fault → ℕ → Type 0
 StopsAt result log = IsErrOf result (LogTooLong log) ⊎ IsErrOf result (Read log)
 
--- how a call with this result leaves the sources of the logs
+-- A source has failed exactly if the result is its fault `Read`. Too many logs are refused unread,
+-- and sources after a log that stops reading are unchanged. From each at most `max_log_bytes` + 1
+-- known bytes are taken, and on success all
 pub record LeavesSources {S T : Type 0} (D : SourceModel S) (old new : List S)
     (result : Result T Fault) : Type 0 where
   pub read : (log : ℕ) (source : S) → slice_get new log ≡ Some source

@@ -11,8 +11,8 @@ TouchesAt commands p k = Contains (touched_keys (slice_index_or commands p [])) 
 abbrev pub WritesAt : List (List Op) → ℕ → List ℕ → Type 0
 WritesAt commands p k = Contains (written_keys (slice_index_or commands p [])) k
 
--- one of the commands at positions p and q writes the key, the other touches it, and no command
--- between them writes it
+-- position p is before q, one of the two commands writes the key, the other touches it, and no
+-- command between them writes it
 pub record AreNeighbours (commands : List (List Op)) (p q : ℕ) (k : List ℕ) : Type 0 where
   pub rises : p < q
   pub conflict : (WritesAt commands p k × TouchesAt commands q k)

@@ -26,7 +26,8 @@ pair_cmp a b = ordering_then (id_cmp a.before b.before)
 abbrev pub PairBelow : NeighbourPair → NeighbourPair → Type 0
 PairBelow a b = is_lt (pair_cmp a b) ≡ true
 
--- the two are neighbours on the key, and neither reaches the other
+-- in this order of execution the two are neighbours on the key, `before` first, and neither reaches
+-- the other
 pub record IsUncoveredPair (m : List Instance) (order : List Ranked) (n : NeighbourPair) : Type
     0 where
   pub first : ℕ

@@ -21,12 +21,13 @@ abbrev pub UncoveredTextIsUnique : Type 0
 UncoveredTextIsUnique = (m : List Instance) (text other : List ℕ) → IsUncoveredText m text
     → IsUncoveredText m other → text ≡ other
 
--- the text is the line `covered` exactly if the map is covered
+-- the text of a committed map is the line `["covered"]` exactly if the map is covered
 abbrev pub CoveredLineMeansCovered : Type 0
 CoveredLineMeansCovered = (m : List Instance) (text : List ℕ) → IsRising (ids_of m)
     → IsUncoveredText m text → (text ≡ covered_line) ↔ IsCovered m
 
--- where the second of each uncovered pair depends on the first one, the map is covered
+-- Let n have more dependencies than the committed map m. If in n the second instance of each
+-- uncovered pair of m depends on the first one, n is covered
 abbrev pub MendedMapIsCovered : Type 0
 MendedMapIsCovered = (m n : List Instance) (order : List Ranked) (pairs : List NeighbourPair)
     → IsRising (ids_of m) → IsExecutionOrder m order → AreUncoveredPairs m order pairs

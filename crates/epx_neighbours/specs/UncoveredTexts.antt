@@ -5,7 +5,8 @@ use Rattle.epx_types.specs.Instances.{Instance}
 use Rattle.epx_neighbours.specs.UncoveredNeighbours.{NeighbourPair, AreUncoveredPairs}
 use Rattle.epx_neighbours.specs.UncoveredLines.{pairs_text}
 
--- the lines of the uncovered pairs of a map under its execution order
+-- the text has the lines of all uncovered pairs of the map in its execution order, by rising pair;
+-- if there are none, it is the line `["covered"]`
 pub record IsUncoveredText (m : List Instance) (text : List ℕ) : Type 0 where
   pub order : List Ranked
   pub pairs : List NeighbourPair

@@ -18,7 +18,7 @@ abbrev pub PictureIsUnique : Type 0
 PictureIsUnique = (m : List Instance) (text other : List ℕ) → IsPicture m text → IsPicture m other
     → text ≡ other
 
--- in a committed map there is a picture around each instance
+-- a committed map has a picture of n steps around each Id
 abbrev pub PictureAroundExists : Type 0
 PictureAroundExists = (m : List Instance) (x : Id) (n : ℕ) → IsRising (ids_of m)
     → (text : List ℕ) × IsPictureAround m x n text
@@ -28,13 +28,15 @@ abbrev pub PictureAroundIsUnique : Type 0
 PictureAroundIsUnique = (m : List Instance) (x : Id) (n : ℕ) (text other : List ℕ)
     → IsPictureAround m x n text → IsPictureAround m x n other → text ≡ other
 
--- where everything lies within n steps of x, it is the picture of the map
+-- if all committed and missing instances are within n steps of x, the picture around x is that of
+-- the whole map
 abbrev pub PictureAroundIsWhole : Type 0
 PictureAroundIsWhole = (m : List Instance) (x : Id) (n : ℕ) (text : List ℕ)
     → ((y : Id) → IsCommitted m y ⊎ IsMissing m y → IsWithinSteps m n x y)
     → IsPictureAround m x n text ↔ IsPicture m text
 
--- where one step more adds nothing, any number of steps more adds nothing
+-- if all that is within n + 1 steps of x is within n steps, the pictures around x of n steps and of
+-- any more are the same
 abbrev pub FurtherStepsAddNothing : Type 0
 FurtherStepsAddNothing = (m : List Instance) (x : Id) (n l : ℕ) (text : List ℕ)
     → ((y : Id) → IsWithinSteps m (n + 1) x y → IsWithinSteps m n x y) → n ≤ l

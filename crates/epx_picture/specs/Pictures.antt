@@ -9,8 +9,8 @@ use Rattle.epx_picture.specs.declared.node_box.NodeBox.{NodeBox}
 use Rattle.epx_picture.specs.NodeBoxes.{IsBoxOf}
 use Rattle.epx_picture.specs.PictureText.{picture_text}
 
--- a box for each committed instance and one for each missing instance, both by increasing Id, and
--- an arrow for each dependency
+-- the text is a graph in DOT, with a box for each committed instance, in the order of the map, one
+-- for each missing instance, by rising Id, and an arrow for each dependency
 pub record IsPicture (m : List Instance) (text : List ℕ) : Type 0 where
   pub node_boxes : List NodeBox
   pub missing : List Id

@@ -18,9 +18,9 @@ with_deps_near near e = record e { deps = filter near e.deps }
 abbrev pub part_near : (Id → Bool) → List Instance → List Instance
 part_near near m = map (with_deps_near near) (filter (λ e. near e.id) m)
 
--- of what lies within n steps of x: a box for each committed instance and one for each missing
--- instance, both by increasing Id and as in the picture of the whole map, and an arrow for each
--- dependency of one of them on another
+-- the text is a graph in DOT of what is within n steps of x: a box for each committed and each
+-- missing instance there, as in the picture of the whole map, and an arrow for each dependency of
+-- which both ends are there
 pub record IsPictureAround (m : List Instance) (x : Id) (n : ℕ) (text : List ℕ) : Type 0 where
   pub near : Id → Bool
   pub node_boxes : List NodeBox

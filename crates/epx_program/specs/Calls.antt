@@ -45,8 +45,9 @@ IsFollow (asked.WorkWith task plan paths flags) = ⊥
 IsFollow (asked.Follow plan paths options) = ⊤
 IsFollow (asked.Text text status) = ⊥
 
--- what the words ask for: the report of one log if they name no subcommand, otherwise what clap
--- finds in the words
+-- what the words ask for: without a subcommand the report of one log, standard input, with 4
+-- workers and a cut of 256; otherwise the work of the subcommand, exactly if the words are taken
+-- (`IsTaken`), or a text with its status
 pub record Asks (words : List Text) (wanted : Words) : Type 0 where
   pub bare : IsBare words → wanted ≡ asked.Work Run (record { workers = 4; cut = 256 }) None
   -- with a subcommand, work and following are what clap finds in its words
@@ -70,9 +71,9 @@ EndsWithText text zero status failed old new =
     ⊎ ((status ≡ fault_status Write) × (failed ≡ true) × AppendsPrefix old new text)
 EndsWithText text (suc n) status failed old new = (status ≡ suc n) × Keeps old new
 
--- How a task over the paths ends. `input` has the bytes of the program's input, if they are known.
--- `Unread` means that a read of the input failed, and `exit_code` that `--exit-code` is there. `Is`
--- says which text is that of a path.
+-- Status 0 or 5 (`answer_status`): the answer of the task to the texts that the paths have (`Is`)
+-- is appended to the output (`old`, then `new`). Any other: that of a fault; of a run over `input`,
+-- if only the input is read and is known. If the output `failed`, a prefix is appended
 pub record EndsTask (input : Option (List ℕ)) (Unread : Type 0) (Is : TextRelation)
     (exit_code : Bool) (task : Task) (paths : Option (List (List ℕ))) (status : ℕ) (failed : Bool)
     (old new : Option (List ℕ)) : Type 0 where
@@ -94,7 +95,8 @@ pub record EndsTask (input : Option (List ℕ)) (Unread : Type 0) (Is : TextRela
 abbrev pub paths_of : Option (Vec (String Global) Global) → Option (List (List ℕ))
 paths_of paths = option_map (λ list. map string_bytes list.items) paths
 
--- how the program ends, by what is wanted
+-- how the program ends, if its words want this: as a task over paths (`EndsTask`), as following
+-- logs (`EndsFollow`), or with a text (`EndsWithText`)
 abbrev pub EndsAsAsked : Option (List ℕ) → Type 0 → TextRelation → SaveRelation → Words → ℕ → Bool
     → Option (List ℕ) → Option (List ℕ) → Type 0
 EndsAsAsked input Unread Is Saving (asked.Work task plan paths) status failed old new =

@@ -21,8 +21,8 @@ abbrev pub first_of : List (List ℕ) → List ℕ
 first_of [] = []
 first_of (text ∷ texts) = text
 
--- what is said of the texts at the paths of a task: of its input, which is the first, and the logs
--- after it, or of logs alone if the task has no input
+-- `Both` of the first text, which is the input, and of the logs after it, if the task has an input;
+-- otherwise `Logs` of all the texts
 abbrev pub over_texts : Task → (List ℕ → List (List ℕ) → Type 0) → (List (List ℕ) → Type 0)
     → List (List ℕ) → Type 0
 over_texts Resume Both Logs texts = Both (first_of texts) (drop 1 texts)
@@ -39,7 +39,8 @@ IsTaskAnswer task texts answer = over_texts task
     (λ input logs. AnswersWithInput (IsBadInput task) (IsTaskText task) input logs answer)
     (λ logs. AnswersLogs task logs answer) texts
 
--- the faults of a task, with those of devices
+-- the faults with which a run of the task over these texts may end: their refusal, or that of a
+-- read or a write that failed
 abbrev pub IsTaskFault : Task → List (List ℕ) → Fault → Type 0
 IsTaskFault task texts fault = over_texts task
     (λ input logs. IsRunFaultWithInput (IsBadInput task) (IsTaskText task) input logs fault)
@@ -51,23 +52,26 @@ IsTaskFinding task found texts text = over_texts task
     (λ input logs. AnswersWithInput (IsBadInput task) (IsFindingText task found) input logs
     (Ok text)) (λ logs. AnswersFinding task found logs (Ok text)) texts
 
--- the answer of the task to these texts is appended
+-- the answer of the task to these texts is appended to the output, and `found` is whether it finds
+-- something
 abbrev pub AppendsAnswer : Task → Bool → List (List ℕ) → Option (List ℕ) → Option (List ℕ) → Type 0
 AppendsAnswer task found texts old new =
     (text : List ℕ) × IsTaskFinding task found texts text × Appends old new text
 
--- a prefix of the answer is appended
+-- a prefix of the answer of the task to these texts is appended to the output
 abbrev pub AppendsPart : Task → List (List ℕ) → Option (List ℕ) → Option (List ℕ) → Type 0
 AppendsPart task texts old new =
     (text : List ℕ) × IsTaskAnswer task texts (Ok text) × AppendsPrefix old new text
 
--- the answer to texts that were read is appended
+-- the answer of the task to some texts that were read, as `AreRead` says, is appended to the
+-- output, and `found` is whether it finds something
 abbrev pub AddsAnswer : Task → Bool → (List (List ℕ) → Type 0) → Option (List ℕ) → Option (List ℕ)
     → Type 0
 AddsAnswer task found AreRead old new =
     (texts : List (List ℕ)) × AreRead texts × AppendsAnswer task found texts old new
 
--- a prefix of the answer to texts that were read is appended
+-- a prefix of the answer of the task to some texts that were read, as `AreRead` says, is appended
+-- to the output
 abbrev pub AddsPart : Task → (List (List ℕ) → Type 0) → Option (List ℕ) → Option (List ℕ) → Type 0
 AddsPart task AreRead old new =
     (texts : List (List ℕ)) × AreRead texts × AppendsPart task texts old new
@@ -105,10 +109,10 @@ EndsWith exit_code task texts status old new =
     × AppendsAnswer task found texts old new)
     ⊎ ((fault : Fault) × HasFault task texts fault old new × (status ≡ fault_status fault))
 
--- the status of an answer
+-- the status of an answer, 0 or 5
 abbrev pub IsAnswerStatus : ℕ → Type 0
 IsAnswerStatus status = (status ≡ 0) ⊎ (status ≡ 5)
 
--- the status of an answer or of a fault
+-- the status of an answer, 0 or 5, or of a fault: 1, 3 or 4
 abbrev pub IsStatus : ℕ → Type 0
 IsStatus status = IsAnswerStatus status ⊎ ((fault : Fault) × (status ≡ fault_status fault))

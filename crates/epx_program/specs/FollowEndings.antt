@@ -43,8 +43,8 @@ pub record FollowsToEnds (Is : TextRelation) (options : FollowOptions)
     pub followed : IsFollowed start options.each logs last text
     pub appended : Appends old new text
 
--- Following stops with this fault before the logs end. It is one of the output only if that failed.
--- Memory may run out before anything is read
+-- Following stops with this fault, and the saver is not used: as `Is.Stops` says, or memory runs
+-- out and the output is unchanged. The fault is of the output only if that failed
 pub record StopsBefore (Is : TextRelation) (Saving : SaveRelation) (options : FollowOptions)
     (paths : Option (List (List ℕ))) (fault : Fault) (failed : Bool) (old new : Option (List ℕ))
     : Type 0 where
@@ -53,7 +53,10 @@ pub record StopsBefore (Is : TextRelation) (Saving : SaveRelation) (options : Fo
   pub stops : ((fault ≡ Memory) × Keeps old new)
       ⊎ Is.Stops (state_of options) options.each paths fault old new
 
--- How the program that follows logs ends. `Saving` says what is saved
+-- with status 0 the text of following the logs to their ends is appended to the output, and the
+-- state is saved; any other status is that of a fault with which following or saving stops. `Is`
+-- says which text a path has, `Saving` what is saved, `old` and `new` what the output has before
+-- and after, and `failed` whether it failed
 pub record EndsFollow (Is : TextRelation) (Saving : SaveRelation) (options : FollowOptions)
     (paths : Option (List (List ℕ))) (status : ℕ) (failed : Bool) (old new : Option (List ℕ))
     : Type 0 where

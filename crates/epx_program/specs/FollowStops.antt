@@ -18,11 +18,12 @@ abbrev pub StartsAfter : List ℕ → ℕ → FollowerView → Type 0
 StartsAfter bytes log start = (v : ExecutorView) × (line : ℕ) × GoesOnFrom bytes v line
     × (start ≡ follower_after v log line)
 
--- the number of the state in faults, which is that of the logs
+-- the number of the state in faults: how many logs there are, the number after the last log
 abbrev pub state_number : Option (List (List ℕ)) → ℕ
 state_number paths = length (paths_read paths)
 
--- reads of the source at the path of the state delivered these bytes, and that input is left
+-- reads of the source at the path of the state delivered these bytes, and `left` is what is left of
+-- the program's input
 pub record ReadsState {O F I : Type 0} (opening : OpenerModel O F) (D : SourceModel F) (opener : O)
     (E : SourceModel I) (state : List ℕ) (input left : Option I) (bytes : List ℕ) : Type 0 where
   pub source : SourceAt O F I
@@ -37,7 +38,8 @@ CannotRead D log first now fault = (fault ≡ Memory)
     × ((bytes : List ℕ) × Delivers D first now bytes × (most_followed_bytes < length bytes)))
     ⊎ ((fault ≡ Read log) × DeliversThenFails D first now)
 
--- the state at the path is refused: it cannot be read, or it is none
+-- the state at the path is refused: it cannot be read, or its bytes are neither a state nor an
+-- earlier report
 pub record RefusesState {O F I : Type 0} (opening : OpenerModel O F) (D : SourceModel F)
     (opener : O) (E : SourceModel I) (state : List ℕ) (log : ℕ) (input : Option I) (fault : Fault)
     : Type 0 where
@@ -49,7 +51,8 @@ pub record RefusesState {O F I : Type 0} (opening : OpenerModel O F) (D : Source
       ⊎ ((bytes : List ℕ) × DeliversAll (model_at opening D E) source last bytes
       × IsStartFault bytes fault)
 
--- following the logs at the paths from this follower stops
+-- following the logs at the paths from the follower `start` stops with this fault
+-- (`StopsFollowing`)
 pub record StopsFrom {O F I : Type 0} (opening : OpenerModel O F) (D : SourceModel F) (opener : O)
     (E : SourceModel I) (start : FollowerView) (input : Option I) (each : Bool)
     (paths : Option (List (List ℕ))) (fault : Fault) (old new : Option (List ℕ)) : Type 0 where
@@ -59,7 +62,8 @@ pub record StopsFrom {O F I : Type 0} (opening : OpenerModel O F) (D : SourceMod
   pub at : AreSourcesAt opener input left (paths_read paths) sources
   pub stopped : StopsFollowing (model_at opening D E) start each sources after fault old new
 
--- following the logs at the paths stops, from the state at a path if there is one
+-- following the logs at the paths stops with this fault, from a new follower, or from the one of
+-- the state at a path, which is read first. If the state is refused, the output is unchanged
 abbrev pub StopsAtPaths : {O F I : Type 0} → OpenerModel O F → SourceModel F → O → SourceModel I
     → I → Option (List ℕ) → Bool → Option (List (List ℕ)) → Fault
     → Option (List ℕ) → Option (List ℕ) → Type 0

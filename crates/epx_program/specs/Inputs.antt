@@ -12,9 +12,9 @@ abbrev pub IsInputAlone : Option (List (List ℕ)) → Type 0
 IsInputAlone None = ⊤
 IsInputAlone (Some paths) = paths ≡ codes "-" ∷ []
 
--- which text is that of the file at a path, and which that of the program's input; and with which
--- faults following the logs at some paths stops, from the state at a path if there is one, and what
--- is written then
+-- `OfFile`, `OfInput`: which text the file at a path has, and which the program's input. `Stops`:
+-- with which faults following the logs at paths stops, from the state at a path if there is one,
+-- and what is written then
 pub record TextRelation : Type 1 where
   pub OfFile : List ℕ → List ℕ → Type 0
   pub OfInput : List ℕ → Type 0
@@ -26,7 +26,8 @@ pub record TextRelation : Type 1 where
 abbrev pub after_input : TextRelation → TextRelation
 after_input Is = record Is { OfInput = λ text. text ≡ [] }
 
--- the texts at these paths, in this order
+-- the texts at these paths, in this order. The first `-` has the text of the program's input, and
+-- any other `-` is empty
 abbrev pub AreTextsAt : TextRelation → List (List ℕ) → List (List ℕ) → Type 0
 AreTextsAt Is [] texts = texts ≡ []
 AreTextsAt Is (path ∷ paths) [] = ⊥

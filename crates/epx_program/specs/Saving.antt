@@ -26,7 +26,7 @@ save_relation model old new = record {
 abbrev pub IsStateOf : List ℕ → FollowerView → Type 0
 IsStateOf bytes v = (p : StateParts) × IsState bytes p × HoldsState p (executor_of v)
 
--- the state of the follower is saved under the path, if there is one
+-- a state of what the follower holds is saved under the path; without a path the saver is not used
 abbrev pub SavesState : SaveRelation → Option (List ℕ) → FollowerView → Type 0
 SavesState Saving None v = Saving.IsUnused
 SavesState Saving (Some path) v = (bytes : List ℕ) × IsStateOf bytes v × Saving.Saves path bytes

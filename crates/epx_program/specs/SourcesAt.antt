@@ -30,7 +30,8 @@ abbrev pub input_or_nothing : {O F I : Type 0} → Option I → SourceAt O F I
 input_or_nothing (Some input) = Second (First input)
 input_or_nothing None = Second (Second [])
 
--- the source at a path, and the input that is left after it
+-- the source at a path, and the input that is left: a hyphen takes the input, or has no bytes if
+-- that is taken already; at any other path there is a file that is not open yet
 abbrev pub IsSourceAt : {O F I : Type 0} → O → List ℕ → Option I → Option I → SourceAt O F I
     → Type 0
 IsSourceAt opener path input left source =

@@ -37,8 +37,8 @@ pub record IsEarlyAt (m : List Instance) (ids : List Id) (place : ℕ) : Type 0 
   pub is_later : place < later
   pub there : slice_get ids later ≡ Some reached
 
--- an earlier place has a member of the same component that belongs after the instance at this
--- place
+-- an earlier place has a member of the same component that comes after the instance at this place
+-- by sequence number and then Id
 pub record IsOvertakenAt (m : List Instance) (ids : List Id) (place : ℕ) : Type 0 where
   pub id : Id
   pub follower : Id
@@ -66,8 +66,9 @@ InOrder m ids n = (i : ℕ) → i < n → ¬ IsEarlyAt m ids i × ¬ IsOvertaken
 abbrev pub IsListOfReady : List Instance → List Id → Type 0
 IsListOfReady m ids = ReadyOnce m ids (length ids) × HasAllReady m ids
 
--- the fault of a list is the first of: the least place of a stranger or a repeat; the least ready
--- instance that is not in the list; the least place where the order is wrong
+-- `Memory`, or the first of: the least place whose instance is not ready or is listed earlier; the
+-- least ready instance that is not listed; the least place that reaches a later one outside its
+-- component, or whose instance is after one of its component that comes later by sequence
 abbrev pub IsOrderFault : List Instance → List Id → OrderFault → Type 0
 IsOrderFault m ids Memory = Unit {0}
 IsOrderFault m ids (Stranger place) = IsStrangerAt m ids place × ReadyOnce m ids place

@@ -11,7 +11,7 @@ use Rattle.epx_ranking.specs.declared.order_fault.OrderFault.TheVariants.{Memory
 use Rattle.epx_ranking.specs.PrefixFaults.{IsPrefixFault}
 use Rattle.epx_ranking.specs.OrderFaults.{HasAllReady, IsOrderFault}
 
--- a list is a prefix of a lawful order or has a fault
+-- a list is a prefix of a lawful order of a committed map, or has a fault other than out of memory
 abbrev pub PrefixOrFault : Type 0
 PrefixOrFault = (m : List Instance) → IsRising (ids_of m) → (ids : List Id)
     → IsLawfulPrefix m ids

@@ -20,7 +20,8 @@ pub record IsTooEarlyAt (m : List Instance) (ids : List Id) (place : ℕ) : Type
   pub outside : ¬ Reaches m reached id
   pub not_before : (earlier : ℕ) → earlier < place → slice_get ids earlier ≢ Some reached
 
--- a member of the same component that belongs before the instance at a place is not in the list
+-- a member of the same component that comes before the instance at a place by sequence number and
+-- then Id is not in the list
 pub record IsAfterGapAt (m : List Instance) (ids : List Id) (place : ℕ) : Type 0 where
   pub id : Id
   pub left_out : Id
@@ -29,7 +30,8 @@ pub record IsAfterGapAt (m : List Instance) (ids : List Id) (place : ℕ) : Type
   pub by_sequence : SequenceBefore m left_out id
   pub absent : ¬ Contains ids left_out
 
--- an earlier place has a member that belongs later, or a member that belongs earlier is left out
+-- an earlier place has a member of the same component that comes later by sequence number and then
+-- Id, or one that comes earlier is not in the list
 abbrev pub IsOutOfSequenceAt : List Instance → List Id → ℕ → Type 0
 IsOutOfSequenceAt m ids place = IsOvertakenAt m ids place ⊎ IsAfterGapAt m ids place
 
@@ -38,8 +40,9 @@ abbrev pub BeginsInOrder : List Instance → List Id → ℕ → Type 0
 BeginsInOrder m ids n = (i : ℕ) → i < n
     → ¬ IsTooEarlyAt m ids i × ¬ IsOutOfSequenceAt m ids i
 
--- the fault of a prefix is the first of: the least place of a stranger or a repeat; the least
--- place where the order is wrong
+-- `Memory`, or the first of: the least place whose instance is not ready or is listed earlier; the
+-- least place that reaches one outside its component that is at no earlier place, or whose
+-- component is out of sequence there (`IsOutOfSequenceAt`)
 abbrev pub IsPrefixFault : List Instance → List Id → OrderFault → Type 0
 IsPrefixFault m ids Memory = Unit {0}
 IsPrefixFault m ids (Stranger place) = IsStrangerAt m ids place × ReadyOnce m ids place

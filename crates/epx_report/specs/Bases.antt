@@ -20,7 +20,7 @@ use Rattle.epx_report.specs.Forms.{base_line_of}
 
 -- ---- the lines of a base
 
--- each line has one of the forms, and this is what the lines say
+-- each line has one of the forms of a base's lines, and these are what the lines say, in order
 abbrev pub Say : List (List ℕ) → List BaseLine → Type 0
 Say lines said = map base_line_of lines ≡ map Some said
 
@@ -41,7 +41,7 @@ lines_in_order p =
     ++ (map line.Reply p.replied
     ++ (map line.Waiting p.waiting ++ map (λ e. line.Store e.0 e.1) p.stored)))
 
--- no two lines name one instance, and done lines and waiting lines rise
+-- no Id is twice in `done`, `replied` and `waiting` together, and `done` and `waiting` rise
 pub record AreDistinctIds (done replied waiting : List Id) : Type 0 where
   pub done_rise : IsRising done
   pub replied_once : AllPairs (λ x y. x ≢ y) replied
@@ -50,8 +50,8 @@ pub record AreDistinctIds (done replied waiting : List Id) : Type 0 where
   pub waiting_left : (x : Id) → Contains waiting x
       → (¬ Contains done x) × (¬ Contains replied x)
 
--- no two lines name one instance, the done, waiting and store lines rise, and there are as many
--- reply and waiting lines as the header says
+-- no two of the done, reply and waiting lines are of one instance; done, waiting and store lines
+-- rise; there are as many reply and waiting lines as the header says
 pub record AreBaseParts (p : BaseParts) : Type 0 where
   pub distinct : AreDistinctIds p.done p.replied p.waiting
   pub stored_rise : IsTrue (is_sorted key_cmp p.stored)
@@ -60,13 +60,13 @@ pub record AreBaseParts (p : BaseParts) : Type 0 where
 
 -- ---- a base
 
--- the instances of the done lines and of the reply lines, each once, by rising Id
+-- `done` has the Ids of `before` and of `replied` together, each once, by rising Id
 pub record AreDoneIn (before replied done : List Id) : Type 0 where
   pub rising : IsRising done
   pub each : (x : Id) → Contains done x ↔ Contains before x ⊎ Contains replied x
 
--- The bytes are a base. `done` has the instances of its done lines and reply lines. The entries of
--- `stored` are those of its store lines.
+-- The lines of the bytes are those of a base, in order (`lines_in_order`, `AreBaseParts`). `done`
+-- has the instances of its done and reply lines, and the entries of `stored` are its store lines
 pub record IsBase (bytes : List ℕ) (done : List Id) (stored : Contents) : Type 0 where
   pub parts : BaseParts
   pub said : Say (lines_of bytes) (lines_in_order parts)
@@ -76,12 +76,13 @@ pub record IsBase (bytes : List ℕ) (done : List Id) (stored : Contents) : Type
 
 -- ---- a bad base
 
--- all lines of a base say this
+-- these come in the order of a base's lines (`lines_in_order`) and are as `AreBaseParts` says, so
+-- that none is missing
 abbrev pub AreWhole : List BaseLine → Type 0
 AreWhole said = (p : BaseParts) × (said ≡ lines_in_order p) × AreBaseParts p
 
--- The lines are the first lines of a base: further lines make them whole. Only what these say
--- counts, so the numbers of their Ids have no limit.
+-- What the lines say can be continued to what all lines of a base say. The continuation need not be
+-- text, so its numbers and keys have no limits
 pub record BeginBase (lines : List (List ℕ)) : Type 0 where
   pub said : List BaseLine
   pub more : List BaseLine
@@ -100,12 +101,14 @@ abbrev pub IsBadBase : List ℕ → ℕ → Type 0
 IsBadBase bytes line =
     IsFirstNotGood BeginBase (lines_of bytes) line ⊎ EndsEarly (lines_of bytes) line
 
--- `Memory` says nothing about the bytes
+-- the fault is a line at which the bytes are a bad base, or `Memory`, which says nothing about the
+-- bytes
 abbrev pub IsBaseFault : List ℕ → BaseFault → Type 0
 IsBaseFault bytes Memory = Unit {0}
 IsBaseFault bytes (Bad line) = IsBadBase bytes line
 
--- the fault that the program reports for it
+-- the fault that the program reports for a fault of a base: out of memory, or a bad base at this
+-- line
 abbrev pub fault_of : BaseFault → Fault
 fault_of Memory = fault.Memory
 fault_of (Bad line) = fault.BadBase line

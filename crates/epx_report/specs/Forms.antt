@@ -21,11 +21,11 @@ abbrev pub is_same_text : List ℕ → Option (List ℕ) → Bool
 is_same_text text None = false
 is_same_text text (Some found) = bytes_eq found text
 
--- the value is exactly this text
+-- the value is a JSON string of exactly this text
 abbrev pub is_text : List ℕ → Data → Bool
 is_text text d = is_same_text text (as_str d)
 
--- the Id of a replica and a number
+-- the Id of two JSON values: a replica below 256 and a number below 2^64; otherwise None
 abbrev pub id_from : Data → Data → Option Id
 id_from r i = id_of_pair (r ∷ i ∷ [])
 
@@ -37,7 +37,8 @@ counts_within executed waiting components =
     if nat_le components executed then Some (record { executed = executed; waiting = waiting })
     else None
 
--- the counts, if there are no more components than executed instances
+-- the counts of a header; None if one of the three values is no whole number below 2^64, or if
+-- there are more components than executed instances
 unfoldable pub counts_of : Data → Data → Data → Option Counts
 counts_of e w c =
     option_and_then
@@ -45,19 +46,20 @@ counts_of e w c =
     (λ waiting. option_and_then (λ components. counts_within executed waiting components)
     (whole (2 ^ 64) c)) (whole (2 ^ 64) w)) (whole (2 ^ 64) e)
 
--- `["executed",E,"waiting",W,"components",C]`
+-- what the six elements of a line `["executed",E,"waiting",W,"components",C]` say; None if they
+-- have another form
 unfoldable pub header_of : Data → Data → Data → Data → Data → Data → Option BaseLine
 header_of n e o w p c = if is_text (codes "executed") n && is_text (codes "waiting") o && is_text
     (codes "components") p then option_map Header (counts_of e w c) else None
 
 -- ---- replies
 
--- there is a list, of at most 64 values, each a number or null
+-- there is a list, of at most 64 values, each a signed whole number of 64 bits or null
 abbrev pub are_few_values : Option (List Data) → Bool
 are_few_values None = false
 are_few_values (Some ds) = nat_le (length ds) 64 && list_all (λ d. is_some (value_or_null d)) ds
 
--- an array of at most 64 values, each a number or null
+-- an array of at most 64 values, each a signed whole number of 64 bits or null
 unfoldable pub is_value_list : Data → Bool
 is_value_list d = are_few_values (elements d)
 
@@ -65,14 +67,15 @@ is_value_list d = are_few_values (elements d)
 unfoldable pub is_op_index : Data → Bool
 is_op_index d = is_some (option_and_then (if_below 64) (whole (2 ^ 64) d))
 
--- `"ok",[v,..]` or `"abort",j`
+-- the last two elements of a reply line: `"ok",[v,..]`, or `"abort",j` with j below 64
 unfoldable pub is_outcome : Data → Data → Bool
 is_outcome a b = (is_text (codes "ok") a && is_value_list b) ||
     (is_text (codes "abort") a && is_op_index b)
 
 -- ---- lines of each length
 
--- `["reply",r,i,..]` or `["waiting",r,i,mr,mi]`
+-- what the five elements of a line `["reply",r,i,..]` or `["waiting",r,i,mr,mi]` say: the instance
+-- r.i; None if they have another form
 unfoldable pub id_line_of : Data → Data → Data → Data → Data → Option BaseLine
 id_line_of n r i a b =
     if is_text (codes "reply") n then
@@ -80,7 +83,8 @@ id_line_of n r i a b =
     (if is_text (codes "waiting") n then
     (if is_some (id_from a b) then option_map Waiting (id_from r i) else None) else None)
 
--- `["done",r,i]` or `["store",k,v]`
+-- what the three elements of a line `["done",r,i]` or `["store",k,v]` say; None if they have
+-- another form
 unfoldable pub short_line_of : Data → Data → Data → Option BaseLine
 short_line_of n a b =
     if is_text (codes "done") n then option_map Done (id_from a b) else
@@ -98,11 +102,12 @@ form_of_list _ = None
 abbrev pub form_named : List ℕ → List Data → Option BaseLine
 form_named name ds = form_of_list (string name ∷ ds)
 
--- what a line says, by its value
+-- what a line of a base says, by its JSON value; None if it is no array of one of the forms
 unfoldable pub form_of : Data → Option BaseLine
 form_of d = option_and_then form_of_list (elements d)
 
--- what a line says, by its bytes without the line feed
+-- what a line of a base says, by its bytes without the line feed; None if there are more than
+-- `max_line_bytes` of them, or if they are no JSON array of one of the forms
 unfoldable pub base_line_of : List ℕ → Option BaseLine
 base_line_of bytes = if nat_lt max_line_bytes (length bytes) then None else option_and_then form_of
     (json_of bytes)

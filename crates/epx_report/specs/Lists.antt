@@ -9,7 +9,8 @@ use Rattle.epx_report.specs.BadLines.{IsFirstNotGood}
 use Rattle.epx_report.specs.declared.base.BaseFault.{BaseFault}
 use Rattle.epx_report.specs.declared.base.BaseFault.TheVariants.{Memory, Bad}
 
--- the instance that a line names: `[r,i]`
+-- the Id that a line `[r,i]` names; None if the line has another form or more than `max_line_bytes`
+-- bytes
 unfoldable pub listed_id_of : List ℕ → Option Id
 listed_id_of bytes = if nat_lt max_line_bytes (length bytes) then None else option_and_then id_of
     (json_of bytes)
@@ -34,7 +35,8 @@ AreListLines lines = (ids : List Id) × LinesName lines ids
 abbrev pub IsBadList : List ℕ → ℕ → Type 0
 IsBadList bytes line = IsFirstNotGood AreListLines (lines_of bytes) line
 
--- `Memory` says nothing about the bytes
+-- the fault is the line at which the bytes are a bad list, or `Memory`, which says nothing about
+-- the bytes
 abbrev pub IsListFault : List ℕ → BaseFault → Type 0
 IsListFault bytes Memory = Unit {0}
 IsListFault bytes (Bad line) = IsBadList bytes line

@@ -26,8 +26,8 @@ line_of ds = compact_text (array_of ds) ++ line_feed ∷ []
 abbrev pub data_of_number : ℕ → Data
 data_of_number n = number (unsigned n)
 
--- the number of executed instances, of waiting ones, and of components that the executed ones make
--- up
+-- the elements of a header: how many instances are executed, how many wait, and how many components
+-- the executed ones make up
 abbrev pub header_data : ℕ → ℕ → ℕ → List Data
 header_data executed waiting components =
     string (codes "executed") ∷ data_of_number executed ∷ string (codes "waiting")
@@ -38,16 +38,16 @@ header_data executed waiting components =
 abbrev pub header_line : ℕ → ℕ → ℕ → List ℕ
 header_line executed waiting components = line_of (header_data executed waiting components)
 
--- an instance that was done before
+-- the elements of a done line: an instance that was done before the run
 abbrev pub done_data : Id → List Data
 done_data x = string (codes "done") ∷ data_of_number x.replica ∷ data_of_number x.number ∷ []
 
--- `["done",r,i]`, for an instance that was done before
+-- `["done",r,i]`, for an instance that was done before the run
 abbrev pub done_line : Id → List ℕ
 done_line x = line_of (done_data x)
 
--- an executed instance and its reply: the values that it read, or the index of the operation that
--- aborted
+-- the elements of a reply line: an executed instance, and the values that it read or the index of
+-- the operation that aborted
 abbrev pub reply_data : Id → Reply → List Data
 reply_data x (Values vs) = string (codes "reply") ∷ data_of_number x.replica
     ∷ data_of_number x.number ∷ string (codes "ok") ∷ array_of (map data_of_value vs) ∷ []
@@ -58,7 +58,7 @@ reply_data x (Abort index) = string (codes "reply") ∷ data_of_number x.replica
 abbrev pub reply_line : Id × Reply → List ℕ
 reply_line p = line_of (reply_data p.0 p.1)
 
--- an instance that waits, and the missing one that it waits for
+-- the elements of a waiting line: an instance, and the missing one that it waits for
 abbrev pub waiting_data : Waiting → List Data
 waiting_data w = string (codes "waiting") ∷ data_of_number w.id.replica
     ∷ data_of_number w.id.number ∷ data_of_number w.missing.replica
@@ -68,7 +68,7 @@ waiting_data w = string (codes "waiting") ∷ data_of_number w.id.replica
 abbrev pub waiting_line : Waiting → List ℕ
 waiting_line w = line_of (waiting_data w)
 
--- a key of the store and its value
+-- the elements of a store line: a key and its value
 abbrev pub store_data : List ℕ × ℤ → List Data
 store_data p = string (codes "store") ∷ string p.0 ∷ number (of_integer p.1) ∷ []
 

@@ -59,7 +59,7 @@ FitsNumbers x = (x.replica < 256) × (x.number < 2 ^ 64)
 abbrev pub FitsOptional : Option ℤ → Type 0
 FitsOptional o = IfSome o (FitsSigned w64)
 
--- a reply of at most 64 values, or of the index of an operation, below 64
+-- a reply of at most 64 values, each of 64 bits with sign or none, or an abort at an index below 64
 abbrev pub FitsReply : Reply → Type 0
 FitsReply (Values vs) = (length vs ≤ 64) × All FitsOptional vs
 FitsReply (Abort j) = j < 64
@@ -75,7 +75,8 @@ pub record FitsReportData (r : ReportData) : Type 0 where
   pub waiting_fit : All (λ w. FitsNumbers w.id × FitsNumbers w.missing) r.waiting
   pub stored_fit : All (λ p. FitsKey p.0 × IsUtf8 p.0 × FitsSigned w64 p.1) r.stored
 
--- the lines of the text of a report say what the report was written from
+-- if the data of a report are within limits (`FitsReportData`), the lines of its text say what the
+-- report was written from
 abbrev pub ReportIsReadAsItSays : Type 0
 ReportIsReadAsItSays = (r : ReportData) → FitsReportData r
     → Say (lines_of (text_of_report r)) (lines_in_order (parts_of_report r))

@@ -6,7 +6,7 @@ use Rattle.epx_types.specs.declared.id.Id.{Id}
 use Rattle.epx_types.specs.ExecutionOrder.{Ranked}
 use Rattle.epx_report.specs.ReportLines.{data_of_number, line_of}
 
--- an instance, its depth and its leader
+-- the elements of an order line: an instance, its depth and its leader
 abbrev pub order_data : Id → ℕ → Id → List Data
 order_data x depth leader = string (codes "order") ∷ data_of_number x.replica
     ∷ data_of_number x.number ∷ data_of_number depth ∷ data_of_number leader.replica
@@ -16,7 +16,7 @@ order_data x depth leader = string (codes "order") ∷ data_of_number x.replica
 abbrev pub order_line : Ranked → List ℕ
 order_line r = line_of (order_data r.id r.depth r.leader)
 
--- an instance and the level of its command
+-- the elements of a level line: an instance and the level of its command
 abbrev pub level_data : Id → ℕ → List Data
 level_data x level = string (codes "level") ∷ data_of_number x.replica ∷ data_of_number x.number
     ∷ data_of_number level ∷ []
@@ -25,28 +25,31 @@ level_data x level = string (codes "level") ∷ data_of_number x.replica ∷ dat
 abbrev pub level_line : Id × ℕ → List ℕ
 level_line p = line_of (level_data p.0 p.1)
 
--- a line that is a name alone
+-- `["name"]`, the line that has this name alone
 abbrev pub name_line : List ℕ → List ℕ
 name_line name = line_of (string name ∷ [])
 
--- all instances that conflict are related
+-- `["covered"]`: of any two ready instances that conflict, one reaches the other
 abbrev pub covered_line : List ℕ
 covered_line = name_line (codes "covered")
 
--- two instances that conflict and are not related
+-- the elements of an uncovered line: two ready instances that conflict, of which neither reaches
+-- the other
 abbrev pub uncovered_data : Id → Id → List Data
 uncovered_data x y = string (codes "uncovered") ∷ data_of_number x.replica
     ∷ data_of_number x.number ∷ data_of_number y.replica ∷ data_of_number y.number ∷ []
 
--- `["uncovered",r,i,r2,i2]`, for two instances that conflict and are not related
+-- `["uncovered",r,i,r2,i2]`, for two ready instances that conflict, of which neither reaches the
+-- other
 abbrev pub uncovered_line : Id → Id → List ℕ
 uncovered_line x y = line_of (uncovered_data x y)
 
--- the list is a lawful order
+-- `["lawful"]`: the list is a lawful order, or a prefix of one where prefixes are checked
 abbrev pub lawful_line : List ℕ
 lawful_line = name_line (codes "lawful")
 
--- the name of a fault, and the position of the list that has it
+-- the elements of a line as `["early",p]`: the name of a fault, and the position of the list that
+-- has it
 abbrev pub position_data : List ℕ → ℕ → List Data
 position_data name position = string name ∷ data_of_number position ∷ []
 
@@ -54,7 +57,7 @@ position_data name position = string name ∷ data_of_number position ∷ []
 abbrev pub position_line : List ℕ → ℕ → List ℕ
 position_line name position = line_of (position_data name position)
 
--- an instance that is missing: a ready one that a list lacks, or one that no log commits
+-- the elements of a missing line: an instance that a list lacks or that no log commits
 abbrev pub missing_data : Id → List Data
 missing_data x = string (codes "missing") ∷ data_of_number x.replica ∷ data_of_number x.number ∷ []
 

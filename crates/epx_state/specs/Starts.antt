@@ -27,15 +27,16 @@ pub record HoldsReport (executed : List Id) (stored : Contents) (v : ExecutorVie
   pub store : v.store ≡ stored
   pub pending : v.pending ≡ []
 
--- The executor holds what the bytes say, a state or an earlier report. The line is that of the
--- first instance that waits. It is 1 for a report, where none does
+-- The executor holds what the bytes say, a state or an earlier report. `line` is the one at which
+-- the waiting instances of a state begin, after its runs; it is 1 for a report
 abbrev pub GoesOnFrom : List ℕ → ExecutorView → ℕ → Type 0
 GoesOnFrom bytes v line =
     ((p : StateParts) × IsState bytes p × HoldsState p v × (line ≡ 2 + length p.runs))
     ⊎ ((executed : List Id) × (stored : Contents) × IsBase bytes executed stored
     × HoldsReport executed stored v × (line ≡ 1))
 
--- why bytes are refused as an earlier report
+-- the fault of bytes that are no earlier report: their first bad line. Out of memory says nothing
+-- about them
 abbrev pub IsReportFault : List ℕ → Fault → Type 0
 IsReportFault bytes fault = (why : BaseFault) × IsBaseFault bytes why × (fault ≡ fault_of why)
 

@@ -38,16 +38,17 @@ pub record HasReady (bytes : List ℕ) (line : ℕ) : Type 0 where
   pub line_is : line ≡ 2 + length parts.runs + number
 
 -- `line` is the number of the first line with which no state begins, or one more than the number of
--- lines if the text ends too early, or the line of an instance that is ready
+-- lines if the text ends too early, or the line of the first waiting instance that is ready
 abbrev pub IsBadState : List ℕ → ℕ → Type 0
 IsBadState bytes line = IsFirstNotGood BeginState (lines_of bytes) line
     ⊎ StateEndsEarly bytes line ⊎ HasReady bytes line
 
--- more instances wait than an executor holds
+-- the bytes are a state in which more than `max_instances` instances wait
 abbrev pub HoldsTooMany : List ℕ → Type 0
 HoldsTooMany bytes = (p : StateParts) × IsState bytes p × (max_instances < length p.waiting)
 
--- why bytes are refused as a state; `Memory` says nothing about them
+-- why bytes are refused as a state: they are bad at a line, or too many instances wait. `Memory`
+-- says nothing about them
 abbrev pub IsStateFault : List ℕ → Fault → Type 0
 IsStateFault bytes Memory = Unit {0}
 IsStateFault bytes (BadBase line) = IsBadState bytes line

@@ -36,7 +36,7 @@ abbrev pub run_data : Run → List Data
 run_data r = string (codes "runs") ∷ data_of_number r.replica ∷ data_of_number r.first
     ∷ data_of_number r.last ∷ []
 
--- the line of a run
+-- the line `["runs",r,first,last]` of a run
 abbrev pub run_line : Run → List ℕ
 run_line r = line_of (run_data r)
 
@@ -56,11 +56,12 @@ text_of_state p = line_of (state_data (state_counts p))
 
 -- ---- what a line says
 
--- a form of the elements of an array, read from the bytes of a line
+-- what `form` reads of the elements of the array that the line has; None if its bytes are no JSON
+-- array
 abbrev pub of_line : {A : Type 0} → (List Data → Option A) → List ℕ → Option A
 of_line form bytes = option_and_then form (option_and_then elements (json_of bytes))
 
--- three whole numbers below 2^64
+-- the numbers of runs, waiting instances and keys; None unless all are whole numbers below 2^64
 abbrev pub counts_from : Data → Data → Data → Option StateCounts
 counts_from r w s = option_and_then (λ runs. option_and_then (λ waiting. option_map
     (λ stored. record { runs = runs; waiting = waiting; stored = stored })
@@ -78,7 +79,7 @@ abbrev pub run_within : ℕ → ℕ → ℕ → Option Run
 run_within replica first last = if nat_le first last
     then Some (record { replica = replica; first = first; last = last }) else None
 
--- a replica below 256, and two numbers, of which the second is not smaller
+-- the run of a replica below 256 and two whole numbers below 2^64, if the second is not smaller
 abbrev pub run_from : Data → Data → Data → Option Run
 run_from r f l = option_and_then (λ replica. option_and_then (λ first. option_and_then
     (λ last. run_within replica first last)

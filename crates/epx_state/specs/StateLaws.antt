@@ -10,7 +10,7 @@ use Rattle.epx_state.specs.StateForms.{StateParts}
 use Rattle.epx_state.specs.Starts.{GoesOnFrom}
 use Rattle.epx_state.specs.States.{HoldsState, IsState}
 
--- bytes are a state in only one way
+-- bytes are a state of at most one choice of runs, waiting instances and stored values
 abbrev pub StateIsUnique : Type 0
 StateIsUnique = (bytes : List ℕ) (p q : StateParts) → IsState bytes p → IsState bytes q → p ≡ q
 
@@ -19,8 +19,8 @@ abbrev pub RestoredHoldTheSame : Type 0
 RestoredHoldTheSame = (bytes : List ℕ) (p q : StateParts) (v w : ExecutorView)
     → IsState bytes p → HoldsState p v → IsState bytes q → HoldsState q w → HoldTheSame v w
 
--- the state of an executor in which no more instances wait than one can hold is refused only where
--- memory runs out
+-- the state of an executor of which `AllWait` holds, and in which at most `max_instances` instances
+-- wait, is refused only where memory runs out
 abbrev pub StateOfAnExecutorIsGood : Type 0
 StateOfAnExecutorIsGood = (bytes : List ℕ) (p : StateParts) (v : ExecutorView)
     → IsState bytes p → HoldsState p v → AllWait v → length v.pending ≤ max_instances →

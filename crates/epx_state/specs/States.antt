@@ -27,7 +27,7 @@ pub record SayState (lines : List (List ℕ)) (c : StateCounts) (p : StateParts)
   pub waiting_said : map entry_of_line waiting ≡ map Some p.waiting
   pub stored_said : map pair_of_line stored ≡ map Some p.stored
 
--- runs, Ids and keys rise, and no instance waits that is in a run
+-- runs are not empty; runs, Ids and keys rise; and no instance waits that is in a run
 pub record AreInOrder (p : StateParts) : Type 0 where
   pub runs : AreRuns p.runs
   pub waiting : IsRising (ids_of p.waiting)
@@ -42,18 +42,21 @@ pub record FitCounts (c : StateCounts) (p : StateParts) : Type 0 where
   pub runs_first : length p.runs < c.runs → (p.waiting ≡ []) × (p.stored ≡ [])
   pub waiting_next : length p.waiting < c.waiting → p.stored ≡ []
 
--- the lines are the first ones of a state
+-- there is no line, or the first line says counts and the others say parts, which are in order
+-- (`AreInOrder`) and fit the counts (`FitCounts`)
 abbrev pub BeginState : List (List ℕ) → Type 0
 BeginState [] = Unit {0}
 BeginState (line ∷ lines) = (c : StateCounts) × (p : StateParts)
     × SayState (line ∷ lines) c p × AreInOrder p × FitCounts c p
 
--- the bytes are a state that holds these parts
+-- the bytes are a state of these parts: the first line has their counts, the lines after it say
+-- them, and they are in order (`AreInOrder`)
 pub record IsState (bytes : List ℕ) (p : StateParts) : Type 0 where
   pub said : SayState (lines_of bytes) (state_counts p) p
   pub ordered : AreInOrder p
 
--- the executor holds these parts
+-- the executor's done instances are those in the runs; its pending instances and the entries of its
+-- store are those of the parts
 pub record HoldsState (p : StateParts) (v : ExecutorView) : Type 0 where
   pub done : (x : Id) → Contains v.done x ↔ IsInRuns p.runs x
   pub pending : v.pending ≡ p.waiting

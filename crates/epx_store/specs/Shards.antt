@@ -5,7 +5,7 @@ use Rattle.std.specs.FinMap as contents
 use Rattle.epx_types.specs.Contents.{Contents}
 use Rattle.epx_types.specs.Writes.{Write}
 
--- the number of a key's shard
+-- the number of a key's shard: the sum of the key's bytes, modulo 16
 abbrev pub shard_of : List ℕ → ℕ
 shard_of key = sum key % 16
 

@@ -16,24 +16,29 @@ use Rattle.epx_linear.specs.Skews.{later_by}
 use Rattle.epx_verify.specs.ListExecutions.{replay_text}
 use Rattle.epx_verify.specs.SaidTexts.{IsSaid}
 
--- the verdict on the instances that the list names
+-- the text is the verdict on the instances that the bytes `list` name: whether they are a lawful
+-- order of the map
 abbrev pub IsCheckText : List ℕ → List Instance → List ℕ → Type 0
 IsCheckText list m text = (ids : List Id) × IsList list ids × IsVerdict m ids text
 
--- the verdict on the instances that the list names, as a prefix
+-- the text is the verdict on the instances that the bytes `list` name: whether they are a prefix of
+-- a lawful order of the map
 abbrev pub IsPrefixCheckText : List ℕ → List Instance → List ℕ → Type 0
 IsPrefixCheckText list m text = (ids : List Id) × IsList list ids × IsPrefixVerdict m ids text
 
--- the replies of the instances that the list names, and the store after them
+-- the text has the reply lines of the instances that the bytes `list` name, executed in the order
+-- of the list from the empty store, and then the store lines
 abbrev pub IsReplayText : List ℕ → List Instance → List ℕ → Type 0
 IsReplayText list m text = (ids : List Id) × IsList list ids × (text ≡ replay_text m ids)
 
--- the verdict on what the replica said
+-- the text is the verdict on the replies, in their order, and on the store that the bytes `said` of
+-- a replica say
 abbrev pub IsVerifyText : List ℕ → List Instance → List ℕ → Type 0
 IsVerifyText said m text = (replies : List (Id × Reply)) × (stored : Contents)
     × IsSaid said replies stored × IsSaidVerdict m replies stored text
 
--- where the calls of clients, with returns that are later by D, do not fit the execution order
+-- the text has the lines of what is found of the calls of the history, each returned later by D,
+-- over the execution order of the map; it is `["linear"]` if nothing is found
 abbrev pub IsHistoryCheckText : ℕ → List ℕ → List Instance → List ℕ → Type 0
 IsHistoryCheckText D history m text = (h : List ClientCall)
     × IsHistoryText history h × IsLinearText m (map (later_by D) h) text

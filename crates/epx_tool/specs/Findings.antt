@@ -23,9 +23,9 @@ use Rattle.epx_tool.specs.TaskTexts.{IsTaskText}
 abbrev pub SomeWaits : List Instance → Type 0
 SomeWaits m = (x y : Id) × WaitsFor m x y
 
--- the text that answers a task finds something: an instance that waits, after what a base says is
--- done, two that are not covered, a list that is not lawful, what a replica said wrong, or calls
--- that are not linear
+-- the answer to a task finds something: in `run`, `order`, `levels` and `blockers` an instance
+-- waits; in `resume` one that the base does not say is done; in `audit`, `check`, `verify` and
+-- `linear` the text is not just `["covered"]`, `["lawful"]` or `["linear"]`; and in others nothing
 abbrev pub FindsIn : Task → List ℕ → List Instance → List ℕ → Type 0
 FindsIn Run input m text = SomeWaits m
 FindsIn Order input m text = SomeWaits m
@@ -41,19 +41,20 @@ FindsIn Verify said m text = text ≢ lawful_line
 FindsIn (Linear skew) history m text = text ≢ linear_line
 FindsIn _ input m text = ⊥
 
--- the text for an input and a committed map, and whether it finds something
+-- the text answers the task over an input and a committed map, and `found` is whether it finds
+-- something
 abbrev pub IsFindingText : Task → Bool → List ℕ → List Instance → List ℕ → Type 0
 IsFindingText task found input m text =
     IsTaskText task input m text × ((found ≡ true) ↔ FindsIn task input m text)
 
--- the comparison of logs, and whether it finds something, which it does if something is wrong with
--- them
+-- the comparison of logs, where `found` is whether something is wrong with them: bad lines, lines
+-- that differ, or instances that a log lacks; or their first refusal
 abbrev pub ComparesFinding : Bool → List (List ℕ) → Result (List ℕ) Fault → Type 0
 ComparesFinding found logs (Ok text) =
     Compares logs (Ok text) × ((found ≡ true) ↔ HasFindings logs)
 ComparesFinding found logs (Err fault) = Compares logs (Err fault)
 
--- the answer to a task without an input, and whether it finds something
+-- the answer to a task without an input, and `found` is whether it finds something
 abbrev pub AnswersFinding : Task → Bool → List (List ℕ) → Result (List ℕ) Fault → Type 0
 AnswersFinding Compare found = ComparesFinding found
 AnswersFinding task found = Answers (IsFindingText task found [])

@@ -8,8 +8,8 @@ use Rattle.epx_types.specs.ExecutionOrder.{Ranked, IsExecutionOrder, ranked_ids,
 use Rattle.epx_types.specs.WaitingLists.{Waiting, IsWaitingList}
 use Rattle.epx_report.specs.ReportLines.{header_line, reply_line, waiting_line, store_line}
 
--- the header, the replies in execution order, the instances that wait, and the store, by the bytes
--- of its keys
+-- the text of a report: the header line, the reply lines in execution order, the waiting lines, and
+-- the store lines, by the bytes of the keys
 abbrev pub report_text : List Ranked → List Waiting → Execution → List ℕ
 report_text order waiting run =
     header_line (length order) (length waiting) (component_count order)
@@ -17,7 +17,9 @@ report_text order waiting run =
     ++ (flat_map waiting_line waiting
     ++ flat_map store_line (contents.entries run.final)))
 
--- a single thread executes the ready commands one by one in execution order, from the empty store
+-- `text` is the report of m: the header, the replies in execution order, the waiting list and the
+-- final store, as one thread that executes the ready commands one by one from the empty store would
+-- write it
 pub record IsReport (m : List Instance) (text : List ℕ) : Type 0 where
   pub order : List Ranked
   pub waiting : List Waiting

@@ -12,7 +12,8 @@ use Rattle.epx_types.specs.CommittedMap.{commands_in}
 use Rattle.epx_report.specs.ReportReadings.{ReportData}
 use Rattle.epx_tool.specs.ResumedReport.{IsReportAfter}
 
--- the parts that a report is written from
+-- the data that a report is written from: the number of components, the done instances, the replies
+-- in execution order, the waiting list, and the keys and values of the final store
 abbrev pub reported_of : List Id → List Ranked → List Waiting → Execution → ReportData
 reported_of done order waiting run = record {
   components = component_count order;
@@ -22,7 +23,8 @@ reported_of done order waiting run = record {
   stored = contents.entries run.final;
 }
 
--- the execution of a report
+-- the execution of a report after `done`: the commands of the remaining map, in the execution order
+-- of the report, from the contents `stored`
 abbrev pub run_in : (done : List Id) (stored : Contents) (m : List Instance) (text : List ℕ)
     → IsReportAfter done stored m text → Execution
 run_in done stored m text p = execute (commands_in (remaining done m) (ranked_ids p.order)) stored

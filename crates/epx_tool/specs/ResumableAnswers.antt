@@ -39,12 +39,13 @@ pub record HasBaseAfter (done : List Id) (stored : Contents) (m : List Instance)
   pub base : IsBase text now
       (execute (commands_in (remaining done m) (ranked_ids order)) stored).final
 
--- the answer to logs is a base
+-- the report of logs is a base: what it executed is done, and the store is its final one
 abbrev pub AnswerIsBase : Type 0
 AnswerIsBase = (logs : List (List ℕ)) (text : List ℕ) → IsAnswer logs (Ok text)
     → (m : List Instance) → IsAccepted logs m → HasBaseAfter [] contents.empty m text
 
--- the answer to a base and logs is a base
+-- the report of logs that resumes from a base is a base: what was done before or is executed in it
+-- is done, and the store is its final one
 abbrev pub ResumptionIsBase : Type 0
 ResumptionIsBase = (base : List ℕ) (logs : List (List ℕ)) (text : List ℕ)
     → Resumes base logs (Ok text) → (done : List Id) (stored : Contents) → IsBase base done stored
@@ -74,8 +75,8 @@ pub record MayResume (m : List Instance) (base : List ℕ) (logs : List (List �
   pub accepted : IsAccepted logs rest
   pub has : HasRemaining m before.done rest
 
--- resuming from a base that is sound for a map has a base as its report that is sound for the same
--- map
+-- if a base is sound for a map, and logs commit only instances of the map and instances done in the
+-- base, the report that resumes from it is a base that is sound for the same map
 abbrev pub ResumedReportIsSound : Type 0
 ResumedReportIsSound = (m : List Instance) (base : List ℕ) (logs : List (List ℕ)) (text : List ℕ)
     → MayResume m base logs → Resumes base logs (Ok text) → IsSoundBase m text
@@ -102,7 +103,8 @@ pub record RepliesMatchWhole (m : List Instance) (base : List ℕ) (logs : List 
       → Contains (replies_after g.before.done g.before.stored g.rest text report) r
       → Contains (replies_by_report m whole q) r
 
--- over covered logs, each reply of a resumed run is the reply in the report of the whole
+-- if a map is covered, and a base and logs may be resumed for it (`MayResume`), each reply of the
+-- resumed report is in the report of the whole map
 abbrev pub ResumedReportRepeatsTheWhole : Type 0
 ResumedReportRepeatsTheWhole =
     (m : List Instance) (base : List ℕ) (logs : List (List ℕ)) (g : MayResume m base logs)

@@ -12,8 +12,8 @@ use Rattle.epx_types.specs.CommittedMap.{commands_in}
 use Rattle.epx_report.specs.ReportLines.{header_line, done_line, reply_line, waiting_line}
 use Rattle.epx_report.specs.ReportLines.{store_line}
 
--- the header, the done instances, the replies in execution order, the instances that wait, and the
--- store, by the bytes of its keys
+-- the text of a resumed report: the header line, the done lines, the reply lines in execution
+-- order, the waiting lines, and the store lines, by the bytes of the keys
 abbrev pub resumed_text : List Id → List Ranked → List Waiting → Execution → List ℕ
 resumed_text done order waiting run =
     header_line (length order) (length waiting) (component_count order)
@@ -22,8 +22,9 @@ resumed_text done order waiting run =
     ++ (flat_map waiting_line waiting
     ++ flat_map store_line (contents.entries run.final))))
 
--- a single thread executes the ready commands of the remaining map one by one in execution order,
--- from the stored contents
+-- `text` is the report of m after the instances `done`: the header, these instances, and the
+-- replies, the waiting list and the store of the remaining map, as one thread that executes its
+-- ready commands one by one in execution order from the contents `stored` would write it
 pub record IsReportAfter (done : List Id) (stored : Contents) (m : List Instance)
     (text : List ℕ) : Type 0 where
   pub order : List Ranked

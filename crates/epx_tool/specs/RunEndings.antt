@@ -21,7 +21,8 @@ use Rattle.epx_merge.specs.SourceEndings.{LeavesSources}
 use Rattle.epx_tool.specs.Sources.{LeavesInput}
 use Rattle.epx_tool.specs.WithInput.{AnswersWithInput}
 
--- what is seen of a sink over a run
+-- what is seen of a sink over a run: its bytes before and after, if they are known, whether it is
+-- flushed afterwards, and whether a call of it has failed
 pub record SinkRun : Type 0 where
   -- the bytes that it had accepted before and has accepted after, if they are known
   pub before : Option (List ℕ)
@@ -40,9 +41,9 @@ sink_run W was now = record {
   has_failed = W.has_failed now;
 }
 
--- A run writes an answer or ends with a fault. `Given` is what it is over, and `OfKnown P` says `P`
--- of the bytes that the sources had, if they are known. `Delivered` and `Ends` speak of the bytes
--- that the sources delivered.
+-- Success: an answer, by the known bytes (`OfKnown`) and by the delivered ones (`Delivered`), is
+-- appended to the sink and flushed. A fault: one of `IsFault` and, but for `Write`, of `Ends`, and
+-- nothing is appended; `Write` comes exactly if the sink failed, after a prefix of an answer
 pub record WritesAnswer {Given : Type 0} (OfKnown : (Given → Type 0) → Type 0)
     (Answer : Given → List ℕ → Type 0) (IsFault : Given → Fault → Type 0)
     (Delivered : (List ℕ → Type 0) → Type 0) (Ends : Fault → Type 0) (sink : SinkRun)
@@ -62,7 +63,8 @@ pub record WritesAnswer {Given : Type 0} (OfKnown : (Given → Type 0) → Type 
   pub part : IsErrOf result Write → Delivered (AppendsPrefix sink.before sink.after)
   pub written : IsErrOf result Write ↔ (sink.has_failed ≡ true)
 
--- a run over logs that writes this answer ends with this result
+-- a run over logs that writes this answer ends with this result: what it writes, and with which
+-- faults it ends (`WritesAnswer`), and how it leaves the sources (`LeavesSources`)
 pub record EndsRun {S T : Type 0} (D : SourceModel S) (W : SinkModel T)
     (Answer : List (List ℕ) → Result (List ℕ) Fault → Type 0) (old new : List S) (was now : T)
     (result : Result (Unit {0}) Fault) : Type 0 where
@@ -74,8 +76,9 @@ pub record EndsRun {S T : Type 0} (D : SourceModel S) (W : SinkModel T)
       (sink_run W was now) result
   pub sources : LeavesSources D old new result
 
--- a run over logs and an extra input that writes this answer ends with this result; `first` and
--- `last` are the source of the input, before and after
+-- a run over logs and an extra input that writes this answer ends with this result: what it writes
+-- (`WritesAnswer`), and how it leaves the sources; `first` and `last` are that of the input, before
+-- and after
 pub record EndsRunWithInput {I S T : Type 0} (E : SourceModel I) (D : SourceModel S)
     (W : SinkModel T) (IsBad : List ℕ → ℕ → Type 0)
     (Is : List ℕ → List Instance → List ℕ → Type 0) (first last : I) (old new : List S)

@@ -7,7 +7,8 @@ use Rattle.epx_types.specs.Limits.{max_logs}
 use Rattle.epx_merge.specs.ReadingRefusals.{NoneTooLongBefore}
 use Rattle.epx_tool.specs.Answer.{Answers}
 
--- the faults of a run that writes this answer: the refusal of the logs, or the fault of a device
+-- the faults of a run that writes this answer: the refusal of the logs; `Read` of a log, if there
+-- are not too many and no earlier one is too long; or `Write`, if the logs have an answer
 abbrev pub IsFaultOfRun : (List (List ℕ) → Result (List ℕ) Fault → Type 0) → List (List ℕ) → Fault
     → Type 0
 IsFaultOfRun Answer logs (Read log) = (length logs ≤ max_logs) × (log < length logs)

@@ -8,8 +8,9 @@ use Rattle.epx_devices.specs.Models.{SourceModel}
 use Rattle.epx_devices.specs.Transfers.{ConsumesUpTo}
 use Rattle.epx_merge.specs.SourceEndings.{StopsAt}
 
--- how a call with this result leaves the source of an extra input, which is read after this number
--- of logs
+-- how a call leaves the source of an extra input, which is read after `count` logs: failed exactly
+-- if the fault is `Read count`, with at most `max_log_bytes` + 1 bytes taken, at its end after
+-- success, and untouched if reading stopped at a log or there are too many
 pub record LeavesInput {I T : Type 0} (E : SourceModel I) (first last : I) (count : ℕ)
     (result : Result T Fault) : Type 0 where
   -- it has failed exactly if the fault is of reading it: its number is that of the logs

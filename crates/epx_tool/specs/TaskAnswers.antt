@@ -30,8 +30,8 @@ task_of (Path x y) = task.Path x y
 task_of (Trace key reads) = task.Trace key reads
 task_of Compare = task.Compare
 
--- the answer to a task without an input: a text of the map that logs commit, or what they say
--- against each other
+-- the answer to a task without an input: for `Compare` the comparison of the logs, otherwise the
+-- text of the map that they commit; or their first refusal
 abbrev pub AnswersLogs : Task → List (List ℕ) → Result (List ℕ) Fault → Type 0
 AnswersLogs task.Compare = Compares
 AnswersLogs task = Answers (IsTaskText task [])

@@ -18,7 +18,8 @@ use Rattle.epx_ranking.specs.PrefixFaults.{IsPrefixFault}
 use Rattle.epx_ranking.specs.OrderFaults.{IsOrderFault}
 use Rattle.epx_verify.specs.Differences.{differences_text}
 
--- the line of a fault; out of memory has no verdict
+-- the elements of the line of a fault of a list: its name and the position that has it, as
+-- `["early",p]`, or `["missing",r,i]`; none for `Memory`
 abbrev pub fault_data : OrderFault → List Data
 fault_data Memory = []
 fault_data (Stranger place) = position_data (codes "stranger") place
@@ -27,24 +28,27 @@ fault_data (Missing x) = missing_data x
 fault_data (Early place) = position_data (codes "early") place
 fault_data (Sequence place) = position_data (codes "sequence") place
 
--- the verdict on a list with this fault: one line
+-- the line of a fault of a list: `["stranger",p]`, `["repeat",p]`, `["missing",r,i]`, `["early",p]`
+-- or `["sequence",p]`
 abbrev pub order_fault_text : OrderFault → List ℕ
 order_fault_text fault = line_of (fault_data fault)
 
--- the verdict is that the list is a lawful order, or its fault
+-- the text is the line `["lawful"]`, and the list is a lawful order of the map; or it is the line
+-- of the fault of the list
 abbrev pub IsVerdict : List Instance → List Id → List ℕ → Type 0
 IsVerdict m ids text = (IsLawful m ids × (text ≡ lawful_line))
     ⊎ ((fault : OrderFault) × (fault ≢ Memory) × IsOrderFault m ids fault
     × (text ≡ order_fault_text fault))
 
--- the verdict is that the list is a prefix of a lawful order, or its fault as a prefix
+-- the text is the line `["lawful"]`, and the list is a prefix of a lawful order of the map; or it
+-- is the line of the fault of the list as a prefix
 abbrev pub IsPrefixVerdict : List Instance → List Id → List ℕ → Type 0
 IsPrefixVerdict m ids text = (IsLawfulPrefix m ids × (text ≡ lawful_line))
     ⊎ ((fault : OrderFault) × (fault ≢ Memory) × IsPrefixFault m ids fault
     × (text ≡ order_fault_text fault))
 
--- the verdict is that the order of a replica's replies is a prefix of a lawful order, and then come
--- the lines of the replies and the values that are wrong; or it is the fault of the order
+-- the text is the line `["lawful"]` and then the lines of the wrong replies and values, and the
+-- order of the replies is a prefix of a lawful order; or it is the line of the fault of that order
 abbrev pub IsSaidVerdict : List Instance → List (Id × Reply) → Contents → List ℕ → Type 0
 IsSaidVerdict m replies stored text =
     (IsLawfulPrefix m (replied_ids replies)

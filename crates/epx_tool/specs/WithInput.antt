@@ -14,7 +14,7 @@ abbrev pub IsShort : List ℕ → Type 0
 IsShort bytes = length bytes ≤ max_log_bytes
 
 -- the first that applies: too many logs; the first text that is too long; the refusal of the logs;
--- the line of the extra input for which IsBad holds
+-- the line of the extra input for which IsBad holds. Out of memory can come instead of any
 abbrev pub IsRefusalWithInput : (List ℕ → ℕ → Type 0) → List ℕ → List (List ℕ) → Fault → Type 0
 IsRefusalWithInput IsBad input logs Memory = Unit {0}
 IsRefusalWithInput IsBad input logs TooManyLogs = max_logs < length logs

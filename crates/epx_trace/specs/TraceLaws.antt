@@ -11,12 +11,12 @@ use Rattle.epx_trace.specs.declared.touch.Touch.TheVariants.{Write, Read}
 use Rattle.epx_trace.specs.Traces.{IdCommand, trace_of}
 use Rattle.epx_trace.specs.TraceTexts.{IsTraceText}
 
--- for each map and key there is a text of its trace
+-- for each map by rising Id and each key there is a text of the key's trace, with and without reads
 abbrev pub TraceTextExists : Type 0
 TraceTextExists = (m : List Instance) (key : List ℕ) (reads : Bool) → IsRising (ids_of m)
     → (text : List ℕ) × IsTraceText m key reads text
 
--- for each map and key there is at most one text of its trace
+-- for each map and key there is at most one text of the key's trace with reads, and one without
 abbrev pub TraceTextIsUnique : Type 0
 TraceTextIsUnique = (m : List Instance) (key : List ℕ) (reads : Bool) (text other : List ℕ)
     → IsTraceText m key reads text → IsTraceText m key reads other → text ≡ other

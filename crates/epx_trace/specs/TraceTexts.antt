@@ -16,7 +16,8 @@ command_of m x = (x, ops_or_empty (instance_of m x))
 abbrev pub ordered_commands : List Instance → List Ranked → List IdCommand
 ordered_commands m order = map (command_of m) (ranked_ids order)
 
--- a single thread executes the ready commands one by one in execution order, from the empty store
+-- the lines of the key's trace, when the ready commands are executed one by one in execution order
+-- from the empty store: all writes, and also the reads if `reads` is true
 pub record IsTraceText (m : List Instance) (key : List ℕ) (reads : Bool) (text : List ℕ)
     : Type 0 where
   pub order : List Ranked

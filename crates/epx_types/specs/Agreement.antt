@@ -4,8 +4,8 @@ use Rattle.epx_types.specs.declared.id.Id.{Id}
 use Rattle.epx_types.specs.Ids.{UpTo}
 use Rattle.epx_types.specs.PlacedLines.{Placed, Earlier}
 
--- all lines of one instance commit the same sequence number, set of dependencies and list of
--- operations
+-- any two of the lines that commit the same Id commit the same sequence number, list of
+-- dependencies and list of operations
 abbrev pub Agree : List Placed → Type 0
 Agree lines = (p q : Placed) → Contains lines p → Contains lines q → p.instance.id ≡ q.instance.id
     → p.instance ≡ q.instance
@@ -14,8 +14,8 @@ Agree lines = (p q : Placed) → Contains lines p → Contains lines q → p.ins
 abbrev pub Differ : Placed → Placed → Type 0
 Differ p q = (p.instance.id ≡ q.instance.id) × (p.instance ≢ q.instance)
 
--- the least Id with two lines that differ, its first line, and the first later line that differs
--- from the first
+-- `id` is the least Id of which two lines differ; `first` is its line at the earliest place, and
+-- `second` the line at the earliest place that differs from `first`
 pub record IsFirstDisagreement (lines : List Placed) (id : Id) (first second : Placed) : Type
     0 where
   pub has_first : Contains lines first

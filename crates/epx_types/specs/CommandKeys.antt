@@ -22,12 +22,12 @@ touched_by op = map (λ a. a.0) (accesses_of op)
 abbrev pub written_by : Op → List (List ℕ)
 written_by op = map (λ a. a.0) (filter (λ a. a.1) (accesses_of op))
 
--- the keys that the text of a command touches, rising, each once; they count also where the
--- command aborts
+-- the distinct keys that the operations of a command touch (read or write), in rising order,
+-- whether or not the command aborts
 abbrev pub touched_keys : List Op → List (List ℕ)
 touched_keys ops = rising_keys (flat_map touched_by ops)
 
--- the keys that the text of a command writes, rising, each once; they count also where the command
--- aborts
+-- the distinct keys that the operations of a command write, in rising order, whether or not the
+-- command aborts
 abbrev pub written_keys : List Op → List (List ℕ)
 written_keys ops = rising_keys (flat_map written_by ops)

@@ -20,11 +20,12 @@ abbrev pub ops_or_empty : Option Instance → List Op
 ops_or_empty None = []
 ops_or_empty (Some e) = e.ops
 
--- the commands of some instances of a map
+-- the command of each of these Ids in the map, in the order of the Ids; an Id that is not in the
+-- map counts as a command without operations
 abbrev pub commands_in : List Instance → List Id → List (List Op)
 commands_in m ids = map (λ x. ops_or_empty (instance_of m x)) ids
 
--- the position of an Id among the committed instances, from 0
+-- the position of an Id among the instances of the map, from 0; None if it is not there
 abbrev pub position_of : List Instance → Id → Option ℕ
 position_of m x = position (λ e. is_eq (id_cmp e.id x)) m
 
@@ -32,7 +33,8 @@ position_of m x = position (λ e. is_eq (id_cmp e.id x)) m
 abbrev pub IsCommitted : List Instance → Id → Type 0
 IsCommitted m x = Contains (ids_of m) x
 
--- the map that the lines commit, which exists only if they agree
+-- the map m has exactly the instances that the lines commit, each once, by rising Id; there is such
+-- a map only if the lines agree
 pub record IsCommittedBy (lines : List Placed) (m : List Instance) : Type 0 where
   pub rising : IsRising (ids_of m)
   -- each instance of the map is that of some line

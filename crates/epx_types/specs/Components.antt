@@ -5,11 +5,11 @@ use Rattle.epx_types.specs.Ids.{UpTo}
 use Rattle.epx_types.specs.Instances.{Instance}
 use Rattle.epx_types.specs.Reaching.{Reaches}
 
--- each reaches the other
+-- x and y reach each other
 abbrev pub InOneComponent : List Instance → Id → Id → Type 0
 InOneComponent m x y = Reaches m x y × Reaches m y x
 
--- the leader of a component is its least member
+-- `leader` is the least Id in the component of x
 pub record IsLeader (m : List Instance) (x leader : Id) : Type 0 where
   pub member : InOneComponent m x leader
   pub least : (y : Id) → InOneComponent m x y → UpTo leader y

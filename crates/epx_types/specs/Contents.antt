@@ -4,11 +4,12 @@ use Rattle.std.specs.FinMap as contents
 use Rattle.std.specs.FinMap.{FinMap}
 use Rattle.epx_types.specs.Keys.{key_cmp}
 
--- a map from the keys that are present to 64-bit numbers
+-- a finite map from the keys that are present to whole numbers, of any size; each operation of a
+-- command keeps them within 64 bits if its own numbers are
 abbrev pub Contents : Type 0
 Contents = FinMap key_cmp ℤ
 
--- the contents after one assignment: the key has this value, or is absent
+-- the contents c with the value v at the key k, or without k for None
 abbrev pub assign : Contents → List ℕ → Option ℤ → Contents
 assign c k None = contents.remove c k
 assign c k (Some v) = contents.insert c k v

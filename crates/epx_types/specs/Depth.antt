@@ -9,7 +9,8 @@ abbrev pub Descends : List Instance → Id → List Id → Type 0
 Descends m x [] = Unit {0}
 Descends m x (y ∷ ys) = Reaches m x y × ¬ Reaches m y x × Descends m y ys
 
--- the greatest number of steps in such a chain
+-- `depth` is the greatest number of steps in a chain from x in which each Id reaches the next and
+-- is not reached by it
 pub record IsDepth (m : List Instance) (x : Id) (depth : ℕ) : Type 0 where
   pub descent : (ys : List Id) × Descends m x ys × (length ys ≡ depth)
   pub longest : (ys : List Id) → Descends m x ys → length ys ≤ depth

@@ -11,8 +11,8 @@ pub record Execution : Type 0 where
   pub replies : List Reply
   pub final : Contents
 
--- each command over the contents that the previous one left; the replies in that order, and the
--- final contents
+-- the commands executed one after another, the first over the contents c: the reply of each, in
+-- this order, and the contents after the last
 abbrev pub execute : List (List Op) → Contents → Execution
 execute [] c = record { replies = []; final = c }
 execute (ops ∷ rest) c =

@@ -9,7 +9,8 @@ use Rattle.epx_types.specs.Readiness.{IsReady}
 use Rattle.epx_types.specs.Components.{IsLeader}
 use Rattle.epx_types.specs.Depth.{IsDepth}
 
--- an instance with the numbers that decide its position
+-- the Id of an instance, with what decides its position in the execution order: its sequence
+-- number, its leader and its depth
 pub record Ranked : Type 0 where
   pub id : Id
   pub seq : ℕ
@@ -37,12 +38,14 @@ pub record IsRanked (m : List Instance) (r : Ranked) : Type 0 where
 abbrev pub ranked_ids : List Ranked → List Id
 ranked_ids order = map (λ r. r.id) order
 
--- the ready instances, each once, by rising rank
+-- `order` has each ready instance of the map once, with its sequence number, leader and depth
+-- there, in the order of `rank_cmp`
 pub record IsExecutionOrder (m : List Instance) (order : List Ranked) : Type 0 where
   pub ranked : (r : Ranked) → Contains order r → IsRanked m r
   pub whole : (x : Id) → IsReady m x → Contains (ranked_ids order) x
   pub rising : AllPairs RanksBelow order
 
--- each component has one leader among its members
+-- how many instances of the order are their own leaders; in an execution order this is the number
+-- of components
 abbrev pub component_count : List Ranked → ℕ
 component_count order = count_by (λ r. is_eq (id_cmp r.id r.leader)) order

@@ -14,7 +14,8 @@ use Rattle.epx_types.specs.declared.place.Place.{Place}
 abbrev pub out_of_memory : Fault
 out_of_memory = Memory
 
--- the number by which the text of a fault and the documents name it
+-- the number in the text of a fault, from 1 to 9 in this order: `Memory`, `TooManyLogs`,
+-- `LogTooLong`, `BadLine`, `TooManyInstances`, `Disagree`, `Read`, `Write`, `BadBase`
 abbrev pub fault_number : Fault → ℕ
 fault_number Memory = 1
 fault_number TooManyLogs = 2
@@ -26,7 +27,8 @@ fault_number (Read log) = 7
 fault_number Write = 8
 fault_number (BadBase line) = 9
 
--- 3 if memory ran out, 4 if a device failed, and 1 for the faults of the logs and the base
+-- the exit status for a fault: 3 if memory ran out, 4 if a read or a write failed, and 1 for the
+-- faults of the logs and the base
 abbrev pub fault_status : Fault → ℕ
 fault_status Memory = 3
 fault_status TooManyLogs = 1
@@ -38,7 +40,8 @@ fault_status (Read log) = 4
 fault_status Write = 4
 fault_status (BadBase line) = 1
 
--- the word for the reason why a line is bad, as faults and comparisons print it
+-- the reason why a line is bad, as faults and comparisons print it: the name of its variant of
+-- `Why`, as in `NotJson`
 abbrev pub why_text : Why → List ℕ
 why_text TooLong = codes "TooLong"
 why_text NotJson = codes "NotJson"
@@ -58,7 +61,8 @@ id_text x = decimal x.replica ++ codes "." ++ decimal x.number
 abbrev pub place_text : Place → List ℕ
 place_text p = codes "log " ++ decimal p.log ++ codes " line " ++ decimal p.line
 
--- the line that the program prints for a fault, byte for byte, without its line feed
+-- the line that the program prints for a fault, byte for byte, without its line feed, as in
+-- `epx: fault 1: out of memory`
 abbrev pub fault_text : Fault → List ℕ
 fault_text Memory = codes "epx: fault 1: out of memory"
 fault_text TooManyLogs = codes "epx: fault 2: more than 64 logs"

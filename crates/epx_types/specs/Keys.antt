@@ -9,7 +9,7 @@ use Rattle.std.specs.BTreeSet.{insert_key}
 abbrev pub FitsKey : List ℕ → Type 0
 FitsKey text = (1 ≤ length text) × (length text ≤ 64)
 
--- the order of keys, byte by byte
+-- the order of keys, byte by byte; a key comes before the longer keys that begin with it
 abbrev pub key_cmp : List ℕ → List ℕ → Ordering
 key_cmp = slice_cmp nat_cmp
 

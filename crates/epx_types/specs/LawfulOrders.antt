@@ -12,7 +12,7 @@ use Rattle.epx_types.specs.Components.{InOneComponent}
 abbrev pub Before : {X : Type 0} → List X → X → X → Type 0
 Before xs x y = (i j : ℕ) × (i < j) × (slice_get xs i ≡ Some x) × (slice_get xs j ≡ Some y)
 
--- x has the lower sequence number, or the same one and the lower Id
+-- x and y are committed, and x has the lower sequence number, or the same one and the lower Id
 pub record SequenceBefore (m : List Instance) (x y : Id) : Type 0 where
   pub first : Instance
   pub second : Instance
@@ -23,8 +23,7 @@ pub record SequenceBefore (m : List Instance) (x y : Id) : Type 0 where
   pub lower : is_lt (ordering_then (nat_cmp first.seq second.seq) (id_cmp x y)) ≡ true
 
 -- Each instance of the set occurs once, and nothing else does. An instance comes after all that it
--- reaches outside its component. Members of one component come in the order of their sequence
--- numbers
+-- reaches outside its component. Members of one component come by sequence number, then by Id
 pub record IsLawfulFor (m : List Instance) (Member : Id → Type 0) (ids : List Id) : Type 0 where
   pub once : AllPairs (λ x y. x ≢ y) ids
   pub only : (x : Id) → Contains ids x → Member x
@@ -34,6 +33,7 @@ pub record IsLawfulFor (m : List Instance) (Member : Id → Type 0) (ids : List 
   pub by_sequence : (x y : Id) → Contains ids x → Contains ids y → InOneComponent m x y
       → SequenceBefore m x y → Before ids x y
 
--- a lawful order: one in which the protocol allows all ready instances of the map to be executed
+-- a lawful order of the map: the list has exactly its ready instances, in an order that the
+-- protocol allows, as `IsLawfulFor` says
 abbrev pub IsLawful : List Instance → List Id → Type 0
 IsLawful m ids = IsLawfulFor m (IsReady m) ids

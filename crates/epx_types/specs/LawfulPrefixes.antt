@@ -4,6 +4,6 @@ use Rattle.epx_types.specs.declared.id.Id.{Id}
 use Rattle.epx_types.specs.Instances.{Instance}
 use Rattle.epx_types.specs.LawfulOrders.{IsLawful}
 
--- some further instances make the list a lawful order
+-- the list, followed by some further instances, is a lawful order of the map
 abbrev pub IsLawfulPrefix : List Instance → List Id → Type 0
 IsLawfulPrefix m ids = (rest : List Id) × IsLawful m (ids ++ rest)

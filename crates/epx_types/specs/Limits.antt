@@ -1,7 +1,7 @@
 -- Limits of logs.
 use Rattle.std.specs.Prelude.{ℕ}
 
--- the greatest number of logs
+-- the greatest number of logs: 64
 abbrev pub max_logs : ℕ
 max_logs = 64
 

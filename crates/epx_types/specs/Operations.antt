@@ -17,7 +17,9 @@ same_value None (Some w) = false
 same_value (Some v) None = false
 same_value (Some v) (Some w) = not (int_lt v w) && not (int_lt w v)
 
--- the contents after an operation and the values that it adds to the reply, or None if it aborts
+-- the contents after an operation, and the value that a `Get` adds to the reply. None if it aborts:
+-- an `Add` whose sum does not fit in 64 bits, an `Is` of a value that the key does not have, a
+-- `Floor` above the key's value. `Add` and `Floor` count an absent key as 0
 abbrev pub operate : Op → Contents → Option (Contents × List (Option ℤ))
 operate (Get k) c = Some (c, contents.get c k ∷ [])
 operate (Put k v) c = Some (assign c k (Some v), [])

@@ -8,7 +8,7 @@ pub record PlanNumbers : Type 0 where
   pub workers : ℕ
   pub cut : ℕ
 
--- a plan has at least one worker and one item in a piece, and at most `MAX_WORKERS` and `MAX_CUT`
+-- a plan has 1 to 64 workers, and 1 to 65,536 items in a piece
 pub record IsWithinLimits (plan : PlanNumbers) : Type 0 where
   pub some_worker : 1 ≤ plan.workers
   pub few_workers : plan.workers ≤ 64
@@ -23,6 +23,6 @@ piece_count cut items = div_ceil items cut
 abbrev pub piece_start : ℕ → ℕ → ℕ
 piece_start cut piece = piece * cut
 
--- the item after the last one of the piece
+-- the item after the last one of the piece, at most the number of items
 abbrev pub piece_end : ℕ → ℕ → ℕ → ℕ
 piece_end cut items piece = min ((piece + 1) * cut) items

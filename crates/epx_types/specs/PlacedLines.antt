@@ -18,7 +18,7 @@ pub record Placed : Type 0 where
   pub place : Place
   pub instance : Instance
 
--- no two lines have the same place
+-- any two of the lines that have the same place are the same line
 abbrev pub HaveDistinctPlaces : List Placed → Type 0
 HaveDistinctPlaces lines = (p q : Placed) → Contains lines p → Contains lines q → p.place ≡ q.place
     → p ≡ q

@@ -18,6 +18,6 @@ pub record WaitsFor (m : List Instance) (x y : Id) : Type 0 where
   pub missing : ¬ IsCommitted m y
   pub least : (z : Id) → Reaches m x z → ¬ IsCommitted m z → UpTo y z
 
--- each dependency of the map is committed
+-- each dependency of each instance of the map is committed
 abbrev pub NoneMissing : List Instance → Type 0
 NoneMissing m = (e : Instance) → Contains m e → (y : Id) → Contains e.deps y → IsCommitted m y

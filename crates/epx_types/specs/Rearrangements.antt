@@ -9,8 +9,8 @@ use Rattle.epx_types.specs.LawfulOrders.{Before}
 abbrev pub commands_at : List (List Op) → List ℕ → List (List Op)
 commands_at commands positions = map (λ i. slice_index_or commands i []) positions
 
--- each position of the list occurs once; of two commands that conflict, the one that is first in
--- the list is first here
+-- `positions` has each position of the list of commands once; of two commands that conflict, the
+-- position of the earlier one comes first
 pub record IsRearrangement (commands : List (List Op)) (positions : List ℕ) : Type 0 where
   pub once : AllPairs (λ i j. i ≢ j) positions
   pub only : (i : ℕ) → Contains positions i → i < length commands

@@ -14,7 +14,7 @@ pub record Waiting : Type 0 where
 abbrev pub waiting_ids : List Waiting → List Id
 waiting_ids ws = map (λ w. w.id) ws
 
--- each waiting instance once, by rising Id
+-- each waiting instance of the map once, with the instance that it waits for, by rising Id
 pub record IsWaitingList (m : List Instance) (ws : List Waiting) : Type 0 where
   pub waits : (w : Waiting) → Contains ws w → WaitsFor m w.id w.missing
   pub whole : (x y : Id) → WaitsFor m x y → Contains ws (record { id = x; missing = y })

@@ -12,7 +12,8 @@ use Rattle.epx_types.specs.CommandKeys.{written_keys}
 abbrev pub Write : Type 0
 Write = List ℕ × Option ℤ
 
--- none if the command aborts; otherwise the new value of each written key, in order
+-- the writes of a command with this reply, which leaves the contents `after`: none if it aborts,
+-- and otherwise each written key with its value there, by rising key
 abbrev pub writes_by : Reply → List Op → Contents → List Write
 writes_by (Values got) ops after = map (λ k. (k, contents.get after k)) (written_keys ops)
 writes_by (Abort j) ops after = []

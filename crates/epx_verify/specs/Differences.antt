@@ -23,7 +23,8 @@ abbrev pub outcome_data : Reply → Data
 outcome_data (Values vs) = array_of (string (codes "ok") ∷ array_of (map data_of_value vs) ∷ [])
 outcome_data (Abort j) = array_of (string (codes "abort") ∷ data_of_number j ∷ [])
 
--- an instance, the reply that was said, and the right one
+-- the elements of `["reply",r,i,SAID,RIGHT]`: an instance, the reply that was said, and the right
+-- one
 abbrev pub wrong_reply_data : Id → Reply → Reply → List Data
 wrong_reply_data x said right = string (codes "reply") ∷ data_of_number x.replica
     ∷ data_of_number x.number ∷ outcome_data said ∷ outcome_data right ∷ []
@@ -34,19 +35,22 @@ same_reply (Values vs) (Values ws) = pointwise same_value vs ws
 same_reply (Abort j) (Abort k) = j == k
 same_reply _ _ = false
 
--- the line of a reply that is wrong, nothing for one that is right
+-- the line `["reply",r,i,SAID,RIGHT]` of an instance if the reply that was said is not the right
+-- one, and no text otherwise
 abbrev pub reply_difference : (Id × Reply) × Reply → List ℕ
 reply_difference p =
     if same_reply p.0.1 p.1 then [] else line_of (wrong_reply_data p.0.0 p.0.1 p.1)
 
 -- ---- the store
 
--- a key, the value that was said, and the right one; null where the key is absent
+-- the elements of `["store",k,said,right]`: a key, the value that was said, and the right one; null
+-- where the key is absent
 abbrev pub wrong_value_data : List ℕ → Option ℤ → Option ℤ → List Data
 wrong_value_data k said right =
     string (codes "store") ∷ string k ∷ data_of_value said ∷ data_of_value right ∷ []
 
--- the line of a key whose value is wrong, nothing for one whose value is right
+-- the line `["store",k,said,right]` of a key if the value that was said is not the right one, and
+-- no text otherwise
 abbrev pub value_difference : Contents → Contents → List ℕ → List ℕ
 value_difference said right k =
     if same_value (contents.get said k) (contents.get right k) then []
@@ -63,8 +67,8 @@ store_differences said right = flat_map (value_difference said right) (keys_of_e
 
 -- ---- both
 
--- The instances are executed in the order in which the replica said their replies. The lines of its
--- wrong replies, in this order, then those of the keys whose values are wrong.
+-- The instances of `replies` are executed in their order, from the empty store. The text has the
+-- lines of the wrong replies, in this order, and then those of the keys whose values are wrong
 abbrev pub differences_text : List Instance → List (Id × Reply) → Contents → List ℕ
 differences_text m replies stored =
     let right = list_execution m (replied_ids replies) in

@@ -9,7 +9,8 @@ use Rattle.epx_types.specs.CommittedMap.{commands_in}
 use Rattle.epx_types.specs.Execution.{Execution, execute}
 use Rattle.epx_report.specs.ReportLines.{reply_line, store_line}
 
--- the commands of the instances, one after another. One that is not committed does nothing
+-- the commands of the instances, executed one after another from the empty store; an instance that
+-- is not committed has no operations
 abbrev pub list_execution : List Instance → List Id → Execution
 list_execution m ids = execute (commands_in m ids) contents.empty
 

@@ -20,19 +20,19 @@ values_of d = each_of_at_most 64 value_or_null d
 unfoldable pub op_index_of : Data → Option ℕ
 op_index_of d = option_and_then (if_below 64) (whole (2 ^ 64) d)
 
--- `"ok",[v,..]` or `"abort",j`
+-- the reply of `"ok",[v,..]` or `"abort",j`, the last two elements of a line; None of others
 unfoldable pub reply_of : Data → Data → Option Reply
 reply_of a b =
     if is_text (codes "ok") a then option_map Values (values_of b) else
     (if is_text (codes "abort") a then option_map Abort (op_index_of b) else None)
 
--- `["reply",r,i,..]`
+-- an instance and its reply, if the five elements are those of a line `["reply",r,i,..]`
 unfoldable pub replied_of : Data → Data → Data → Data → Data → Option SaidLine
 replied_of n r i a b =
     if is_text (codes "reply") n
     then option_and_then (λ x. option_map (Replied x) (reply_of a b)) (id_from r i) else None
 
--- `["store",k,v]`
+-- a key and its value of 64 bits with sign, if the elements are those of `["store",k,v]`
 unfoldable pub stored_of : Data → Data → Data → Option SaidLine
 stored_of n k v =
     if is_text (codes "store") n
@@ -44,11 +44,12 @@ said_by_list (n ∷ k ∷ v ∷ []) = stored_of n k v
 said_by_list (n ∷ r ∷ i ∷ a ∷ b ∷ []) = replied_of n r i a b
 said_by_list _ = None
 
--- what a line says, by its value
+-- what a line says, by its JSON value: by its elements if it is an array, and None otherwise
 unfoldable pub said_by : Data → Option SaidLine
 said_by d = option_and_then said_by_list (elements d)
 
--- what a line says, by its bytes without the line feed
+-- what a line says, by its bytes without the line feed; None if they are more than
+-- `max_line_bytes`, or no line of a reply or of a key
 unfoldable pub said_line_of : List ℕ → Option SaidLine
 said_line_of bytes = if nat_lt max_line_bytes (length bytes) then None else option_and_then said_by
     (json_of bytes)

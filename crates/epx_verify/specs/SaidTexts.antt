@@ -31,11 +31,13 @@ abbrev pub AreSaidLines : List (List ℕ) → Type 0
 AreSaidLines lines = (replies : List (Id × Reply)) × (stored : Contents)
     × AreSaid lines replies stored
 
--- `line` is the number of the first line that is not allowed at its position
+-- `line`, from 1, is the first bad one: the lines before it say replies and then a store
+-- (`AreSaidLines`), and with it they do not
 abbrev pub IsBadSaid : List ℕ → ℕ → Type 0
 IsBadSaid bytes line = IsFirstNotGood AreSaidLines (lines_of bytes) line
 
--- `Memory` says nothing about the bytes
+-- the fault of bytes that say no replies and store: their first bad line. `Memory` says nothing
+-- about them
 abbrev pub IsSaidFault : List ℕ → BaseFault → Type 0
 IsSaidFault bytes Memory = Unit {0}
 IsSaidFault bytes (Bad line) = IsBadSaid bytes line

@@ -45,7 +45,8 @@ BadSaidIsBadAtOneLine = (bytes : List ℕ) (line other : ℕ) → IsBadSaid byte
 
 -- ---- what is written is read as it says
 
--- numbers and texts are within their limits
+-- Ids, replies, keys and values are within the limits of the lines that say them, and keys are
+-- UTF-8
 pub record FitSaidText (replies : List (Id × Reply)) (stored : Contents) : Type 0 where
   pub replies_fit : All (λ p. FitsNumbers p.0 × FitsReply p.1) replies
   pub stored_fit : All (λ e. FitsKey e.0 × IsUtf8 e.0 × FitsSigned w64 e.1)
@@ -59,19 +60,21 @@ SaidTextIsSaid = (replies : List (Id × Reply)) (stored : Contents) → FitSaidT
 
 -- ---- differences
 
--- no difference is written exactly where each reply and the whole store are right
+-- no difference is written exactly if the replies and the store are those of executing the
+-- instances in the order of the replies, from the empty store
 abbrev pub NoDifferenceIfRight : Type 0
 NoDifferenceIfRight = (m : List Instance) (replies : List (Id × Reply)) (stored : Contents)
     → (differences_text m replies stored ≡ [])
     ↔ ((map (λ p. p.1) replies ≡ (list_execution m (replied_ids replies)).replies)
     × (stored ≡ (list_execution m (replied_ids replies)).final))
 
--- what a list executes to has no difference
+-- the replies and the store of executing a list have no difference
 abbrev pub ReplayHasNoDifference : Type 0
 ReplayHasNoDifference = (m : List Instance) (ids : List Id)
     → differences_text m (zip ids (list_execution m ids).replies) (list_execution m ids).final ≡ []
 
--- what a replay of a list writes, read again as what a replica says, has no difference
+-- what a replay of a list writes, read again as what a replica says, has no difference, if its
+-- replies and store are within the limits
 abbrev pub ReplayReadAgainIsRight : Type 0
 ReplayReadAgainIsRight = (m : List Instance) (ids : List Id)
     → FitSaidText (zip ids (list_execution m ids).replies) (list_execution m ids).final

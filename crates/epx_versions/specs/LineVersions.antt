@@ -4,7 +4,8 @@ use Rattle.epx_types.specs.Instances.{Instance}
 use Rattle.epx_types.specs.PlacedLines.{Placed}
 use Rattle.epx_versions.specs.SameInstances.{same_instance}
 
--- what the lines commit, each once, in the order of its first line
+-- the instances that the lines commit, equal ones once, in the order of the first line of each; an
+-- Id that lines commit differently has several
 abbrev pub versions_of : List Placed → List Instance
 versions_of [] = []
 versions_of (p ∷ lines) =

@@ -20,7 +20,8 @@ same_op = op_eq.eq-value.it
 abbrev pub same_seq : Instance → Instance → Bool
 same_seq d e = d.seq == e.seq
 
--- two instances have the same dependencies; both lists rise, so they are compared item by item
+-- two instances have the same dependencies, item by item; where both lists rise, these are the same
+-- sets
 abbrev pub same_deps : Instance → Instance → Bool
 same_deps d e = pointwise same_id d.deps e.deps
 
@@ -28,6 +29,6 @@ same_deps d e = pointwise same_id d.deps e.deps
 abbrev pub same_ops : Instance → Instance → Bool
 same_ops d e = pointwise same_op d.ops e.ops
 
--- two instances have the same Id, sequence number, set of dependencies and list of operations
+-- two instances have the same Id, sequence number, list of dependencies and list of operations
 abbrev pub same_instance : Instance → Instance → Bool
 same_instance d e = same_id d.id e.id && same_seq d e && same_deps d e && same_ops d e

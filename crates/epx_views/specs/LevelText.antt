@@ -8,14 +8,15 @@ use Rattle.epx_types.specs.CommittedMap.{commands_in}
 use Rattle.epx_report.specs.ReportLines.{header_line, waiting_line}
 use Rattle.epx_report.specs.ViewLines.{level_line}
 
--- the header of the report, the ready instances in execution order with the levels of their
--- commands, and the instances that wait
+-- the header line of a report, a level line for each instance of the order with the level at its
+-- position, and the waiting lines
 abbrev pub level_text : List Ranked → List ℕ → List Waiting → List ℕ
 level_text order levels waiting =
     header_line (length order) (length waiting) (component_count order)
     ++ (flat_map level_line (zip (ranked_ids order) levels) ++ flat_map waiting_line waiting)
 
--- the levels are those of the ready commands in execution order
+-- the text of the map's ready instances in execution order, with the conflict levels of their
+-- commands in that order, and of the instances that wait
 pub record IsLevelText (m : List Instance) (text : List ℕ) : Type 0 where
   pub order : List Ranked
   pub levels : List ℕ

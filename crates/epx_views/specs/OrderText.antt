@@ -6,8 +6,7 @@ use Rattle.epx_types.specs.WaitingLists.{Waiting, IsWaitingList}
 use Rattle.epx_report.specs.ReportLines.{header_line, waiting_line}
 use Rattle.epx_report.specs.ViewLines.{order_line}
 
--- the header of the report, the ready instances in execution order with depth and leader, and the
--- instances that wait
+-- the header line of a report, an order line for each instance of the order, and the waiting lines
 abbrev pub order_text : List Ranked → List Waiting → List ℕ
 order_text order waiting = header_line (length order) (length waiting) (component_count order)
     ++ (flat_map order_line order ++ flat_map waiting_line waiting)

@@ -12,7 +12,7 @@ status_of_kind DisplayHelp = 0
 status_of_kind DisplayVersion = 0
 status_of_kind _ = 2
 
--- this is the status of one of these kinds
+-- the status is that of one of these kinds of clap's errors (`status_of_kind`)
 abbrev pub IsExitStatus : Kinds → ℕ → Type 0
 IsExitStatus kinds status = (kind : ErrorKind) × IsAmong kind kinds
     × (status ≡ status_of_kind kind)
@@ -21,7 +21,8 @@ IsExitStatus kinds status = (kind : ErrorKind) × IsAmong kind kinds
 abbrev pub IsTaken : Kinds → Given → Type 0
 IsTaken kinds given = (kinds ≡ []) × NamesAll given
 
--- the status after words that are not taken: clap finds a fault, or else they name too little
+-- the status after words that are not taken: that of a kind of fault that clap finds; or 2, if it
+-- finds none and they name too little (`NamesAll`)
 abbrev pub IsTextStatus : Kinds → Given → ℕ → Type 0
 IsTextStatus kinds given status =
     IsExitStatus kinds status ⊎ ((kinds ≡ []) × (¬ NamesAll given) × (status ≡ 2))

@@ -57,28 +57,29 @@ ArePathsOf (task.Linear skew) rows paths = AreFirstAndLogs rows paths
 ArePathsOf task.Replay rows paths = AreFirstAndLogs rows paths
 ArePathsOf _ rows paths = paths ≡ Some (logs_in rows)
 
--- x is named by the first argument, and y is the end of the path
+-- x is named by the first argument, and y by the option `--reaches`
 pub record NamePath (x y : Id) (rows : List Row) : Type 0 where
   pub from : (text : Text) × (first_in rows ≡ Some text) × IsNameOf x text
   pub to : (text : Text) × (reaches_in rows ≡ Some text) × IsNameOf y text
 
--- x is named by the first argument, and there is no path
+-- x is named by the first argument, and the option `--reaches` is not there
 pub record NamesOne (x : Id) (rows : List Row) : Type 0 where
   pub named : (text : Text) × (first_in rows ≡ Some text) × IsNameOf x text
   pub alone : reaches_in rows ≡ None
 
--- so many steps: one where the option `--steps` is not there
+-- n is the number in the option `--steps`, or 1 if the option is not there
 abbrev pub IsStepsOf : Option Text → ℕ → Type 0
 IsStepsOf None n = n ≡ 1
 IsStepsOf (Some text) n = IsNumberName n text
 
--- the part within so many steps of x is named
+-- `--around` names x, and `--steps` the number of steps, which is 1 if this option is not there
 pub record NamesAround (x : Id) (steps : ℕ) (rows : List Row) : Type 0 where
   pub around : (text : Text) × (around_in rows ≡ Some text) × IsNameOf x text
   pub within : IsStepsOf (steps_in rows) steps
 
--- what a task has besides its name is what the rows have: a check is one of a prefix exactly
--- if the flag `--prefix` is there, and so on
+-- the task is the one that the arguments ask for: with `--around` and `--steps` in `graph`, `--all`
+-- in `audit`, `--prefix` in `check`, `--skew` in `linear`, an instance and `--reaches` in `why`,
+-- and a key and `--reads` in `trace`
 abbrev pub FitsRows : Task → List Row → Type 0
 FitsRows task.Graph rows = (around_in rows ≡ None) × (steps_in rows ≡ None)
 FitsRows (task.Around x steps) rows = NamesAround x steps rows
@@ -93,7 +94,7 @@ FitsRows (task.Trace key reads) rows = (first_in rows ≡ Some key.text.bytes)
     × ((reads ≡ true) ↔ HasFlag (codes "reads") rows)
 FitsRows _ rows = ⊤
 
--- if the words ask for work, P holds of the task, the plan and the paths
+-- if the words ask for a task, P holds of it, the plan and the paths
 abbrev pub IfWork : (Task → PlanNumbers → Option (List Text) → Type 0) → Words → Type 0
 IfWork P (words.Work task plan paths) =
     P task plan (option_map (λ list. map string_bytes list.items) paths)
@@ -110,7 +111,7 @@ IfFollow P (words.Follow plan paths options) =
     P plan (option_map (λ list. map string_bytes list.items) paths) options
 IfFollow P (words.Text text status) = ⊤
 
--- the words ask for work
+-- the words ask for a task, or to follow logs, and not for a text
 abbrev pub IsWork : Words → Type 0
 IsWork (words.Work task plan paths) = ⊤
 IsWork (words.WorkWith task plan paths flags) = ⊤
@@ -121,7 +122,7 @@ IsWork (words.Text text status) = ⊥
 abbrev pub no_flags : Flags
 no_flags = record { exit_code = false; explain = false; quiet = false }
 
--- the flags of the words
+-- the flags of the words; `Work` and a text have none, and following logs has no `--exit-code`
 abbrev pub flags_of : Words → Flags
 flags_of (words.Work task plan paths) = no_flags
 flags_of (words.WorkWith task plan paths flags) = flags
@@ -149,7 +150,7 @@ IsText n (words.WorkWith task plan paths flags) = ⊥
 IsText n (words.Follow plan paths options) = ⊥
 IsText n (words.Text text status) = status ≡ n
 
--- this is the work that a subcommand asks for by its rows
+-- the subcommand asks for this task, with these values of `--workers` and `--cut`, over these paths
 pub record AsksFor (given : Given) (asked : Task) (cutting : PlanNumbers)
     (logs : Option (List Text)) : Type 0 where
   pub task : name_in given ≡ Some (task_name asked)
@@ -158,7 +159,8 @@ pub record AsksFor (given : Given) (asked : Task) (cutting : PlanNumbers)
   pub paths : ArePathsOf asked (rows_in given) logs
   pub parts : FitsRows asked (rows_in given)
 
--- this is what the subcommand `follow` asks for by its rows: the logs are None if none is named
+-- the subcommand is `follow`, and asks for these values of `--workers` and `--cut`, these logs,
+-- which are None if none is named, and these options
 pub record AsksToFollow (given : Given) (cutting : PlanNumbers) (logs : Option (List Text))
     (options : FollowOptions) : Type 0 where
   pub name : name_in given ≡ Some (codes "follow")
@@ -171,8 +173,9 @@ pub record AsksToFollow (given : Given) (cutting : PlanNumbers) (logs : Option (
   pub state : option_map string_bytes options.state ≡ state_in (rows_in given)
   pub save : option_map string_bytes options.save ≡ save_in (rows_in given)
 
--- the words ask for that work; or they are refused with status 2, since they do not name all that
--- they ask about
+-- the words ask for the work that the subcommand asks for, with its flags, and name a log if
+-- `--exit-code` is there; or they are refused with status 2, since they do not name all that they
+-- ask about
 abbrev pub IsMeaningOf : Given → Words → Type 0
 IsMeaningOf given (words.Work task plan paths) =
     AsksFor given task plan (option_map (λ list. map string_bytes list.items) paths)

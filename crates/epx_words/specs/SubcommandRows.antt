@@ -6,7 +6,7 @@ use Rattle.std.specs.Option.{IsSome, option_map_or}
 use Rattle.std.specs.Str.Parse.{IsNumeral, digits_value, without_leading_plus}
 use Rattle.clap.specs.Words.{IsUnsignedIn, Row, Text, all_of, first_of, one_of}
 
--- the subcommand that words name, with its rows
+-- the name of the subcommand that words name, and its rows: the values of each of its arguments
 abbrev pub Given : Type 0
 Given = Option (Text × List Row)
 
@@ -14,7 +14,7 @@ Given = Option (Text × List Row)
 abbrev pub name_in : Given → Option Text
 name_in = option_map (λ p. p.0)
 
--- no rows where there is no subcommand
+-- the rows of the subcommand; none if the words name no subcommand
 abbrev pub rows_in : Given → List Row
 rows_in given = option_map_or (λ p. p.1) given []
 
@@ -53,7 +53,7 @@ some_texts (t ∷ ts) = Some (t ∷ ts)
 abbrev pub some_logs_in : List Row → Option (List Text)
 some_logs_in rows = some_texts (logs_in rows)
 
--- the path of the argument before the logs, if there is one
+-- the argument before the logs, if there is one: a path, the name of an instance, or a key
 abbrev pub first_in : List Row → Option Text
 first_in rows = first_of (codes "first") rows
 
@@ -111,7 +111,7 @@ abbrev pub first_names : List Text
 first_names = codes "resume" ∷ codes "check" ∷ codes "verify" ∷ codes "linear" ∷ codes "replay"
     ∷ codes "why" ∷ codes "trace" ∷ []
 
--- the name of a subcommand with such an argument
+-- the name of a subcommand with a required argument before the logs
 abbrev pub NeedsFirst : Text → Type 0
 NeedsFirst name = IsOneOf name first_names
 

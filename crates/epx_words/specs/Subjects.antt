@@ -11,7 +11,8 @@ use Rattle.epx_names.specs.IdNames.{FitsIdTypes}
 use Rattle.epx_words.specs.SubcommandRows.{Given, HasFlag, around_in, first_in, logs_in, reaches_in}
 use Rattle.epx_words.specs.SubcommandRows.{rows_in, steps_in}
 
--- the text names x, as faults name it
+-- the text is the name of x: a replica below 2^8, a dot and a number below 2^64 in decimal, as in
+-- `0.7`
 abbrev pub IsNameOf : Id → Text → Type 0
 IsNameOf x text = FitsIdTypes x × (text ≡ id_text x)
 
@@ -19,11 +20,12 @@ IsNameOf x text = FitsIdTypes x × (text ≡ id_text x)
 abbrev pub IsIdName : Text → Type 0
 IsIdName text = (x : Id) × IsNameOf x text
 
--- the first argument names an instance, and so does the end of the path, if there is one
+-- the first argument is there and names an instance, and so does the option `--reaches`, if it is
+-- there
 abbrev pub NameIds : List Row → Type 0
 NameIds rows = MatchOption (first_in rows) ⊥ IsIdName × IfSome (reaches_in rows) IsIdName
 
--- the text is a number below 2^64, as numbers are printed
+-- n is below 2^64, and the text is n in decimal, without zeros in front
 abbrev pub IsNumberName : ℕ → Text → Type 0
 IsNumberName n text = (n < 2 ^ 64) × (text ≡ decimal n)
 
@@ -37,11 +39,12 @@ ArePartNames (Some text) steps = IsIdName text × IfSome steps (λ far. (n : ℕ
 abbrev pub NamesPart : List Row → Type 0
 NamesPart rows = ArePartNames (around_in rows) (steps_in rows)
 
--- the first argument is a key
+-- the first argument is there, and is a key: 1 to 64 bytes
 abbrev pub NamesKey : List Row → Type 0
 NamesKey rows = MatchOption (first_in rows) ⊥ FitsKey
 
--- what is to name an instance, a key or a part names one
+-- the arguments of `why` name instances (`NameIds`), that of `trace` is a key (`NamesKey`), and
+-- those of `graph` name a part (`NamesPart`); other subcommands need to name nothing
 abbrev pub NamesSubject : Given → Type 0
 NamesSubject None = ⊤
 NamesSubject (Some p) =
@@ -52,6 +55,7 @@ NamesSubject (Some p) =
 abbrev pub NamesLogs : List Row → Type 0
 NamesLogs rows = HasFlag (codes "exit-code") rows → logs_in rows ≢ []
 
--- the words name all that they ask about
+-- the words name the instances, the key or the part of the graph that they ask about
+-- (`NamesSubject`), and a log if `--exit-code` is there (`NamesLogs`)
 abbrev pub NamesAll : Given → Type 0
 NamesAll given = NamesSubject given × NamesLogs (rows_in given)

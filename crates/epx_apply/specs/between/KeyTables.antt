@@ -35,15 +35,17 @@ touched_in ops = flat_map touched_by ops
 abbrev pub written_in : List Op → List (List ℕ)
 written_in ops = flat_map written_by ops
 
--- n is one above the greatest number of the commands that have the key k, or 0 if none has it
+-- n is one above the greatest number of the done commands that have the key k among their
+-- `keys_of`, or 0 if none has it
 pub record IsLevelAbove (keys_of : List Op → List (List ℕ)) (done : List (List Op × ℕ))
     (k : List ℕ) (n : ℕ) : Type 0 where
   pub above : (ops : List Op) (l : ℕ) → Contains done (ops, l) → Contains (keys_of ops) k → l < n
   pub reached : (n ≡ 0) ⊎ ((ops : List Op) × (l : ℕ) × Contains done (ops, l)
       × Contains (keys_of ops) k × (n ≡ suc l))
 
--- t is the table of the done commands with their numbers, and of the keys of the current command
--- so far
+-- t has the keys that the done commands touch; for each key one above the greatest number of those
+-- that touch it, and of those that write it, or 0; and as its accesses `current`, the keys of the
+-- current command so far, each marked true if it is written
 pub record IsKeyTableOf (done : List (List Op × ℕ)) (current : List (List ℕ × Bool))
     (t : KeyTableView) : Type 0 where
   -- each key that a done command touches has a number in the table
@@ -70,12 +72,14 @@ pub record IsLeastAbove (done : List (List Op × ℕ)) (ops : List Op) (n : ℕ)
       ⊎ ((earlier : List Op) × (l : ℕ) × Contains done (earlier, l) × Conflict earlier ops
       × (n ≡ suc l))
 
--- the new table has the keys of this command as the current one, for which n is the least number
+-- if the old table has no keys of a current command, the new one has those of `ops`, and n is one
+-- above the greatest number of the done commands that conflict with `ops`, or 0 if there is none
 abbrev pub CollectsCommand : List Op → ℕ → KeyTableView → KeyTableView → Type 0
 CollectsCommand ops n old new = (done : List (List Op × ℕ)) → IsKeyTableOf done [] old
     → IsLeastAbove done ops n × IsKeyTableOf done (flat_map accesses_of ops) new
 
--- the current command is done in the new table, with this number
+-- if the old table has all keys of a current command, the new one has that command among the done
+-- ones, with this number, and no keys of a current command
 abbrev pub NotesCommand : ℕ → KeyTableView → KeyTableView → Type 0
 NotesCommand number old new = (done : List (List Op × ℕ)) (ops : List Op)
     → IsKeyTableOf done (flat_map accesses_of ops) old

@@ -5,11 +5,12 @@ use Rattle.epx_types.specs.Instances.{Instance}
 use Rattle.epx_types.specs.Reaching.{Reaches}
 use Rattle.epx_components.specs.between.ReadyMarks.{is_marked}
 
--- each pair is of a later and an earlier one of this many positions
+-- each pair has a later and then an earlier position, both below `count`
 abbrev pub AreLaterFirst : ℕ → List (ℕ × ℕ) → Type 0
 AreLaterFirst count pairs = All (λ pair. (pair.1 < pair.0) × (pair.0 < count)) pairs
 
--- for each pair of positions, whether the instance at the first reaches that at the second
+-- there is a mark for each pair; where both positions are in the order, it is true exactly if the
+-- instance at the first one reaches that at the second
 pub record AreRelatedMarks (m : List Instance) (order : List Ranked) (pairs : List (ℕ × ℕ))
     (marks : List Bool) : Type 0 where
   pub each_pair : length marks ≡ length pairs

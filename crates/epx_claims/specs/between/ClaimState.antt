@@ -4,8 +4,9 @@ use Rattle.std.specs.Prelude.{◌≡◌, ℕ, ◌+◌, ◌<◌, ◌≤◌, ◌==
 use Rattle.epx_claims.specs.declared.seat_state.SeatState.{SeatState}
 use Rattle.epx_claims.specs.between.Count.{total, count, occurrences, indicator_below}
 
--- The word and the seats are consistent: each piece below the word was drawn once, by one seat,
--- and the shares of the seats add up to all workers
+-- the counter `word` and the seats are consistent: each piece below `word` was drawn once, by one
+-- seat; shares are at least 1 and add up to `workers`; if a seat has ended, all pieces are drawn;
+-- `word` exceeds `pieces` by at most the shares of the ended seats
 pub record ClaimState (pieces workers word : ℕ) (seat_states : List SeatState) : Type 0 where
   -- the lists together hold each number below the word and below `pieces` once, and no other
   pub each_once : (x : ℕ) → total (λ h. occurrences x h.drawn) seat_states

@@ -25,6 +25,6 @@ IsSeatOf claims seat = seat.claims ≡ claims
 abbrev pub fresh_seat : ClaimsView → ℕ → SeatView
 fresh_seat claims share = record { claims = claims; drawn = []; share = share; ended = false }
 
--- the state of the seat
+-- the seat without its claims: the pieces that it has drawn, its share, and whether it has ended
 abbrev pub seat_state_of : SeatView → SeatState
 seat_state_of seat = record { drawn = seat.drawn; share = seat.share; ended = seat.ended }

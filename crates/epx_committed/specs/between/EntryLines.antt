@@ -3,7 +3,7 @@ use Rattle.std.specs.Prelude.{ℕ, suc, List, [], ◌∷◌}
 use Rattle.epx_types.specs.Instances.{Instance}
 use Rattle.epx_types.specs.PlacedLines.{Placed}
 
--- the entries are on consecutive lines of log 0, the first on this line
+-- the entries as consecutive lines of log 0, the first on line n
 abbrev pub entry_lines_from : ℕ → List Instance → List Placed
 entry_lines_from n [] = []
 entry_lines_from n (e ∷ es) = record { place = record { log = 0; line = n }; instance = e }

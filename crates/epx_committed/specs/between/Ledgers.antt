@@ -11,7 +11,7 @@ pub record LedgerView : Type 0 where
   pub firsts : List (Id × Placed)
   pub disagreements : List (Id × Disagreement)
 
--- p is the first of the lines for which the fact holds
+-- p is the first of the lines for which P holds
 abbrev pub IsFirstWhere : (Placed → Type 0) → List Placed → Placed → Type 0
 IsFirstWhere P [] p = ⊥
 IsFirstWhere P (q ∷ lines) p = ((q ≡ p) × P q) ⊎ ((¬ P q) × IsFirstWhere P lines p)
@@ -20,7 +20,7 @@ IsFirstWhere P (q ∷ lines) p = ((q ≡ p) × P q) ⊎ ((¬ P q) × IsFirstWher
 abbrev pub IsLineOf : Id → Placed → Type 0
 IsLineOf x p = p.instance.id ≡ x
 
--- the first line of x, and the first line that differs from it
+-- the disagreement has the places of the first line of x and of the first line that differs from it
 pub record IsDisagreementOf (lines : List Placed) (x : Id) (disagreement : Disagreement) : Type
     0 where
   pub first : Placed
@@ -43,7 +43,8 @@ pub record IsLedgerOf (lines : List Placed) (noted : LedgerView) : Type 0 where
       → ¬ Contains (map (λ e. e.0) noted.disagreements) x → (q : Placed) → Contains lines q
       → q.instance.id ≡ x → p.instance ≡ q.instance
 
--- noting the lines takes the old ledger to the new one
+-- for any lines that the old ledger has, as `IsLedgerOf` says, the new one has them followed by the
+-- given lines
 abbrev pub NotesLines : List Placed → LedgerView → LedgerView → Type 0
 NotesLines lines old new = (done : List Placed) → IsLedgerOf done old
     → IsLedgerOf (done ++ lines) new

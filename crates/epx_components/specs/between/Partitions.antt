@@ -44,7 +44,7 @@ pub record IsPartition (edges : ℕ → List ℕ) (p : ComponentParts) : Type 0 
       → slice_index p.component (slice_index p.order i)
       ≤ slice_index p.component (slice_index p.order j)
 
--- the components of a graph
+-- p has the components of all nodes of the graph g
 pub record IsPartitionOf (g : DependencyGraph) (p : ComponentParts) : Type 0 where
   pub each_node : length p.component ≡ length g.ids
   pub is : IsPartition (edges_of g) p

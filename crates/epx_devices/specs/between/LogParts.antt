@@ -10,7 +10,8 @@ use Rattle.epx_devices.specs.Deliveries.{Delivers, DeliversAll, IsLogStop}
 use Rattle.epx_devices.specs.Models.{SourceModel}
 use Rattle.epx_devices.specs.Transfers.{IsReadLogFault, ConsumesUpTo, ConsumesExactly}
 
--- reads have returned these bytes, and no call has failed
+-- reads from the state `first` to `now` returned exactly these bytes, at most `max_log_bytes` + 1,
+-- and no call has failed
 pub record IsReadUpTo {S : Type 0} (D : SourceModel S) (first now : S) (bytes : List ℕ) : Type
     0 where
   pub whole : D.has_failed now ≡ false
@@ -18,7 +19,8 @@ pub record IsReadUpTo {S : Type 0} (D : SourceModel S) (first now : S) (bytes : 
   pub delivered : Delivers D first now bytes
   pub few : length bytes ≤ max_log_bytes + 1
 
--- how reading the log of this number ends: with all its bytes, or with a fault
+-- how reading the log of this number ends: with all its bytes, at most `max_log_bytes`, or with a
+-- fault of `IsReadLogFault`, which is `Read` exactly if a call has failed
 pub record EndsLog {S : Type 0} (D : SourceModel S) (log : ℕ) (first now : S)
     (result : Result (List ℕ) Fault) : Type 0 where
   pub bytes : IfOk result (λ b. IfSome (D.remaining first) (λ all. b ≡ all))
@@ -32,7 +34,8 @@ pub record EndsLog {S : Type 0} (D : SourceModel S) (log : ℕ) (first now : S)
       → ConsumesExactly (D.remaining first) (D.remaining now) (max_log_bytes + 1)
   pub no_further : ConsumesUpTo (D.remaining first) (D.remaining now) (max_log_bytes + 1)
 
--- these are all bytes of the log, or at least so many of them
+-- if the last argument is true, the bytes are all of the log, as `EndsLog` says; if it is false,
+-- they are its first bytes, at least `least` and at most `max_log_bytes` of them
 abbrev pub IsFrontOfLog : {S : Type 0} → SourceModel S → ℕ → S → S → ℕ → List ℕ → Bool → Type 0
 IsFrontOfLog D log first now least bytes true = EndsLog D log first now (Ok bytes)
 IsFrontOfLog D log first now least bytes false = IsReadUpTo D first now bytes

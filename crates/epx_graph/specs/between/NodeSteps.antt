@@ -3,7 +3,7 @@ use Rattle.std.specs.Prelude.{◌≡◌, ℕ, zero, suc, ◌≤◌, List, length
 use Rattle.std.specs.Prelude.{slice_index_or}
 use Rattle.epx_graph.specs.Graphs.{DependencyGraph, edges_of}
 
--- a path of n edges leads from k to j: a first edge, and the others
+-- a path of n edges leads from k to j
 abbrev pub LeadsTo : (ℕ → List ℕ) → ℕ → ℕ → ℕ → Type 0
 LeadsTo edges k zero j = k ≡ j
 LeadsTo edges k (suc n) j = (c : ℕ) × Contains (edges k) c × LeadsTo edges c n j

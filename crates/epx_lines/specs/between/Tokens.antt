@@ -14,26 +14,30 @@ use Rattle.epx_lines.specs.DependencyList.{id_of}
 use Rattle.epx_lines.specs.OperationList.{ops_of}
 use Rattle.epx_lines.specs.Meaning.{at_member, is_committed}
 
--- the text is one or more digits and nothing else, and they write n
+-- the text is one or more decimal digits and nothing else, and they write n
 abbrev pub AreDigitsOf : List ℕ → ℕ → Type 0
 AreDigitsOf text n = IsNumeral 10 text × (digits_value 10 text ≡ n)
 
--- the tokens begin with the value d, whose lists nest at most n levels deep, and `rest` follows
+-- the tokens begin with the value d, whose arrays and objects nest at most n levels deep, and
+-- `rest` follows
 abbrev pub ReadsValue : ℕ → List Token → Data → List Token → Type 0
 ReadsValue n ts d rest = (depth : ℕ) → n ≤ depth
     → converted of_json (value depth ts) ≡ Some (d, rest)
 
--- the tokens begin with a value for which f returns x
+-- the tokens begin with a value that nests at most n levels deep and for which f returns x, and
+-- `rest` follows
 abbrev pub ParsesTo : {A : Type 0} → ℕ → (Data → Option A) → List Token → A → List Token → Type 0
 ParsesTo n f ts x rest = (d : Data) × ReadsValue n ts d rest × (f d ≡ Some x)
 
--- the tokens begin with the values ds, one after another
+-- the tokens begin with the values ds, one after another, each nested at most n levels deep, and
+-- `rest` follows
 abbrev pub ReadsValues : ℕ → List Token → List Data → List Token → Type 0
 ReadsValues n ts [] rest = ts ≡ rest
 ReadsValues n ts (d ∷ ds) rest = (mid : List Token) × ReadsValue n ts d mid
     × ReadsValues n mid ds rest
 
--- the tokens begin with values for which f returns x
+-- the tokens begin with values, each nested at most n levels deep, `rest` follows, and f returns x
+-- for the list of these values
 abbrev pub ParsesAllTo : {A : Type 0} → ℕ → (List Data → Option A) → List Token → A → List Token
     → Type 0
 ParsesAllTo n f ts x rest = (ds : List Data) × ReadsValues n ts ds rest × (f ds ≡ Some x)
@@ -52,8 +56,8 @@ pub record HoldsParts (ms : Members) (p : Parts) : Type 0 where
   pub ops : IsMember (codes "ops") ops_of ms (option_map items_of p.ops)
   pub status : is_committed (get (codes "status") (object ms)) ≡ Some true
 
--- the tokens begin with a value; if the old parts are those of an object, the new ones are those
--- of the object with this value under the name
+-- the tokens begin with a value, and `rest` follows; if the old parts are those of an object, the
+-- new ones are those of the object with this value under the name
 abbrev pub AddsMember : List ℕ → List Token → List Token → Parts → Parts → Type 0
 AddsMember name ts rest old new = (d : Data) × ReadsValue 2 ts d rest
     × ((ms : Members) → HoldsParts ms old → HoldsParts (put name d ms) new)

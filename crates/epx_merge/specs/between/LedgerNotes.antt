@@ -9,8 +9,8 @@ use Rattle.epx_merge.specs.LogLines.{MeaningAt, placed_among, bad_lines_among}
 use Rattle.epx_merge.specs.between.ReadPieces.{AreRead, HasEntries}
 use Rattle.epx_merge.specs.between.RedundantLines.{DropsRedundant, IsCacheOf}
 
--- all but some redundant lines are read; the ledger has them up to the pieces that are not noted
--- yet, and the cache recognizes only lines that are read
+-- the lines, some redundant ones aside, are those that the ledger has, none of them bad, and then
+-- those that `pieces` are the results of reading; the cache has no meanings but theirs and blank
 pub record AreReadUpTo (lines : List MeaningAt) (ledger : LedgerView)
     (cache : List (Result Line Why)) (pieces : List (Result ReadPiece BadLine)) : Type 0 where
   pub read : List MeaningAt

@@ -7,7 +7,7 @@ use Rattle.epx_types.specs.declared.fault.Fault.TheVariants.{Read, Write, BadBas
 use Rattle.epx_merge.specs.LogLines.{BadLineAt, MeaningAt, bad_lines_among}
 use Rattle.epx_merge.specs.Refusals.{IsFirstBadLine}
 
--- the first bad line. Out of memory says nothing about the lines
+-- the fault is the first of these bad lines, or out of memory, which says nothing about the lines
 abbrev pub IsReadFault : List BadLineAt → Fault → Type 0
 IsReadFault lines Memory = Unit {0}
 IsReadFault lines (BadLine place why) = IsFirstBadLine lines place why

@@ -38,7 +38,8 @@ AreRead holds lines pieces = ArePiecesOf (IsRead holds) lines pieces
 
 -- ---- reading beside a cache
 
--- the line is redundant in the cache and is skipped, or its entry is appended if it has one
+-- the line is redundant in the cache and `new` is `old`; or it is not bad, and `new` is `old` with
+-- its instance, if it has one, appended
 abbrev pub SkipsOrReads : List (Result Line Why) → MeaningAt → List Placed → List Placed → Type 0
 SkipsOrReads cache line old new = (IsRedundantIn cache line.meaning × (new ≡ old))
     ⊎ ((bad_lines_at line.place line.meaning ≡ [])

@@ -26,7 +26,7 @@ DropsRedundant (line ∷ lines) old new = DropsRedundant lines (old ++ line ∷ 
 abbrev pub IsRedundantIn : List (Result Line Why) → Result Line Why → Type 0
 IsRedundantIn cache meaning = (meaning ≡ Ok Blank) ⊎ Contains cache meaning
 
--- each meaning in the cache is redundant after the lines that are not
+-- each meaning in the cache is blank, or is that of a kept line
 abbrev pub IsCacheOf : List MeaningAt → List (Result Line Why) → Type 0
 IsCacheOf kept cache = (m : Result Line Why) → Contains cache m → IsRedundant kept m
 
@@ -47,8 +47,8 @@ DropsCached cache (line ∷ lines) kept =
     ((rest : List MeaningAt) × (kept ≡ line ∷ rest) × DropsCached cache lines rest)
     ⊎ (IsRedundantIn cache line.meaning × DropsCached cache lines kept)
 
--- the lines are some that are gone past and these; the batch has those that are gone past, except
--- for some blank ones
+-- `lines` are some first lines and then `left`; the batch has the first lines in order, except for
+-- some blank ones
 pub record IsNextBatch (lines left batch : List MeaningAt) : Type 0 where
   pub gone : List MeaningAt
   pub whole : lines ≡ gone ++ left

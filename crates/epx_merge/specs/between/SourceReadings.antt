@@ -15,7 +15,9 @@ use Rattle.epx_merge.specs.DeliveredLogs.{EachDelivers, FirstDeliver, StopsReadi
 use Rattle.epx_merge.specs.ReadingRefusals.{AreBytesOf, IsReadingRefusal}
 use Rattle.epx_merge.specs.SourceEndings.{EachConsumesUpTo, LeavesSources, StopsAt}
 
--- the first n sources are read, and delivered these bytes
+-- The first n sources have no known bytes left, the others are unchanged, and none has failed.
+-- `read` has n logs, none too long, which are those of the first n sources where the bytes of all
+-- sources are known
 pub record FirstAreRead {S : Type 0} (D : SourceModel S) (first now : List S) (n : ℕ)
     (read : List (List ℕ)) : Type 0 where
   pub as_many : length now ≡ length first
@@ -34,7 +36,9 @@ pub record AreDeliveredUpTo {S : Type 0} (D : SourceModel S) (first now : List S
   pub read : FirstAreRead D first now n logs
   pub delivered : FirstDeliver D first now logs
 
--- how reading all sources ends: with their logs, or with a fault
+-- the result of reading all sources: the whole log of each, within limits, or the fault that
+-- stopped reading; both fit the bytes of the sources where these are known. The sources are left as
+-- `LeavesSources` says
 pub record EndsReading {S : Type 0} (D : SourceModel S) (old new : List S)
     (result : Result (List (List ℕ)) Fault) : Type 0 where
   pub bytes : IfOk result (λ logs. (given : List (List ℕ)) → AreBytesOf D old given
@@ -48,7 +52,8 @@ pub record EndsReading {S : Type 0} (D : SourceModel S) (old new : List S)
   pub place : (log : ℕ) → StopsAt result log → log < length old
   pub sources : LeavesSources D old new result
 
--- how reading all sources ends, and what is then made of their logs
+-- a fault of reading all sources, or the sources are read and `Made` relates their logs to the
+-- result
 abbrev pub EndsMaking : {S T : Type 0} → SourceModel S
     → (List (List ℕ) → Result T Fault → Type 0) → List S → List S → Result T Fault → Type 0
 EndsMaking D Made old new (Ok made) =
@@ -56,18 +61,20 @@ EndsMaking D Made old new (Ok made) =
 EndsMaking D Made old new (Err fault) = EndsReading D old new (Err fault)
     ⊎ ((logs : List (List ℕ)) × EndsReading D old new (Ok logs) × Made logs (Err fault))
 
--- how reading all sources ends, and how the lines of their logs are then noted
+-- a fault of reading all sources, or the sources are read and the first part of the value is the
+-- result of noting the lines of their logs (`IsNoting`)
 abbrev pub EndsNoting : {S N P T : Type 0} → SourceModel S → NoteRelation N P → Bool → List S
     → List S → Result (Result N Fault × T) Fault → Type 0
 EndsNoting D has_read refuses old new (Ok noted) = (logs : List (List ℕ))
     × EndsReading D old new (Ok logs) × IsNoting has_read refuses (meanings_of logs) noted.0
 EndsNoting D has_read refuses old new (Err fault) = EndsReading D old new (Err fault)
 
--- what merging logs comes to
+-- the result is the map that the logs commit, if they are accepted, or a refusal of the logs
 abbrev pub IsMerging : List (List ℕ) → Result (List Instance) Fault → Type 0
 IsMerging logs result = MatchResult result (IsAccepted logs) (IsRefusal logs)
 
--- how reading all sources and merging their logs ends
+-- the result of reading all sources and merging their logs: the map that the logs commit, or a
+-- fault of reading, or a refusal of the logs
 abbrev pub EndsMerging : {S : Type 0} → SourceModel S → List S → List S
     → Result (List Instance) Fault → Type 0
 EndsMerging D = EndsMaking D IsMerging

@@ -9,7 +9,8 @@ use Rattle.epx_types.specs.WaitingLists.{waiting_ids}
 use Rattle.epx_report.specs.Bases.{AreDistinctIds, AreDoneIn, IsBase}
 use Rattle.epx_report.specs.ReportReadings.{ReportData, replied_ids, text_of_report, FitsReportData}
 
--- no two lines of a report name one instance, and done lines and waiting lines rise
+-- no two of the done, reply and waiting lines of a report are of one instance, and done lines and
+-- waiting lines rise
 abbrev pub AreLinesInOrder : ReportData → Type 0
 AreLinesInOrder r = AreDistinctIds r.done (replied_ids r.replies) (waiting_ids r.waiting)
 
@@ -21,7 +22,8 @@ AreDoneAfter r done = AreDoneIn r.done (replied_ids r.replies) done
 abbrev pub DoneAfterExists : Type 0
 DoneAfterExists = (r : ReportData) → IsRising r.done → (done : List Id) × AreDoneAfter r done
 
--- a report in order whose store lines list the contents is a base
+-- a report within limits (`FitsReportData`), whose lines are in order and whose store lines list
+-- the contents `stored`, is a base with these contents and the instances that are done after it
 abbrev pub ReportIsABase : Type 0
 ReportIsABase = (r : ReportData) (done : List Id) (stored : Contents) → FitsReportData r
     → AreLinesInOrder r → AreDoneAfter r done → r.stored ≡ contents.entries stored

@@ -3,7 +3,7 @@ use Rattle.std.specs.Prelude.{ℕ, Bool, true, false, List, filter, length}
 use Rattle.epx_types.specs.declared.op.Op.{Op}
 use Rattle.epx_types.specs.declared.op.Op.TheVariants.{Get}
 
--- the operation adds a value to the reply
+-- the operation is a `get`, which adds a value to the reply
 abbrev pub is_get : Op → Bool
 is_get (Get k) = true
 is_get _ = false

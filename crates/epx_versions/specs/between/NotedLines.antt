@@ -11,8 +11,9 @@ use Rattle.epx_versions.specs.LineVersions.{versions_of}
 use Rattle.epx_versions.specs.between.NotedRows.{AreNoted}
 use Rattle.epx_versions.specs.between.VersionLists.{AreHashed}
 
--- all these lines are noted, and no piece is left to note; each line of the cache commits the
--- version with its number, and the versions are hashed
+-- `n` has the versions, rows and bad lines of all `lines` (`AreNoted`) and the hashes of the
+-- versions; `n.numbers` has the version of each line of the cache; `pieces` is empty: none is left
+-- to note
 pub record AreNotedLines (lines : List MeaningAt) (n : VersionNotes)
     (cache : List (Result Line Why)) (pieces : List (Vec ReadLine Global)) : Type 0 where
   pub none : pieces ≡ []

@@ -10,7 +10,7 @@ use Rattle.epx_versions.specs.declared.noted.Noted.{Noted}
 use Rattle.epx_versions.specs.declared.noted.NotedLine.{NotedLine}
 use Rattle.epx_versions.specs.LineVersions.{versions_of}
 
--- the row has the place of the line, and the number of what it commits
+-- the row has the place of the line, and the index in `versions` of the instance that it commits
 pub record IsRowOf (versions : List Instance) (row : NotedLine) (line : Placed) : Type 0 where
   pub place : row.place ≡ line.place
   pub version : slice_get versions row.version ≡ Some line.instance
@@ -19,7 +19,8 @@ pub record IsRowOf (versions : List Instance) (row : NotedLine) (line : Placed) 
 abbrev pub bad_line_at : NotedBadLine → BadLineAt
 bad_line_at b = record { place = b.place; why = b.why }
 
--- these lines, and these bad ones, are noted
+-- `noted` has the distinct instances of `lines`, a row for each of these lines, in order, and the
+-- bad lines `bad`, in order
 pub record AreNoted (lines : List Placed) (bad : List BadLineAt) (noted : Noted) : Type 0 where
   pub versions : noted.versions.keys ≡ versions_of lines
   pub rows : AllZip (IsRowOf (versions_of lines)) noted.rows.items lines

@@ -10,8 +10,8 @@ use Rattle.epx_versions.specs.declared.read_line.ReadLine.{ReadLine}
 use Rattle.epx_versions.specs.declared.read_line.ReadLine.TheVariants as read
 use Rattle.epx_versions.specs.between.VersionLists.{hash_by}
 
--- the meaning of a line that was read so; there is none if its version has another hash, or if the
--- cache has no line with its number
+-- the meaning of a line of which this was read: of a repeat, that of the cached line with its
+-- number. None if there is no such line, or if the hash of a fresh version is not that of the seed
 abbrev pub meaning_in : Seed → List (Result Line Why) → ReadLine → Option (Result Line Why)
 meaning_in seed cache read.Blank = Some (Ok Blank)
 meaning_in seed cache (read.Fresh v bytes) =
@@ -19,7 +19,8 @@ meaning_in seed cache (read.Fresh v bytes) =
 meaning_in seed cache (read.Repeat number) = slice_get cache number
 meaning_in seed cache (read.Bad why) = Some (Err why)
 
--- these lines were read so
+-- `reads` has what was read of each of `lines`, in order: by this seed and cache, each has the
+-- meaning of its line
 abbrev pub AreReadSo : Seed → List (Result Line Why) → List MeaningAt → List ReadLine → Type 0
 AreReadSo seed cache lines reads =
     map (meaning_in seed cache) reads ≡ map (λ l. Some l.meaning) lines
