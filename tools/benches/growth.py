@@ -10,12 +10,13 @@ where the program is missing or fails.
 """
 
 from benches.runs import ratio
-from benches.table import rows_of_shape, words_of_table
-from command_line import built, say
+from benches.table import begin_table, print_row, rows_of_shape, words_of_table
+from command_line import built
 
 TIMES = 16
 SHAPES = ["independent", "chain", "ring", "16-deps"]
-HEAD = "| Logs | Question | Workers | Seconds | 16 times as many | Time | Memory | Bytes a byte |"
+HEADS = ("Logs", "Question", "Workers", "Seconds", "16 times as many", "Time", "Memory",
+         "Bytes a byte")  # fmt: skip
 
 
 def print_rows(given, programs, name):
@@ -25,17 +26,15 @@ def print_rows(given, programs, name):
     for ((_, question, _, workers), _, [run]), (_, size, [large]) in zip(few, many):
         times = f"{run.seconds:.3f}", f"{large.seconds:.3f}", ratio(large, run)
         memory = f"{large.peak / run.peak:.1f}", f"{large.peak / size:.1f}"
-        cells = name, question, workers, *times, *memory
-        print(f"| {' | '.join(cells)} |", flush=True)
+        print_row([name, question, workers, *times, *memory])
 
 
 def main():
     words = words_of_table(__doc__)
-    words.set_defaults(shapes=SHAPES, rounds=3)
+    words.set_defaults(shapes=SHAPES, rounds=3, logs=None)
     given = words.parse_args()
-    programs = [built(given.program)]
-    print(HEAD + "\n" + "|---" * 8 + "|")
+    programs = [[built(given.program)]]
+    begin_table(given, HEADS)
     for name in given.shapes:
         print_rows(given, programs, name)
-    say(f"{len(given.shapes) * len(given.questions) * len(given.workers)} rows")
     return 0

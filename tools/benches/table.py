@@ -1,15 +1,13 @@
-"""The rows of `times` and of `against`: one for each log, question and number of workers."""
+"""The rows of `times`, `growth` and `against`: one for each log, question and number of workers."""
 
 import os
 import pathlib
 import tempfile
 
 from benches.questions import QUESTIONS, words_of
-from benches.runs import least_runs, ratio
+from benches.runs import least_runs
 from benches.shapes import NAMES, logs_of
 from command_line import Words, count, say, some_of, workers
-
-HEAD = "| Logs | Question | MB | Workers | Seconds | Ratio | Bytes a byte |\n" + "|---" * 7 + "|"
 
 
 def words_of_table(text):
@@ -29,13 +27,13 @@ def words_of_table(text):
 
 def measure(given, programs, name, logs, folder):
     """The cells of each row of some logs: what is asked of them, and the least run of each
-    program."""
+    program, which is its path and words of its own."""
     size = sum(os.path.getsize(log) for log in logs)
     for question in given.questions:
-        paths = words_of(programs[0], question, logs, folder)
+        paths = words_of(programs[0][0], question, logs, folder)
         for workers in given.workers:
             words = [question, "--workers", workers, *paths]
-            commands = [[program, *words] for program in programs]
+            commands = [[*program, *words] for program in programs]
             runs = least_runs(commands, given.rounds, str(folder / "out"))
             yield (name, question, f"{size / 1e6:.1f}", workers), size, runs
 
@@ -57,16 +55,12 @@ def rows(given, programs):
             yield from rows_of_shape(given, programs, name, given.instances)
 
 
-def print_table(given, programs, base_of):
-    """Prints the rows, each with the ratio of its run to the one that `base_of` names. Returns how
-    many they are, and whether all programs agree."""
+def begin_table(given, heads):
+    """Prints the head of a table, and says how many rows follow."""
     number = (1 if given.logs else len(given.shapes)) * len(given.questions) * len(given.workers)
     say(f"{number} rows, each the least of {given.rounds} times")
-    print(HEAD)
-    agree = True
-    for cells, size, runs in rows(given, programs):
-        run = runs[0]
-        agree = agree and all(run.digest == other.digest for other in runs)
-        times = f"{run.seconds:.3f}", ratio(run, base_of(cells, runs)), f"{run.peak / size:.1f}"
-        print(f"| {' | '.join([*cells, *times])} |", flush=True)
-    return number, agree
+    print(f"| {' | '.join(heads)} |\n{'|---' * len(heads)}|", flush=True)
+
+
+def print_row(cells):
+    print(f"| {' | '.join(cells)} |", flush=True)

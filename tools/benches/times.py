@@ -16,21 +16,21 @@ hash under the library's hasher where it starts from its fixed number. The exit 
 the program is missing or fails.
 """
 
-from benches.table import print_table, words_of_table
-from command_line import built, say
+from benches.runs import ratio
+from benches.table import begin_table, print_row, rows, words_of_table
+from command_line import built
+
+HEADS = "Logs", "Question", "MB", "Workers", "Seconds", "Ratio", "Bytes a byte"
 
 
 def main():
     words = words_of_table(__doc__)
     words.add_argument("logs", nargs="*", metavar="LOG")
     given, firsts = words.parse_args(), {}
-    programs = [built(given.program)]
-    several = len(given.questions) > 1
-
-    def first(cells, runs):
+    begin_table(given, HEADS)
+    for cells, size, [run] in rows(given, [[built(given.program)]]):
         name, _, _, workers = cells
-        return firsts.setdefault((name if several else None, workers), runs[0])
-
-    rows, _ = print_table(given, programs, first)
-    say(f"{rows} rows")
+        first = firsts.setdefault((name if len(given.questions) > 1 else None, workers), run)
+        times = f"{run.seconds:.3f}", ratio(run, first), f"{run.peak / size:.1f}"
+        print_row([*cells, *times])
     return 0

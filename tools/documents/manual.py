@@ -34,10 +34,10 @@ DAY = "2026-12-01"
 # What a status means; those of faults have the numbers of their faults behind this.
 STATUSES = {
     "0": "an answer; or help, or the version",
-    "1": "the logs, BASE, LIST, SAID or HISTORY are refused",
+    "1": "the logs, BASE, LIST, SAID, HISTORY or STATE are refused",
     "2": "the words are refused, those too that have --exit-code and name no LOG",
     "3": "out of memory",
-    "4": "a log cannot be read, or the answer cannot be written",
+    "4": "one of these cannot be read, or the answer or the state cannot be written",
     "5": "only with --exit-code: an audit that is not covered, a check that is not lawful, a "
     "replica that said something wrong, a history that is not linear, a comparison with a line "
     "bad, differs or lacks; or, of run, order, levels, blockers and resume, an instance that "
@@ -226,7 +226,10 @@ def fault_rows():
 def fault_section():
     """The faults, as docs/CLI.md has them, and why a line is bad, as docs/FORMAT.md has it."""
     faults = [item(text, f"`{name}`, status {status}") for _, name, text, status in fault_rows()]
-    head = filled("A fault prints its line on standard error. Capital letters are decimal numbers.")
+    head = filled(
+        "A fault prints its line on standard error. Capital letters are decimal numbers. Logs "
+        "count from 0; BASE, LIST, SAID, HISTORY and STATE have the number after the last log."
+    )
     why = filled("WHY is the first of these that applies to the line, its members as in LOGS:")
     whys = items_of(table("docs/FORMAT.md", "Logs", "Fault of a line"))
     return f".SH FAULTS\n{head}{''.join(faults)}.PP\n{why}{whys}"
