@@ -33,12 +33,22 @@ pub(crate) struct TableAccess {
 
 /// The keys of the commands so far, numbered in the order in which they came, with the levels of
 /// each.
-#[derive(Debug, Drop)]
+#[derive(Debug)]
 pub struct KeyTable<'a> {
     keys: IndexSet<&'a str, Seed>,
     key_levels: Vec<KeyLevels>,
     /// The keys of the current command.
     accesses: Vec<TableAccess>,
+}
+
+impl Drop for KeyTable<'_> {
+    fn drop(self) {
+        let KeyTable {
+            keys: _,
+            key_levels: _,
+            accesses: _,
+        } = self;
+    }
 }
 
 impl<'a> Model for KeyTable<'a> {

@@ -33,13 +33,22 @@ pub(crate) struct DoubtfulTouch {
 
 /// The touches of the doubtful keys. A key is doubtful if the quick audit does not find all its
 /// touches related.
-#[derive(Drop)]
 pub(crate) struct DoubtfulTouches {
     /// The number of doubtful keys.
     pub(crate) keys: usize,
     pub(crate) touches: Vec<DoubtfulTouch>,
     /// Marks the nodes that may not be related to each node that shares a doubtful key with them.
     pub(crate) unsettled: Vec<bool>,
+}
+
+impl Drop for DoubtfulTouches {
+    fn drop(self) {
+        let DoubtfulTouches {
+            keys: _,
+            touches: _,
+            unsettled: _,
+        } = self;
+    }
 }
 
 /// Finds the doubtful keys of a map, and all their touches. Keys are distinguished by the hashes

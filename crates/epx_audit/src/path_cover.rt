@@ -29,7 +29,7 @@ const ENTRIES_MERGED: usize = 16;
 ///
 /// Each component has a row: for each path on which it reaches something, the greatest position
 /// that it reaches there. So it reaches exactly the positions up to that one.
-#[derive(Debug, Drop)]
+#[derive(Debug)]
 pub(crate) struct PathCover {
     /// What is known of each position.
     members: Vec<PathMember>,
@@ -37,6 +37,16 @@ pub(crate) struct PathCover {
     row_paths: Vec<usize>,
     /// The position of each entry.
     row_positions: Vec<usize>,
+}
+
+impl Drop for PathCover {
+    fn drop(self) {
+        let PathCover {
+            members: _,
+            row_paths: _,
+            row_positions: _,
+        } = self;
+    }
 }
 
 /// The component at a position, which all its members have in common.

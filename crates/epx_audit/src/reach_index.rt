@@ -17,7 +17,7 @@ use std::alloc::Global;
 
 /// The nodes of an order, and its chains. A chain is a run of positions in which each reaches the
 /// one before it.
-#[derive(Debug, Drop)]
+#[derive(Debug)]
 pub(crate) struct ReachIndex {
     /// The node at each position.
     pub(crate) nodes: Vec<usize>,
@@ -31,6 +31,18 @@ pub(crate) struct ReachIndex {
     pub(crate) chain_start: Vec<usize>,
     /// A cover of the nodes by paths, if they have one of few paths.
     pub(crate) cover: Option<PathCover>,
+}
+
+impl Drop for ReachIndex {
+    fn drop(self) {
+        let ReachIndex {
+            nodes: _,
+            starts: _,
+            positions: _,
+            chain_start: _,
+            cover: _,
+        } = self;
+    }
 }
 
 impl ReachIndex {

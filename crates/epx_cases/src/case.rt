@@ -108,19 +108,13 @@ impl<'a> Case<'a> {
             (Directive::Plan { workers, cut }, Some(Subject::Answer(_))) => {
                 return self.add_plan(workers, cut);
             }
-            (Directive::Base, Some(Subject::Answer(Task::Resume))) => {
-                self.case_input.begin_first();
-            }
-            (
+            (Directive::Base, Some(Subject::Answer(Task::Resume)))
+            | (
                 Directive::List,
                 Some(Subject::Answer(Task::Check | Task::CheckPrefix | Task::Replay)),
-            ) => {
-                self.case_input.begin_first();
-            }
-            (Directive::Said, Some(Subject::Answer(Task::Verify))) => {
-                self.case_input.begin_first();
-            }
-            (Directive::History, Some(Subject::Answer(Task::Linear { .. }))) => {
+            )
+            | (Directive::Said, Some(Subject::Answer(Task::Verify)))
+            | (Directive::History, Some(Subject::Answer(Task::Linear { .. }))) => {
                 self.case_input.begin_first();
             }
             (Directive::Gives(flow), Some(Subject::Answer(_))) => return Ok(

@@ -23,7 +23,6 @@ pub(crate) enum FailingDevice {
 }
 
 /// The texts of a case, and the flows of the devices.
-#[derive(Drop)]
 pub(crate) struct CaseInput {
     /// The base to resume from, or the list to check.
     pub first: Vec<u8>,
@@ -36,6 +35,21 @@ pub(crate) struct CaseInput {
     /// The device that fails after each number of bytes, and its flow without the failure.
     pub failing_device: Option<(FailingDevice, Flow)>,
     target: Target,
+}
+
+impl Drop for CaseInput {
+    fn drop(self) {
+        let CaseInput {
+            first: _,
+            first_flow: _,
+            logs: _,
+            log_flows: _,
+            sink_flow: _,
+            names_flow: _,
+            failing_device: _,
+            target: _,
+        } = self;
+    }
 }
 
 impl CaseInput {

@@ -18,7 +18,7 @@ use std::alloc::Global;
 use std::marker::Model;
 
 /// The committed instances of logs that agree. Contracts see the instances by rising Id.
-#[derive(Debug, Drop)]
+#[derive(Debug)]
 pub struct Merged {
     /// Lists that have the first line of each instance.
     lists: Vec<Vec<PlacedEntry>>,
@@ -26,6 +26,17 @@ pub struct Merged {
     rows: Vec<Row>,
     ranges: NumberRanges,
     hints: PositionHints,
+}
+
+impl Drop for Merged {
+    fn drop(self) {
+        let Merged {
+            lists: _,
+            rows: _,
+            ranges: _,
+            hints: _,
+        } = self;
+    }
 }
 
 impl Model for Merged {
@@ -80,7 +91,8 @@ impl Merged {
         let Merged {
             mut lists,
             rows,
-            ..
+            ranges: _,
+            hints: _,
         } = self;
         let mut entries = Vec::with_capacity(alloc, rows.len())?;
         for index in 0..rows.len() {

@@ -35,12 +35,21 @@ impl Block {
 ///
 /// A hint may be wrong, so the caller checks it. An instance may have none if the numbers of
 /// its replica have wide gaps: there are at most `SPARE_BLOCKS` more blocks than instances.
-#[derive(Debug, Drop)]
+#[derive(Debug)]
 pub struct PositionHints {
     blocks: Vec<Block>,
     /// For each replica, up to the greatest noted one: add this to a number's block number to get
     /// the index of its block.
     offsets: Vec<Option<u64>>,
+}
+
+impl Drop for PositionHints {
+    fn drop(self) {
+        let PositionHints {
+            blocks: _,
+            offsets: _,
+        } = self;
+    }
 }
 
 impl PositionHints {

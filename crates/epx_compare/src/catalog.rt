@@ -12,7 +12,6 @@ use epx_versions::{Noted, NotedLine};
 use std::alloc::Global;
 
 /// The committed instances by rising Id, the versions of each, and the lines of each version.
-#[derive(Drop)]
 pub(crate) struct Catalog {
     pub(crate) noted: Noted,
     pub(crate) ids: CommittedIds,
@@ -22,6 +21,18 @@ pub(crate) struct Catalog {
     pub(crate) versions: Rows,
     /// For each version, the indices of its rows.
     pub(crate) lines: Rows,
+}
+
+impl Drop for Catalog {
+    fn drop(self) {
+        let Catalog {
+            noted: _,
+            ids: _,
+            positions: _,
+            versions: _,
+            lines: _,
+        } = self;
+    }
 }
 
 /// The number of the version of each row.

@@ -102,9 +102,7 @@ fn differs_value(
         ∷ array_of (map view groups.items) ∷ [])) }
 {
     let Id { replica, number } = id;
-    let names = Value::Array(names);
-    let groups = Value::Array(groups);
-    json!(in alloc; ["differs", replica, number, names, groups])
+    json!(in alloc; ["differs", replica, number, Value::Array(names), Value::Array(groups)])
 }
 
 /// Appends a line if lines commit the instance at this position differently.

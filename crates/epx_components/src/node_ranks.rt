@@ -20,7 +20,7 @@ pub struct NodeRank {
 }
 
 /// The rank of each node. The nodes of a component share their rank.
-#[derive(Debug, Drop)]
+#[derive(Debug)]
 pub struct NodeRanks {
     /// The component of each node.
     component: Vec<usize>,
@@ -29,6 +29,17 @@ pub struct NodeRanks {
     depths: Vec<usize>,
     /// For each component, whether it reaches a missing node.
     missing: Vec<bool>,
+}
+
+impl Drop for NodeRanks {
+    fn drop(self) {
+        let NodeRanks {
+            component: _,
+            leaders: _,
+            depths: _,
+            missing: _,
+        } = self;
+    }
 }
 
 impl Model for NodeRanks {

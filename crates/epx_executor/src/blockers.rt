@@ -66,12 +66,21 @@ fn push_unseen(seen: &mut BTreeSet<Id>, found: &mut Vec<Id>, id: Id) -> Result<(
 /// Contracts see pairs of an instance and that Id.
 ///
 /// Each instance waits behind an Id that is not filed: the last one on its way from Id to Id.
-#[derive(Debug, Drop)]
+#[derive(Debug)]
 pub(crate) struct Blockers {
     /// Each instance with the Id under which it is filed.
     parents: BTreeMap<Id, Id>,
     /// For each Id what is filed under it, maybe with Ids that no longer are.
     children: BTreeMap<Id, Vec<Id>>,
+}
+
+impl Drop for Blockers {
+    fn drop(self) {
+        let Blockers {
+            parents: _,
+            children: _,
+        } = self;
+    }
 }
 
 impl Model for Blockers {

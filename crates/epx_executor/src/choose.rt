@@ -101,7 +101,6 @@ fn missing_need(
 }
 
 /// What a call looks at besides what came.
-#[derive(Drop)]
 pub(crate) struct Choice {
     /// The pending instances that may be ready now.
     pub(crate) ids: Vec<Id>,
@@ -109,6 +108,16 @@ pub(crate) struct Choice {
     pub(crate) roots: Vec<Id>,
     /// Instances that came and are blocked themselves, each with a missing one that it reaches.
     pub(crate) blocked: Vec<(Id, Id)>,
+}
+
+impl Drop for Choice {
+    fn drop(self) {
+        let Choice {
+            ids: _,
+            roots: _,
+            blocked: _,
+        } = self;
+    }
 }
 
 impl Choice {

@@ -32,7 +32,7 @@ use std::thread::Threads;
 ///
 /// Memory holds the store twice. A commit executes on the second one. Then they change places, and
 /// the other one executes the same. So an error leaves the store as it was.
-#[derive(Debug, Drop)]
+#[derive(Debug)]
 pub struct Executor {
     done: DoneRuns,
     store: Store,
@@ -43,6 +43,18 @@ pub struct Executor {
     /// Behind which instance each pending one waits. None after memory ran out: then the next
     /// commit looks at all pending ones.
     blockers: Option<Blockers>,
+}
+
+impl Drop for Executor {
+    fn drop(self) {
+        let Executor {
+            done: _,
+            store: _,
+            spare: _,
+            pending: _,
+            blockers: _,
+        } = self;
+    }
 }
 
 impl Model for Executor {

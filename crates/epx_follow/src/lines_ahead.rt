@@ -26,10 +26,15 @@ pub(crate) struct ReadLine<'a> {
 }
 
 /// Lines that were read, those that come first at the end.
-#[derive(Drop)]
 pub(crate) struct LinesAhead<'a> {
     next: Vec<ReadLine<'a>>,
     others: Vec<Vec<ReadLine<'a>>>,
+}
+
+impl Drop for LinesAhead<'_> {
+    fn drop(self) {
+        let LinesAhead { next: _, others: _ } = self;
+    }
 }
 
 impl<'a> Model for LinesAhead<'a> {

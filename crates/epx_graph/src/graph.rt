@@ -14,11 +14,17 @@ use std::marker::Model;
 /// instances by rising Id, then the missing ones by rising Id.
 ///
 /// Takes one word for each edge.
-#[derive(Debug, Drop)]
+#[derive(Debug)]
 pub struct Graph {
     ids: Vec<Id>,
     /// The edges of each committed node.
     rows: Rows,
+}
+
+impl Drop for Graph {
+    fn drop(self) {
+        let Graph { ids: _, rows: _ } = self;
+    }
 }
 
 impl Model for Graph {

@@ -24,7 +24,7 @@ pub(crate) enum IdState {
 }
 
 /// A committed map and the instances of it that are done.
-#[derive(Debug, Drop)]
+#[derive(Debug)]
 pub(crate) struct Remainder<'a> {
     merged: &'a Merged,
     done: &'a [Id],
@@ -36,6 +36,18 @@ pub(crate) struct Remainder<'a> {
     /// For each instance of the map, its position among those that are left, if it is left. Empty
     /// if nothing is done.
     positions_left: Vec<Option<usize>>,
+}
+
+impl Drop for Remainder<'_> {
+    fn drop(self) {
+        let Remainder {
+            merged: _,
+            done: _,
+            hints: _,
+            positions: _,
+            positions_left: _,
+        } = self;
+    }
 }
 
 impl<'a> Model for Remainder<'a> {

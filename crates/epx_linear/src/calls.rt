@@ -12,10 +12,16 @@ use epx_types::Id;
 use std::marker::Model;
 
 /// Calls of which no two are of one instance.
-#[derive(Debug, Drop)]
+#[derive(Debug)]
 pub struct History {
     calls: Vec<ClientCall>,
     table: CallTable,
+}
+
+impl Drop for History {
+    fn drop(self) {
+        let History { calls: _, table: _ } = self;
+    }
 }
 
 impl Model for History {

@@ -130,10 +130,18 @@ fn read_json_line(alloc: Global, bytes: &[u8]) -> Result<Line, LineFault>
 }
 
 /// Reads lines one after another and reuses its buffers.
-#[derive(Drop)]
 pub struct LineReader {
     scratch: Scratch,
     lists: ListBuffers,
+}
+
+impl Drop for LineReader {
+    fn drop(self) {
+        let LineReader {
+            scratch: _,
+            lists: _,
+        } = self;
+    }
 }
 
 impl LineReader {

@@ -23,10 +23,16 @@ struct Span {
 
 /// Lines that are gathered, so that they are read together, and their bytes. Contracts see the
 /// place and the meaning of each.
-#[derive(Debug, Drop)]
+#[derive(Debug)]
 pub struct LineBatch {
     bytes: Vec<u8>,
     spans: Vec<Span>,
+}
+
+impl Drop for LineBatch {
+    fn drop(self) {
+        let LineBatch { bytes: _, spans: _ } = self;
+    }
 }
 
 impl Model for LineBatch {

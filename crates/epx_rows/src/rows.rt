@@ -10,11 +10,20 @@ use std::marker::Model;
 
 /// Rows of numbers. Takes one word for each number and one for each row. Contracts see the list of
 /// the rows.
-#[derive(Debug, Drop)]
+#[derive(Debug)]
 pub struct Rows {
     /// The end of each row in `numbers`.
     pub(crate) ends: Vec<usize>,
     pub(crate) numbers: Vec<usize>,
+}
+
+impl Drop for Rows {
+    fn drop(self) {
+        let Rows {
+            ends: _,
+            numbers: _,
+        } = self;
+    }
 }
 
 impl Model for Rows {

@@ -175,7 +175,7 @@ BeginState-take bytes p h (suc n) =
     begin (take (suc n) (lines_of bytes)) (state_counts p) (first_parts p n)
     (say-take p n (lines_of bytes) h.said) (ordered-take p n h.ordered) (within-take p n)
 
--- no line of a state is one with which no state begins
+-- each line of a state may follow the lines before it
 pub IsFirstNotGood-never : (bytes : List ℕ) (p : StateParts) → IsState bytes p → (line : ℕ)
     → ¬ IsFirstNotGood BeginState (lines_of bytes) line
 IsFirstNotGood-never bytes p h line bad = bad.bad_with (BeginState-take bytes p h line)

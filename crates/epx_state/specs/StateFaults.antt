@@ -37,8 +37,9 @@ pub record HasReady (bytes : List ℕ) (line : ℕ) : Type 0 where
       → ¬ IsReadyIn parts e
   pub line_is : line ≡ 2 + length parts.runs + number
 
--- `line` is the number of the first line with which no state begins, or one more than the number of
--- lines if the text ends too early, or the line of the first waiting instance that is ready
+-- `line` is the number of the first line that may not follow the lines before it, or one more than
+-- the number of lines if the text ends too early, or the line of the first waiting instance that is
+-- ready
 abbrev pub IsBadState : List ℕ → ℕ → Type 0
 IsBadState bytes line = IsFirstNotGood BeginState (lines_of bytes) line
     ⊎ StateEndsEarly bytes line ⊎ HasReady bytes line

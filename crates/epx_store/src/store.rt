@@ -20,10 +20,19 @@ use std::marker::Model;
 use std::thread::Threads;
 
 /// A map from keys to signed numbers of 64 bits. Contracts see it as one finite map.
-#[derive(Debug, Drop)]
+#[derive(Debug)]
 pub struct Store {
     alloc: Global,
     shards: [KeyMap<i64>; SHARDS],
+}
+
+impl Drop for Store {
+    fn drop(self) {
+        let Store {
+            alloc: _,
+            shards: _,
+        } = self;
+    }
 }
 
 impl Model for Store {

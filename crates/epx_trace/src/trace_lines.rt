@@ -12,16 +12,6 @@ use epx_types::{Id, Memory};
 use serde_json::{Value, json};
 use std::alloc::{AllocError, Global};
 
-/// The number under a key, or null if the key is absent.
-fn stored_value(alloc: Global, stored: Option<i64>) -> Result<Value, AllocError>
-    ensures { IfOk result (λ v. view v ≡ data_of_value stored) }
-{
-    match stored {
-        Some(number) => json!(in alloc; number),
-        None => Ok(Value::Null),
-    }
-}
-
 /// The array of a write: `["write",r,i,before,after]`, with null where the key is absent.
 fn write_value(
     alloc: Global,
@@ -33,7 +23,6 @@ fn write_value(
     ensures whole { IfOk result (λ v. has_float (view v) ≡ false) }
 {
     let Id { replica, number } = id;
-    let (before, after) = (stored_value(alloc, before)?, stored_value(alloc, after)?);
     json!(in alloc; ["write", replica, number, before, after])
 }
 
@@ -43,7 +32,6 @@ fn read_value(alloc: Global, id: Id, stored: Option<i64>) -> Result<Value, Alloc
     ensures whole { IfOk result (λ v. has_float (view v) ≡ false) }
 {
     let Id { replica, number } = id;
-    let stored = stored_value(alloc, stored)?;
     json!(in alloc; ["read", replica, number, stored])
 }
 

@@ -18,12 +18,23 @@ pub const MAX_OPS: usize = 64;
 
 /// A committed instance: its Id, its sequence number, its dependencies and the operations of its
 /// command.
-#[derive(Debug, Drop)]
+#[derive(Debug)]
 pub struct Entry {
     id: Id,
     seq: u64,
     deps: SmallList<Id>,
     ops: SmallList<Op>,
+}
+
+impl Drop for Entry {
+    fn drop(self) {
+        let Entry {
+            id: _,
+            seq: _,
+            deps: _,
+            ops: _,
+        } = self;
+    }
 }
 
 impl Model for Entry {

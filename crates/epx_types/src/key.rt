@@ -18,9 +18,15 @@ pub const MAX_KEY_BYTES: usize = 64;
 pub const MAX_SHORT_KEY_BYTES: usize = 22;
 
 /// A key of the store: a text of 1 to 64 bytes. Keys are ordered by bytes.
-#[derive(Debug, Drop)]
+#[derive(Debug)]
 pub struct Key {
     text: KeyText,
+}
+
+impl Drop for Key {
+    fn drop(self) {
+        let Key { text: _ } = self;
+    }
 }
 
 impl Model for Key {

@@ -7,7 +7,7 @@ use crate::key::Key;
 use crate::memory::Memory;
 
 /// One operation on the store. If an operation aborts, the whole command is undone.
-#[derive(Debug, PartialEq, Eq, Hash, Drop)]
+#[derive(Debug, PartialEq, Eq, Hash)]
 pub enum Op {
     /// Adds the key's value to the reply, or None if the key is absent.
     Get { key: Key },
@@ -25,6 +25,23 @@ pub enum Op {
     /// Sets the target to the source's value, or removes it if the source is absent. Both may be
     /// the same key.
     Copy { source: Key, target: Key },
+}
+
+impl Drop for Op {
+    fn drop(self) {
+        match self {
+            Op::Get { key: _ } => {}
+            Op::Put { key: _, value: _ } => {}
+            Op::Del { key: _ } => {}
+            Op::Add { key: _, amount: _ } => {}
+            Op::Is { key: _, value: _ } => {}
+            Op::Floor { key: _, least: _ } => {}
+            Op::Copy {
+                source: _,
+                target: _,
+            } => {}
+        }
+    }
 }
 
 /// A key that an operation touches.

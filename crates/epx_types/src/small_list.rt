@@ -8,10 +8,19 @@ use std::alloc::Global;
 use std::slice;
 
 /// A list. A lone item is kept in the list itself; other items have an allocation.
-#[derive(Debug, Drop)]
+#[derive(Debug)]
 pub enum SmallList<T> {
     One(T),
     Many(Vec<T>),
+}
+
+impl<T: Drop> Drop for SmallList<T> {
+    fn drop(self) {
+        match self {
+            SmallList::One(_) => {}
+            SmallList::Many(_) => {}
+        }
+    }
 }
 
 impl<T: Drop> SmallList<T> {

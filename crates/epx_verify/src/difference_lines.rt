@@ -13,23 +13,13 @@ use epx_types::{Id, Key, Memory, Reply};
 use serde_json::{Value, json};
 use std::alloc::{AllocError, Global};
 
-/// The number, or null if there is none.
-fn number_or_null(alloc: Global, number: Option<i64>) -> Result<Value, AllocError>
-    ensures { IfOk result (λ v. view v ≡ data_of_value number) }
-{
-    match number {
-        Some(number) => json!(in alloc; number),
-        None => Ok(Value::Null),
-    }
-}
-
 /// The array of the values of a reply.
 fn values_array(alloc: Global, values: &[Option<i64>]) -> Result<Value, AllocError>
     ensures { IfOk result (λ v. view v ≡ array_of (map data_of_value values.now)) }
 {
     let mut items = Vec::with_capacity(alloc, values.len())?;
     for value in values {
-        items.push(number_or_null(alloc, *value)?)?;
+        items.push(Value::from(*value))?;
     }
     Ok(Value::Array(items))
 }
@@ -40,8 +30,7 @@ fn outcome_value(alloc: Global, reply: &Reply) -> Result<Value, AllocError>
 {
     match reply {
         Reply::Values(values) => {
-            let values = values_array(alloc, values.as_slice())?;
-            json!(in alloc; ["ok", values])
+            json!(in alloc; ["ok", values_array(alloc, values.as_slice())?])
         }
         Reply::Abort(index) => {
             let index = *index;
@@ -56,8 +45,8 @@ fn wrong_reply(alloc: Global, id: Id, said: &Reply, right: &Reply) -> Result<Val
         (λ v. view v ≡ array_of (wrong_reply_data id said.now right.now)) }
 {
     let Id { replica, number } = id;
-    let (said, right) = (outcome_value(alloc, said)?, outcome_value(alloc, right)?);
-    json!(in alloc; ["reply", replica, number, said, right])
+    json!(in alloc; ["reply", replica, number,
+        outcome_value(alloc, said)?, outcome_value(alloc, right)?])
 }
 
 /// The array of a wrong value: `["store",k,said,right]`, with null where the key is absent.
@@ -69,7 +58,6 @@ fn wrong_value(
 ) -> Result<Value, AllocError>
     ensures { IfOk result (λ v. view v ≡ array_of (wrong_value_data key.now said right)) }
 {
-    let (said, right) = (number_or_null(alloc, said)?, number_or_null(alloc, right)?);
     json!(in alloc; ["store", key.text(), said, right])
 }
 

@@ -18,12 +18,21 @@ use std::alloc::Global;
 use std::marker::Model;
 
 /// What a replica says of itself.
-#[derive(Debug, Drop)]
+#[derive(Debug)]
 pub struct Said {
     /// The instances and their replies, in the order in which the replica executed them.
     pub replies: Vec<(Id, Reply)>,
     /// The replica's store after them.
     pub store: Store,
+}
+
+impl Drop for Said {
+    fn drop(self) {
+        let Said {
+            replies: _,
+            store: _,
+        } = self;
+    }
 }
 
 impl Said {

@@ -28,11 +28,20 @@ pub struct NotedBadLine {
 }
 
 /// What lines say, by rising place.
-#[derive(Drop)]
 pub struct Noted {
     pub versions: Versions,
     pub rows: Vec<NotedLine>,
     pub bad: Vec<NotedBadLine>,
+}
+
+impl Drop for Noted {
+    fn drop(self) {
+        let Noted {
+            versions: _,
+            rows: _,
+            bad: _,
+        } = self;
+    }
 }
 
 impl Noted {

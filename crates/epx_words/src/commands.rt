@@ -27,10 +27,12 @@ struct Help {
     long_after: &'static str,
 }
 
-const EXAMPLE: &str = "Example:
-  epx run examples/replicas/*.jsonl";
+const EXAMPLES: &str = "Examples:
+  epx run examples/replicas/*.jsonl
+  epx order examples/replicas/*.jsonl
+  epx levels examples/replicas/*.jsonl";
 
-const LOGS_AND_EXAMPLE: &str = "A log has one instance a line, as a JSON object:
+const LOGS_AND_EXAMPLES: &str = "A log has one instance a line, as a JSON object:
 
   {\"r\":0,\"i\":0,\"seq\":1,\"deps\":[],\"ops\":[[\"put\",\"a\",5],[\"get\",\"a\"]]}
 
@@ -41,8 +43,10 @@ committed or executed; accepted and pre-accepted ones are passed over.
 The LOG - is standard input; without a LOG there are no logs. A fault counts the
 logs from 0, in the order of the words, and the lines of each from 1.
 
-Example:
-  epx run examples/replicas/*.jsonl";
+Examples:
+  epx run examples/replicas/*.jsonl
+  epx order examples/replicas/*.jsonl
+  epx levels examples/replicas/*.jsonl";
 
 /// The help texts of the program itself, around the lines of the subcommands.
 const EPX: &str = "Executes the committed instances of EPaxos from their logs";
@@ -51,7 +55,7 @@ const EPX_AFTER: &str =
     "A LOG has one instance a line; it is committed unless its status says otherwise:
   {\"r\":0,\"i\":0,\"seq\":1,\"deps\":[],\"ops\":[[\"put\",\"a\",5],[\"get\",\"a\"]]}
 The LOG - is standard input. Without a LOG epx alone and epx follow read it, and
-others read nothing. Faults count logs from 0, and their lines from 1. Example:
+others read no log. Faults count logs from 0, and their lines from 1. Example:
   epx run examples/replicas/*.jsonl";
 
 const RUN: Help = Help {
@@ -60,8 +64,8 @@ const RUN: Help = Help {
 instances are executed and how many wait, the reply of each executed one in
 execution order, each instance that must wait with the missing one that it waits
 for, and the final store.",
-    after: EXAMPLE,
-    long_after: LOGS_AND_EXAMPLE,
+    after: EXAMPLES,
+    long_after: LOGS_AND_EXAMPLES,
 };
 
 const ORDER: Help = Help {
@@ -70,8 +74,8 @@ const ORDER: Help = Help {
 of JSON, with how many instances are ready and how many wait, each ready one in
 execution order with its depth and leader, and each instance that must wait with
 the missing one that it waits for.",
-    after: EXAMPLE,
-    long_after: LOGS_AND_EXAMPLE,
+    after: EXAMPLES,
+    long_after: LOGS_AND_EXAMPLES,
 };
 
 const LEVELS: Help = Help {
@@ -80,8 +84,8 @@ const LEVELS: Help = Help {
 of JSON, with how many instances are ready and how many wait, each ready one in
 execution order with the level of its command, and each instance that must wait
 with the missing one that it waits for. Commands of one level do not conflict.",
-    after: EXAMPLE,
-    long_after: LOGS_AND_EXAMPLE,
+    after: EXAMPLES,
+    long_after: LOGS_AND_EXAMPLES,
 };
 
 const BLOCKERS: Help = Help {
@@ -294,12 +298,12 @@ faults here.",
   epx compare examples/replicas/*.jsonl",
     long_after: "What comes out is a line for each of these, in this order:
 
-  [\"log\",L,lines,bad]      a log: its committed lines, and its bad ones
-  [\"bad\",L,N,\"WHY\"]        a bad line
-  [\"differs\",r,i,[..],..]  the members in which lines of an instance differ, and
-                           where the lines are that commit the same
-  [\"lacks\",L,r,from,to]    log L lacks these instances of replica r
-  [\"missing\",r,i,count]    no log commits it, and so many instances depend on it
+  [\"log\",L,lines,bad]        a log: its committed lines, and its bad ones
+  [\"bad\",L,N,\"WHY\"]          a bad line
+  [\"differs\",r,i,[..],[..]]  the members in which lines of an instance differ,
+                             and where the lines are that commit the same
+  [\"lacks\",L,r,from,to]      log L lacks these instances of replica r
+  [\"missing\",r,i,count]      no log commits it; so many instances depend on it
 
 Example:
   epx compare examples/replicas/*.jsonl",
@@ -358,7 +362,7 @@ state that --save saved earlier, or from an earlier report, and with --save it
 saves at the end what it goes on from next time. At the end it prints which
 instances wait, and the final store.",
     after: "Examples:
-  tail -f examples/replicas/0.jsonl | epx follow --each
+  tail -n +1 -f examples/replicas/0.jsonl | epx follow --each
   epx follow --state old.state --save new.state more.jsonl",
     long_after: "The logs are read one after another. Without a LOG standard input is read, as
 with the LOG -. What comes out after each batch is a line of counts, and a line
@@ -366,7 +370,8 @@ for each instance that is executed now, in execution order:
 
   [\"came\",N,\"executed\",E,\"waiting\",W]   N of its instances are new; of all that
                                         came, E are executed now and W wait
-  [\"reply\",r,i,\"ok\",[..]]               E such lines, as in a report
+  [\"reply\",r,i,\"ok\",[..]]               E such lines, or with \"abort\",j as
+                                        in a report
 
 At the end come the last lines of a report:
 
@@ -374,7 +379,7 @@ At the end come the last lines of a report:
   [\"store\",k,v]           the value of a key in the final store
 
 Examples:
-  tail -f examples/replicas/0.jsonl | epx follow --each
+  tail -n +1 -f examples/replicas/0.jsonl | epx follow --each
   epx follow --state old.state --save new.state more.jsonl",
 };
 

@@ -21,8 +21,8 @@ same_hashed v w = (v.hash == w.hash) && same_instance v.version w.version
 -- ---- the test decides whether versions are equal, hashes included
 
 -- two versions of which the test is true are equal, and so are their hashes
-same_instance-equal : (v w : HashedVersion) → same_hashed v w ≡ true → v ≡ w
-same_instance-equal v w same =
+same_hashed-equal : (v w : HashedVersion) → same_hashed v w ≡ true → v ≡ w
+same_hashed-equal v w same =
     let hashes = first_so (v.hash == w.hash) (same_instance v.version w.version) same in
     let hash : v.hash ≡ w.hash = grind (arith, nat_tests) in
     let version = (same_instance-decides v.version w.version).0
@@ -42,7 +42,7 @@ same_itself v =
 -- the test of two versions is true exactly if they and their hashes are equal
 pub hashed_decide : (v w : HashedVersion) → Decides (same_hashed v w) (v ≡ w)
 hashed_decide v w = (
-  same_instance-equal v w,
+  same_hashed-equal v w,
   λ same. let P : HashedVersion → Type 0 = λ x. same_hashed v x ≡ true in
       subst P same (same_itself v),
 )

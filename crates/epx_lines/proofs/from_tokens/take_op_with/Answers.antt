@@ -24,7 +24,7 @@ returns-in_ok-read_signed-in-Number c =
     let op = c.op_with_number.ensures d (reads.reads ∙ ap Some (sym same)) in
     rw is (ParsesTo-found 0 (op_with_value c.args.name.now c.args.key) _ _ d _
     (ReadsValue-number c.in-Number.text.now d _
-    (ap (option_map number) c.in_ok-read_signed-in-Number.ensures)) (rw c.key.view_is at op))
+    (ap (option_map number) c.in_ok-read_signed-in-Number.ensures)) op)
 
 pub returns-in_ok-branch-in-String : goal.returns-in_ok-branch-in-String
 returns-in_ok-branch-in-String c =
@@ -37,7 +37,7 @@ returns-in_ok-branch-in-String c =
     let same : c.in_ok-branch-in-String.field-0 ≡ s = search rules in
     let op = c.op_with_target.ensures (string s) (rw same (key_of-fits s fits)) in
     rw is (ParsesTo-found 0 (op_with_value c.args.name.now c.args.key) _ _ (string s) _
-    (ReadsValue-string s _) (rw c.key.view_is at op))
+    (ReadsValue-string s _) op)
 
 pub returns-in-Null : goal.returns-in-Null
 returns-in-Null c =
