@@ -5,7 +5,9 @@ import subprocess
 
 from benches.log_files import write_logs
 
-QUESTIONS = "run order levels blockers graph resume audit check linear compare follow".split()
+QUESTIONS = (
+    "run order levels blockers graph resume audit check linear compare follow why trace".split()
+)
 
 
 def answer(program, question, logs):
@@ -14,9 +16,20 @@ def answer(program, question, logs):
     return ended.stdout.splitlines(keepends=True)
 
 
-def first_paths(program, question, logs, folder):
+def first_instance(logs):
+    """The first line of the first log."""
+    with open(logs[0]) as lines:
+        return json.loads(next(lines))
+
+
+def first_words(program, question, logs, folder):
     """What a question is given before the logs: the execution order as a list, calls of clients
-    that are linear, or as a base the report of the first half of the lines."""
+    that are linear, as a base the report of the first half of the lines, or the Id or a key of the
+    first instance."""
+    if question == "why":
+        return ["{r}.{i}".format(**first_instance(logs))]
+    if question == "trace":
+        return [first_instance(logs)["ops"][0][1]]
     if question == "check":
         rows = (json.loads(text) for text in answer(program, "order", logs))
         lines = [f"[{row[1]},{row[2]}]\n".encode() for row in rows if row[0] == "order"]
@@ -47,6 +60,7 @@ def in_batches(logs, folder):
 
 
 def words_of(program, question, logs, folder):
-    """The paths that a question is given about logs, made in a folder where they are not there."""
+    """The words that a question is given about logs; their files are made in a folder where they
+    are not there."""
     read = in_batches(logs, folder) if question == "follow" else logs
-    return [*first_paths(program, question, logs, folder), *read]
+    return [*first_words(program, question, logs, folder), *read]

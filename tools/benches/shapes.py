@@ -115,13 +115,25 @@ SHAPES = {
     "ordinary": keyed(False),
     "colliding": keyed(True),
 }
-# The logs of three replicas that repeat each other.
+# The logs of five replicas that are alike, and those of three that repeat much of each other.
+FIVE_LOGS = "five-logs"
 BANK = "bank"
-NAMES = [*SHAPES, BANK]
+NAMES = [*SHAPES, FIVE_LOGS, BANK]
+
+
+def alike(lines, folder):
+    """The paths of five logs of these lines."""
+    folders = [folder / str(replica) for replica in range(5)]
+    for one in folders:
+        one.mkdir()
+    texts = [*lines]
+    return [path for one in folders for path in write_logs(texts, one)]
 
 
 def logs_of(name, instances, folder):
     """The paths of logs of a shape, written into a folder."""
+    if name == FIVE_LOGS:
+        return alike(many_keys(instances), folder)
     if name != BANK:
         return write_logs(SHAPES[name](instances), folder)
     words = ["--instances", str(instances), "--seed", "7", "--out", folder / BANK]

@@ -30,9 +30,9 @@ def measure(given, programs, name, logs, folder):
     program, which is its path and words of its own."""
     size = sum(os.path.getsize(log) for log in logs)
     for question in given.questions:
-        paths = words_of(programs[0][0], question, logs, folder)
+        given_words = words_of(programs[0][0], question, logs, folder)
         for workers in given.workers:
-            words = [question, "--workers", workers, *paths]
+            words = [question, "--workers", workers, *given_words]
             commands = [[*program, *words] for program in programs]
             runs = least_runs(commands, given.rounds, str(folder / "out"))
             yield (name, question, f"{size / 1e6:.1f}", workers), size, runs

@@ -10,10 +10,10 @@ memory for each byte of the logs. Where several questions are asked, it is the f
 logs. Only ratios of one run count; run nothing else beside it.
 
 `check` is given the execution order, `linear` a call of each executed instance with its reply,
-`resume` the report of the first half of the lines, and `follow` the logs in batches of 100. The
-shapes `ordinary` and `colliding` differ in their Ids and keys alone: those of the second have one
-hash under the library's hasher where it starts from its fixed number. The exit status is 2 where
-the program is missing or fails.
+`resume` the report of the first half of the lines, `follow` the logs in batches of 100, `why` the
+first instance of the logs, and `trace` a key of it. The shapes `ordinary` and `colliding` differ in
+their Ids and keys alone: those of the second have one hash under the library's hasher where it
+starts from its fixed number. The exit status is 2 where the program is missing or fails.
 """
 
 from benches.runs import ratio

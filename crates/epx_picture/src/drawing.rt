@@ -13,12 +13,14 @@ use crate::cluster::{cluster_of, mark_leaders};
 use crate::marked::marked_items;
 use crate::neighbourhood::nodes_within;
 use crate::node_box::NodeBox;
-use crate::picture_writer::{write_marked, write_picture};
+use crate::picture_parts::write_picture;
+use crate::picture_writer::write_marked;
 use epx_committed::Merged;
 use epx_components::{NodeRank, NodeRanks};
 use epx_graph::Graph;
-use epx_types::{Id, Memory};
+use epx_types::{Id, Memory, Plan};
 use std::alloc::Global;
+use std::thread::Threads;
 
 /// The box of the instance at a position of the map. The node of the instance has the same number.
 fn box_of_node(
@@ -67,14 +69,20 @@ fn all_boxes(alloc: Global, merged: &Merged, graph: &Graph) -> Result<Vec<NodeBo
 /// The picture of a map: its graph as a digraph in DOT, in UTF-8. `graph` has to be the graph of
 /// the map.
 ///
-/// The time is linear in the dependencies. The only error is out of memory. Graphviz's `dot` draws
-/// all boxes of one cluster inside it.
-pub fn picture(alloc: Global, merged: &Merged, graph: &Graph) -> Result<Vec<u8>, Memory>
+/// The plan's workers write the text. The time is linear in the dependencies. The only error is out
+/// of memory. Graphviz's `dot` draws all boxes of one cluster inside it.
+pub fn picture<R: Threads + Sync>(
+    rt: &R,
+    alloc: Global,
+    merged: &Merged,
+    graph: &Graph,
+    plan: Plan,
+) -> Result<Vec<u8>, Memory>
     requires { IsGraphOf merged.now graph.now }
     ensures { IfOk result (λ text. IsPicture merged.now text.items) }
 {
     let node_boxes = all_boxes(alloc, merged, graph)?;
-    write_picture(alloc, merged, &node_boxes, graph.missing())
+    write_picture(rt, alloc, merged, &node_boxes, graph.missing(), plan)
 }
 
 /// The picture of what lies within some steps of an instance, in UTF-8. A step leads along a

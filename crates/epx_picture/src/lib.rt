@@ -8,6 +8,7 @@ pub mod laws;
 mod marked;
 mod neighbourhood;
 mod node_box;
+mod picture_parts;
 mod picture_writer;
 
 pub use drawing::{picture, picture_around};

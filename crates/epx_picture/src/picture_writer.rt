@@ -1,6 +1,7 @@
 //! The text of pictures.
 ghost use Rattle.std.specs.Prelude.{◌≡◌, ◌<◌, ◌++◌, Bool, length, map, flat_map, All, Contains};
-ghost use Rattle.std.specs.Prelude.{OnOk, IfOk, IsTrue, Some, slice_get, string_bytes};
+ghost use Rattle.std.specs.Prelude.{◌≤◌, OnOk, IfOk, IsTrue, Some, slice_get, slice_range};
+ghost use Rattle.std.specs.Prelude.{string_bytes};
 ghost use Rattle.epx_types.specs.declared.id.Id.{Id};
 ghost use Rattle.epx_types.specs.Instances.{Instance};
 ghost use Rattle.epx_graph.specs.GraphOf.{IsGraphOf};
@@ -53,7 +54,7 @@ fn write_arrows(text: &mut String, entry: &Entry) -> Result<(), AllocError>
 }
 
 /// Writes the lines of committed instances.
-fn write_boxes(text: &mut String, node_boxes: &[NodeBox]) -> Result<(), AllocError>
+pub(crate) fn write_boxes(text: &mut String, node_boxes: &[NodeBox]) -> Result<(), AllocError>
     ensures { OnOk result (string_bytes text.new
         ≡ string_bytes text.old ++ flat_map box_line node_boxes.now) }
 {
@@ -64,7 +65,7 @@ fn write_boxes(text: &mut String, node_boxes: &[NodeBox]) -> Result<(), AllocErr
 }
 
 /// Writes the lines of missing instances.
-fn write_all_missing(text: &mut String, missing: &[Id]) -> Result<(), AllocError>
+pub(crate) fn write_all_missing(text: &mut String, missing: &[Id]) -> Result<(), AllocError>
     ensures { OnOk result (string_bytes text.new
         ≡ string_bytes text.old ++ flat_map missing_box_line missing.now) }
 {
@@ -74,12 +75,19 @@ fn write_all_missing(text: &mut String, missing: &[Id]) -> Result<(), AllocError
     Ok(())
 }
 
-/// Writes the arrows from all instances of a map to their dependencies.
-fn write_all_arrows(text: &mut String, merged: &Merged) -> Result<(), AllocError>
+/// Writes the arrows from the instances of some positions to their dependencies.
+pub(crate) fn write_arrows_of(
+    text: &mut String,
+    merged: &Merged,
+    start: usize,
+    end: usize,
+) -> Result<(), AllocError>
+    requires start { start ≤ end }
+    requires end { end ≤ length merged.now }
     ensures { OnOk result (string_bytes text.new
-        ≡ string_bytes text.old ++ flat_map arrow_lines merged.now) }
+        ≡ string_bytes text.old ++ flat_map arrow_lines (slice_range merged.now start end)) }
 {
-    for position in 0..merged.len() {
+    for position in start..end {
         write_arrows(text, merged.entry_at(position))?;
     }
     Ok(())
@@ -176,19 +184,26 @@ fn write_arrows_between(
     Ok(())
 }
 
+/// The first lines of every picture.
+pub(crate) fn head(alloc: Global) -> Result<String, AllocError>
+    ensures { IfOk result (λ text. string_bytes text ≡ head_text) }
+{
+    String::from_str(alloc, "digraph dependencies {\n  node [shape=box];\n")
+}
+
 /// The text of a picture up to its arrows.
 fn write_nodes(alloc: Global, node_boxes: &[NodeBox], missing: &[Id]) -> Result<String, AllocError>
     ensures { IfOk result (λ text. string_bytes text ≡ (head_text
         ++ flat_map box_line node_boxes.now) ++ flat_map missing_box_line missing.now) }
 {
-    let mut text = String::from_str(alloc, "digraph dependencies {\n  node [shape=box];\n")?;
+    let mut text = head(alloc)?;
     write_boxes(&mut text, node_boxes)?;
     write_all_missing(&mut text, missing)?;
     Ok(text)
 }
 
-/// The text of a picture.
-pub(crate) fn write_picture(
+/// The text of a picture, which this thread writes.
+pub(crate) fn write_alone(
     alloc: Global,
     merged: &Merged,
     node_boxes: &[NodeBox],
@@ -198,7 +213,7 @@ pub(crate) fn write_picture(
         (λ text. text.items ≡ picture_text merged.now node_boxes.now missing.now) }
 {
     let mut text = write_nodes(alloc, node_boxes, missing)?;
-    write_all_arrows(&mut text, merged)?;
+    write_arrows_of(&mut text, merged, 0, merged.len())?;
     text.push_str("}\n")?;
     Ok(text.into_bytes())
 }

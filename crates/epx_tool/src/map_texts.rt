@@ -33,7 +33,7 @@ use epx_txn::Store;
 use epx_types::{Id, Memory, Plan};
 use epx_verify::replay_text;
 use epx_views::{append_waiting, audit_line, begin_report, level_report, order_report};
-use epx_why::{path_text, why_text};
+use epx_why::{path_text, ready_text, unready_text};
 use std::alloc::Global;
 use std::random::RandomSource;
 use std::thread::Threads;
@@ -173,8 +173,11 @@ fn why_of<R: Threads + Sync>(
     ensures { IfOk result (λ text. IsWhyText merged.now id text.items) }
 {
     let graph = build(rt, alloc, merged, plan)?;
+    if let Some(text) = unready_text(alloc, &graph, id)? {
+        return Ok(text);
+    }
     let order = order(rt, alloc, merged, &graph)?;
-    why_text(alloc, &graph, &order, id)
+    ready_text(alloc, &order, id)
 }
 
 /// The text of the trace of a key.
@@ -221,7 +224,7 @@ pub(crate) fn text_of<R: Threads + RandomSource + Sync>(
         MapQuestion::AuditAll => audit_all_of(rt, alloc, merged, plan),
         MapQuestion::Graph => {
             let graph = build(rt, alloc, merged, plan)?;
-            Ok(Answer::new(picture(alloc, merged, &graph)?, false))
+            Ok(Answer::new(picture(rt, alloc, merged, &graph, plan)?, false))
         }
         MapQuestion::Around { id, steps } => {
             let graph = build(rt, alloc, merged, plan)?;

@@ -12,4 +12,4 @@ mod why_lines;
 
 pub use need::Need;
 pub use path::path_text;
-pub use why::why_text;
+pub use why::{ready_text, unready_text, why_text};

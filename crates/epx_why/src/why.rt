@@ -1,10 +1,10 @@
 //! Why an instance is executed where it is, or why it is not executed.
 ghost use Rattle.std.specs.Prelude.{◌≡◌, ◌<◌, ◌≤◌, ◌++◌, List, length, flat_map, slice_get};
-ghost use Rattle.std.specs.Prelude.{Contains};
-ghost use Rattle.std.specs.Prelude.{IfOk, Some, codes};
+ghost use Rattle.std.specs.Prelude.{Contains, IfOk, MatchOption, Some, codes};
 ghost use Rattle.epx_types.specs.declared.id.Id.{Id};
 ghost use Rattle.epx_types.specs.Instances.{Instance};
-ghost use Rattle.epx_types.specs.ExecutionOrder.{IsExecutionOrder};
+ghost use Rattle.epx_types.specs.ExecutionOrder.{ranked_ids, IsExecutionOrder};
+ghost use Rattle.epx_types.specs.Readiness.{IsReady};
 ghost use Rattle.epx_graph.specs.GraphOf.{IsGraphOf};
 ghost use Rattle.epx_graph.specs.Graphs.{IsGraph};
 ghost use Rattle.epx_report.specs.ReportLines.{waiting_line};
@@ -81,6 +81,39 @@ fn missing_text(alloc: Global, id: Id, needing: &[Need]) -> Result<Vec<u8>, Memo
     Ok(text)
 }
 
+/// The text about an instance that is not ready: which missing instances it waits for; or, of one
+/// that no log commits, which ones wait for it. There is none about a ready one.
+///
+/// Takes time linear in instances and dependencies. The only error is out of memory.
+pub fn unready_text(alloc: Global, graph: &Graph, id: Id) -> Result<Option<Vec<u8>>, Memory>
+    requires { IsGraph graph.now }
+    ensures { IfOk result (λ found. (m : List Instance) → IsGraphOf m graph.now
+        → MatchOption found (IsReady m id) (λ text. IsWhyText m id text.items)) }
+{
+    let Some(node) = graph.node(id) else {
+        return Ok(Some(missing_text(alloc, id, &[])?));
+    };
+    if !graph.is_committed(node) {
+        return Ok(Some(missing_text(alloc, id, &find_needing(alloc, graph, node)?)?));
+    }
+    let needs = needs_of(alloc, graph, node)?;
+    match needs.first() {
+        Some(first) => Ok(Some(waiting_text(alloc, id, first.id, &needs)?)),
+        None => Ok(None),
+    }
+}
+
+/// The text about a ready instance: its position in the execution order, its depth and its leader.
+///
+/// Takes time linear in the executed instances. The only error is out of memory.
+pub fn ready_text(alloc: Global, order: &OrderList, id: Id) -> Result<Vec<u8>, Memory>
+    requires { Contains (ranked_ids order.now) id }
+    ensures { IfOk result (λ text. (m : List Instance) → IsExecutionOrder m order.now
+        → IsWhyText m id text.items) }
+{
+    ready_line(alloc, order, position_of(order.ids(), id))
+}
+
 /// The text that says why an instance is executed at its position of the execution order, or which
 /// missing instances it waits for; or, of an instance that no log commits, which ones wait for it.
 /// `graph` and `order` have to be those of one map.
@@ -91,15 +124,8 @@ pub fn why_text(alloc: Global, graph: &Graph, order: &OrderList, id: Id) -> Resu
     ensures { IfOk result (λ text. (m : List Instance) → IsGraphOf m graph.now
         → IsExecutionOrder m order.now → IsWhyText m id text.items) }
 {
-    let Some(node) = graph.node(id) else {
-        return missing_text(alloc, id, &[]);
-    };
-    if !graph.is_committed(node) {
-        return missing_text(alloc, id, &find_needing(alloc, graph, node)?);
-    }
-    let needs = needs_of(alloc, graph, node)?;
-    match needs.first() {
-        Some(first) => waiting_text(alloc, id, first.id, &needs),
-        None => ready_line(alloc, order, position_of(order.ids(), id)),
+    match unready_text(alloc, graph, id)? {
+        Some(text) => Ok(text),
+        None => ready_text(alloc, order, id),
     }
 }
