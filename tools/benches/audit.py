@@ -11,6 +11,12 @@ their ratios to that of `order`. Only ratios of one run count; run nothing else 
 answer of `audit` is compared with the one that follows from how the log was made, and `audit --all`
 has to say covered where it does; an audit that was ended has no answer. The exit status is 1 where
 an answer is wrong, and 2 where the program is missing or fails.
+
+Of `cold-keys` two keys of all are alike, and of `late-free` those of the last two instances.
+`late-pair` is a chain of pairs that share a key, but for its last two; `late-dense` is the same
+with 64 dependencies each. Of `all-conflict` all write one key and are unrelated, and `late-hot` is
+a chain of one key, but for its last two. `far-pairs` are two covered chains that meet half a log
+later, and `far-gap` is the same with one pair at the end.
 """
 
 import json

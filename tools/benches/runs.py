@@ -1,14 +1,16 @@
 """Runs of a program: their time, their memory and what they print, and the least of several."""
 
-import contextlib
 import dataclasses
 import hashlib
 import os
+import pathlib
 import signal
-import threading
-import time
+import subprocess
+import sys
 
 from command_line import stop
+
+ONE_RUN = str(pathlib.Path(__file__).with_name("one_run.py"))
 
 
 @dataclasses.dataclass
@@ -21,35 +23,19 @@ class Run:
     first_line: bytes
 
 
-def kill(child):
-    """Ends a process, which may have ended."""
-    with contextlib.suppress(ProcessLookupError):
-        os.kill(child, signal.SIGKILL)
-
-
 def run_once(words, out, limit=None):
     """A run, whose output goes to the file `out`. None where it took longer than the limit in
     seconds."""
-    start = time.perf_counter()
-    flags = os.O_WRONLY | os.O_CREAT | os.O_TRUNC
-    actions = [(os.POSIX_SPAWN_OPEN, 1, out, flags, 0o600)]
-    child = os.posix_spawnp(words[0], words, os.environ, file_actions=actions)
-    # (a wait with a limit looks only now and then)
-    timer = threading.Timer(limit or 0, kill, (child,))
-    if limit:
-        timer.start()
+    helper = [sys.executable, "-I", "-S", ONE_RUN, out, str(limit or 0), *words]
+    process = subprocess.Popen(helper, stdout=subprocess.PIPE, start_new_session=True)
     try:
-        _, status, usage = os.wait4(child, 0)
+        seconds, peak, status = process.communicate()[0].split()
     except BaseException:
-        kill(child)
-        # a signal may come when the wait is over
-        with contextlib.suppress(ChildProcessError):
-            os.waitpid(child, 0)
+        # the helper and the program
+        os.killpg(process.pid, signal.SIGKILL)
+        process.wait()
         raise
-    finally:
-        timer.cancel()
-    seconds = time.perf_counter() - start
-    status = os.waitstatus_to_exitcode(status)
+    seconds, status = float(seconds), int(status)
     if limit and status == -signal.SIGKILL and seconds >= limit:
         return None
     if status != 0:
@@ -57,7 +43,7 @@ def run_once(words, out, limit=None):
     with open(out, "rb") as text:
         digest = hashlib.file_digest(text, "sha256").digest()
         text.seek(0)
-        return Run(seconds, usage.ru_maxrss * 1024, digest, text.readline())
+        return Run(seconds, int(peak), digest, text.readline())
 
 
 def least_of(runs):

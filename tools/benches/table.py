@@ -27,15 +27,19 @@ def words_of_table(text):
 
 def measure(given, programs, name, logs, folder):
     """The cells of each row of some logs: what is asked of them, and the least run of each
-    program, which is its path and words of its own."""
+    program, which is its path and words of its own. The questions are asked alternately."""
     size = sum(os.path.getsize(log) for log in logs)
-    for question in given.questions:
-        given_words = words_of(programs[0][0], question, logs, folder)
-        for workers in given.workers:
-            words = [question, "--workers", workers, *given_words]
-            commands = [[*program, *words] for program in programs]
-            runs = least_runs(commands, given.rounds, str(folder / "out"))
-            yield (name, question, f"{size / 1e6:.1f}", workers), size, runs
+    asked = [[it, *words_of(programs[0][0], it, logs, folder)] for it in given.questions]
+    for workers in given.workers:
+        commands = [
+            [*program, question, "--workers", workers, *words]
+            for question, *words in asked
+            for program in programs
+        ]
+        runs = iter(least_runs(commands, given.rounds, str(folder / "out")))
+        for question in given.questions:
+            cells = name, question, f"{size / 1e6:.1f}", workers
+            yield cells, size, [next(runs) for _ in programs]
 
 
 def rows_of_shape(given, programs, name, instances):

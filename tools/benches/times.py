@@ -7,7 +7,7 @@
 
 A row has the least time of its rounds, its ratio to the first row of as many workers, and the peak
 memory for each byte of the logs. Where several questions are asked, it is the first row of the same
-logs. Only ratios of one run count; run nothing else beside it.
+logs, and they are asked alternately. Only ratios of one run count; run nothing else beside it.
 
 `check` is given the execution order, `linear` a call of each executed instance with its reply,
 `resume` the report of the first half of the lines, `follow` the logs in batches of 100, `why` the
