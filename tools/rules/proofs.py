@@ -5,7 +5,7 @@ import re
 # The most files that a folder of proofs has, the node file of a module aside.
 MANY = 40
 
-FLAWS = [("crates/epx_ranking/proofs/Moving.antt", "pub moved : ℕ")]
+FLAWS = [("crates/epx_ranking/proofs/Moving.antt", "pub Moved-far : ℕ")]
 
 
 def find(top):

@@ -4,7 +4,7 @@ import re
 
 FLAWS = [
     ("docs/results/unlisted.md", "# unlisted"),
-    ("docs/results/README.md", "[gone](gone.md)"),
+    ("docs/results/README.md", "a page (gone.md)"),
 ]
 
 
